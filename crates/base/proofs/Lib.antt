@@ -1,0 +1,2 @@
+-- Laws that every crate shares.
+pub mod Bools

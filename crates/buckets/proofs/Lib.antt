@@ -1,0 +1,2 @@
+-- Laws of the bucket index.
+pub mod ChainLaws

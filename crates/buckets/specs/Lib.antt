@@ -1,0 +1,2 @@
+-- What the contracts over a bucket index cite.
+pub mod Chain

@@ -1,0 +1,4 @@
+pub mod WalkLaws
+pub mod MemoLaws
+pub mod TurnLaws
+pub mod TopLaws

@@ -1,0 +1,123 @@
+-- The laws of the walk: its entries grow, a loop passes over what is no candidate, and a memo's words keep its keys. Assumes nothing.
+use mathlib.Core.Path.{_≡_, refl, sym, ap, _∙_, subst}
+use mathlib.Core.Bool.{Bool, true, false, _||_}
+use mathlib.Core.List.{List, [], _∷_}
+use Prim.Native.Nat.{ℕ, zero, suc, _+_, _*_, _%_, _<_, _≤_}
+use native.Mathlib.Nat.{le-refl, mod-lt}
+use native.Mathlib.Omega.{arith}
+use native.Mathlib.Decide.{ℕ-discrete}
+use lib.Dec.{eqb}
+use lib.ListN.{length, getD, set, length-set}
+use lib.Seq.{getD-set-same, getD-set-other}
+use borrow.Author.Tests.{eq-eqb, ne-eqb}
+use Rattle.itemset.specs.Items.{without}
+use Rattle.base.proofs.Bools.{by-test}
+use Rattle.zdd.specs.Table.{filter}
+use Rattle.exact_cover.specs.Cover.{row, fits, down, candidates}
+use Rattle.exact_cover.specs.Steps.{Walk, enter, store, known, each, search}
+use Rattle.exact_cover.proofs.Fuel.{search-known, search-new}
+use Rattle.exact_cover.proofs.Walks.{shift, search-shift, search-length}
+use Rattle.exact_cover.proofs.Loops.{each-take, each-pass}
+use Rattle.compile.specs.State.{Is, tried}
+
+search-more : (S : List ℕ) (P A : ℕ) (w : Walk) → w .entered ≤ search S P A w .entered
+search-more S P A w =
+    let z : w .entered ≡ w .entered + 0 = omega arith in
+    let w0 : Walk = record { entered = 0; memo = w .memo } in
+    let e : search S P A w ≡ shift (w .entered) (search S P A w0) =
+    ap (search S P A) (λ i. record { entered = z i; memo = w .memo }) ∙ search-shift S P A (w .entered) w0 in
+    omega (arith, ap (λ (v : Walk). v .entered) e)
+
+each-more : (f : ℕ → Walk → Walk) → ((p : ℕ) (v : Walk) → v .entered ≤ f p v .entered) → (ps : List ℕ) (w : Walk) → w .entered ≤ each f ps w .entered
+unfolding each
+each-more f h [] w = le-refl (w .entered)
+each-more f h (p ∷ ps) w = omega (arith, h p w, each-more f h ps (f p w))
+
+-- Search of what p leaves of A
+abbrev pub sub : List ℕ → ℕ → ℕ → ℕ → Walk → Walk
+sub S P A p = search S P (without A (row S p))
+
+module _ (S : List ℕ) (P A : ℕ) where
+  sub-more : (p : ℕ) (v : Walk) → v .entered ≤ sub S P A p v .entered
+  sub-more p v = search-more S P (without A (row S p)) v
+
+  -- Search counts its own entry
+  pub search-enters : (w : Walk) → w .entered < search S P A w .entered
+  search-enters w =
+      by-test (known P A w)
+      (λ t. omega (arith, ap (λ (v : Walk). v .entered) (search-known S P A w t)))
+      (λ t. omega (arith, ap (λ (v : Walk). v .entered) (search-new S P A w t), each-more (sub S P A) sub-more (candidates S A) (enter w)))
+
+  -- what the packages below n leave to walk
+  abbrev pub onward : ℕ → Walk → Walk
+  onward n w = each (sub S P A) (filter (fits S A) (down n)) w
+
+  pub onward-skip : (d n m : ℕ) (w : Walk) → m ≡ d + n → ((q : ℕ) → n ≤ q → q < m → fits S A q ≡ false) → onward m w ≡ onward n w
+  onward-skip zero n m w e h = let z : m ≡ n = omega arith in ap (λ (k : ℕ). onward k w) z
+  onward-skip (suc d) n m w e h =
+      onward-skip d (suc n) m w (omega arith) (λ q a b. h q (omega arith) b)
+      ∙ each-pass (fits S A) n (sub S P A) w (h n (le-refl n) (omega arith))
+
+  pub onward-take : (n : ℕ) (w : Walk) → fits S A n ≡ true → onward (suc n) w ≡ onward n (sub S P A n w)
+  onward-take n w e = each-take (fits S A) n (sub S P A) w e
+
+  pub onward-pass : (n : ℕ) (w : Walk) → fits S A n ≡ false → onward (suc n) w ≡ onward n w
+  onward-pass n w e = each-pass (fits S A) n (sub S P A) w e
+
+  pub onward-more : (n : ℕ) (w : Walk) → w .entered ≤ onward n w .entered
+  onward-more n w = each-more (sub S P A) sub-more (filter (fits S A) (down n)) w
+
+  pub onward-end : (w : Walk) → onward 0 w ≡ w
+  unfolding each filter down
+  onward-end w = refl
+
+  pub onward-all : (w : Walk) → tried S P A w ≡ store P A (onward (length S) w)
+  unfolding candidates
+  onward-all w = refl
+
+-- ---- the memo's words
+
+module _ {P : ℕ} {w : Walk} {n : ℕ} {memo : List ℕ} (s : Is P w n memo) where
+  pub is-enter : (m : ℕ) → m ≡ n + 1 → Is P (enter w) m memo
+  is-enter m e = record { entries = omega (arith, s .entries); places = s .places; keys = s .keys }
+
+  module _ (pos : 0 < P) (A : ℕ) where
+    -- the memo's answer to A, as the word says
+    pub is-known : getD memo (2 * (A % P)) 0 ≡ A → known P A w ≡ true
+    is-known e = go (eqb A 0) (eq-eqb (getD (w .memo) (A % P) 0) A (s .keys (A % P) (mod-lt A pos) ∙ e))
+      where
+        go : (b : Bool) → eqb (getD (w .memo) (A % P) 0) A ≡ true → b || eqb (getD (w .memo) (A % P) 0) A ≡ true
+        go true h = refl
+        go false h = h
+
+    pub is-new : 0 < A → (getD memo (2 * (A % P)) 0 ≡ A → ⊥) → known P A w ≡ false
+    is-new h f =
+        ap (λ (b : Bool). b || eqb (getD (w .memo) (A % P) 0) A) (ne-eqb A 0 (λ e. omega arith))
+        ∙ ne-eqb (getD (w .memo) (A % P) 0) A (λ e. f (sym (s .keys (A % P) (mod-lt A pos)) ∙ e))
+
+    pub is-store : (a j : ℕ) → 2 * P ≤ length memo → j ≡ A % P → Is P (store P A w) n (set (set memo (2 * j) A) (2 * j + 1) a)
+    is-store a j long e = record {
+      entries = s .entries;
+      places = length-set (w .memo) (A % P) A ∙ s .places;
+      keys = λ i h. at i h (ℕ-discrete i j);
+    }
+      where
+        lt : j < P
+        lt = omega (arith, mod-lt A pos)
+
+        at : (i : ℕ) → i < P → Dec (i ≡ j) → getD (set (w .memo) (A % P) A) i 0 ≡ getD (set (set memo (2 * j) A) (2 * j + 1) a) (2 * i) 0
+        at i h (yes q) =
+            let z : i ≡ A % P = q ∙ e in
+            ap (λ (k : ℕ). getD (set (w .memo) (A % P) A) k 0) z
+            ∙ getD-set-same (w .memo) (A % P) A 0 (omega (arith, s .places))
+            ∙ sym (getD-set-same memo (2 * j) A 0 (omega arith))
+            ∙ sym (getD-set-other (set memo (2 * j) A) (2 * j + 1) (2 * j) a 0 (λ y. omega arith))
+            ∙ ap (λ (k : ℕ). getD (set (set memo (2 * j) A) (2 * j + 1) a) (2 * k) 0) (sym q)
+        at i h (no f) =
+            getD-set-other (w .memo) (A % P) i A 0 (λ y. f (y ∙ sym e))
+            ∙ s .keys i h
+            ∙ sym (getD-set-other memo (2 * j) (2 * i) A 0 (λ y. f (omega arith)))
+            ∙ sym (getD-set-other (set memo (2 * j) A) (2 * j + 1) (2 * i) a 0 (λ y. omega arith))
+
+pub known-empty : (P A : ℕ) (w : Walk) → A ≡ 0 → known P A w ≡ true
+known-empty P A w e = ap (λ (b : Bool). b || eqb (getD (w .memo) (A % P) 0) A) (eq-eqb A 0 e)

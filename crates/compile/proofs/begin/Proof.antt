@@ -1,0 +1,33 @@
+use mathlib.Core.Path.{refl}
+use native.Mathlib.Omega.{arith}
+use native.Mathlib.Nat.{mod-lt}
+use Prim.Native.Nat.{_-_}
+use Rattle.compile.proofs.TurnLaws.{search-over, search-empty, search-tried}
+use Rattle.compile.proofs.begin.Statement.{statement}
+use Rattle.compile.proofs.begin.Tie as tie
+
+returns : tie.Need-returns
+returns c = search-over (c .before .before .before .before .pre .0) (c .before .before .before .before .pre .1 .0) (c .before .before .before .before .args .items) (omega (arith, c .if1 .taken)) _ _
+
+returns-2 : tie.Need-returns-2
+returns-2 c = search-empty (c .before .before .before .before .before .pre .0) (c .before .before .before .before .before .pre .1 .0) (c .before .before .before .before .before .args .items) _ (omega (arith, c .before .if1 .left)) refl (c .if2 .taken)
+
+place-requires : tie.Need-place-requires
+place-requires c κs = c .before .before .before .before .before .pre .1 .0 .held .some
+
+trial-requires : tie.Need-trial-requires
+trial-requires c κs = (c .before .before .before .before .before .before .before .before .before .before .pre .0, (c .before .before .before .before .before .before .before .before .before .before .pre .1 .0, (omega (arith, c .before .before .before .before .before .before .if1 .left), (omega (arith, c .before .before .before .before .before .if2 .left), c .before .before .before .before .place .ensures))))
+
+same-length : tie.Need-same-length
+same-length c = c .before .before .before .before .trial .ensures .grown .long
+
+same-length-2 : tie.Need-same-length-2
+same-length-2 c = c .before .before .before .before .trial .ensures .same
+
+returns-3 : tie.Need-returns-3
+returns-3 c = search-tried (c .before .before .before .before .before .before .before .before .before .before .before .before .before .before .before .pre .0) (c .before .before .before .before .before .before .before .before .before .before .before .before .before .before .before .pre .1 .0) (c .before .before .before .before .before .before .before .before .before .before .before .before .before .before .before .args .items) (c .before .before .before .before .before .before .before .before .before .place .result) _ refl (omega (arith, c .before .before .before .before .before .before .before .before .before .before .if2 .left)) (c .before .before .before .before .before .before .before .before .before .place .ensures) (λ e. omega (arith, e, c .before .before .before .before .before .before .before .before .before .before .if2 .left, c .before .before .before .before .before .before .before .before .before .before .before .before .before .before .before .pre .1 .1 (c .before .before .before .before .before .before .before .before .before .place .result) (omega (arith, c .before .before .before .before .before .before .before .before .before .place .ensures, mod-lt (c .before .before .before .before .before .before .before .before .before .before .before .before .before .before .before .args .items) (c .before .before .before .before .before .before .before .before .before .before .before .before .before .before .before .pre .1 .0 .held .some))))) (c .before .before .before .before .trial .ensures)
+
+pub begin-spec : {M : Type 1} → statement M
+begin-spec =
+    tie.close
+    (tie.spec returns returns-2 place-requires trial-requires same-length same-length-2 returns-3)

@@ -1,0 +1,336 @@
+// The exact covers of an item set as a diagram in the node table: search and trial, the memo and the step limit.
+ghost use mathlib.Core.Path.{_≡_};
+ghost use mathlib.Core.Bool.{true, false};
+ghost use Prim.Native.Nat.{ℕ, suc, _+_, _-_, _*_, _/_, _%_, _<_, _≤_};
+ghost use lib.ListN.{length, getD, set};
+ghost use Rattle.compile.specs.State.{Packs, Ready, Searched, Tried, Blank, Cleared, Unkeyed, Covered};
+ghost use Rattle.zdd.specs.Table.{Sound};
+ghost use Rattle.exact_cover.specs.Cover.{Rows, keysOf};
+ghost use Rattle.table.specs.State.{Indexed};
+
+// A search's state: the number of its answer, the entries so far, whether the table had no room, whether the limit was met.
+pub struct Run {
+    pub answer: u32,
+    pub steps: u64,
+    pub full: bool,
+    pub over: bool,
+}
+
+// The word of a set's place in a memo of the given places.
+fn place(items: u64, places: usize) -> usize
+    requires { ⌜ 0 < places ⌝ }
+    ensures { λ r. ⌜ r ≡ items % places ⌝ }
+{
+    (items % (places as u64)) as usize
+}
+
+// The covers of the items.
+fn search(
+    packs: &[u64],
+    first: &[u32; 65],
+    after: &[u32; 513],
+    t: &mut [u32],
+    heads: &mut [u32; 65536],
+    next: &mut [u32; 65536],
+    memo: &mut [u64],
+    places: usize,
+    items: u64,
+    limit: u64,
+    start: Run,
+) -> Run
+    requires { ⌜ Packs (now packs) (now first) (now after) ⌝ }
+    requires { ⌜ Ready (now packs) places (now t) (now heads) (now next) (now memo) (start .full) ⌝ }
+    requires { ⌜ start .steps ≤ limit ⌝ }
+    ensures { λ r. ⌜ Searched (now (packs .entry)) places items limit (now (t .entry)) (now (memo .entry)) (start .steps) (start .full) (now (t .exit)) (now (heads .exit)) (now (next .exit)) (now (memo .exit)) (r .answer) (r .steps) (r .full) (r .over) ⌝ }
+{
+    let steps = start.steps;
+    let full = start.full;
+    if limit <= steps {
+        return Run {
+            answer: 0,
+            steps: steps,
+            full: full,
+            over: true,
+        };
+    }
+    if items == 0 {
+        return Run {
+            answer: 1,
+            steps: steps + 1,
+            full: full,
+            over: false,
+        };
+    }
+    let at = place(items, places);
+    if memo[2 * at] == items {
+        return Run {
+            answer: memo[2 * at + 1] as u32,
+            steps: steps + 1,
+            full: full,
+            over: false,
+        };
+    }
+    trial(
+        packs,
+        first,
+        after,
+        t,
+        heads,
+        next,
+        memo,
+        places,
+        at,
+        items,
+        limit,
+        Run {
+            answer: 0,
+            steps: steps + 1,
+            full: full,
+            over: false,
+        },
+    )
+}
+
+// The covers of items that are not known, entered already: each package is tried, and the answer goes into the memo, at its place.
+fn trial(
+    packs: &[u64],
+    first: &[u32; 65],
+    after: &[u32; 513],
+    t: &mut [u32],
+    heads: &mut [u32; 65536],
+    next: &mut [u32; 65536],
+    memo: &mut [u64],
+    places: usize,
+    at: usize,
+    items: u64,
+    limit: u64,
+    start: Run,
+) -> Run
+    requires { ⌜ Packs (now packs) (now first) (now after) ⌝ }
+    requires { ⌜ Ready (now packs) places (now t) (now heads) (now next) (now memo) (start .full) ⌝ }
+    requires { ⌜ start .steps ≤ limit ⌝ }
+    requires { ⌜ (0 < items) × (at ≡ items % places) ⌝ }
+    ensures { λ r. ⌜ Tried (now (packs .entry)) places items limit (now (t .entry)) (now (memo .entry)) (start .steps) (start .full) (now (t .exit)) (now (heads .exit)) (now (next .exit)) (now (memo .exit)) (r .answer) (r .steps) (r .full) (r .over) ⌝ }
+{
+    let low = base::wide(itemset::lowest(items));
+    let mut p = first[low];
+    let mut run = Run {
+        answer: 0,
+        steps: start.steps,
+        full: start.full,
+        over: false,
+    };
+    while p != 0 {
+        let label = p - 1;
+        let k = base::wide(label);
+        let pack = packs[k];
+        let later = after[k + 1];
+        if !itemset::inside(pack, items) {
+            p = later;
+            continue;
+        }
+        let rest = itemset::without(items, pack);
+        let x = run.answer;
+        let r = search(
+            packs,
+            first,
+            after,
+            t,
+            heads,
+            next,
+            memo,
+            places,
+            rest,
+            limit,
+            run,
+        );
+        if r.over {
+            return r;
+        }
+        let y = r.answer;
+        if y == 0 {
+            run = Run {
+                answer: x,
+                steps: r.steps,
+                full: r.full,
+                over: false,
+            };
+            p = later;
+            continue;
+        }
+        if r.full {
+            run = Run {
+                answer: x,
+                steps: r.steps,
+                full: true,
+                over: false,
+            };
+            p = later;
+            continue;
+        }
+        let z = table::unique(t, heads, next, label, x, y);
+        run = Run {
+            answer: z,
+            steps: r.steps,
+            full: z == 0,
+            over: false,
+        };
+        p = later;
+    }
+    memo[2 * at] = items;
+    memo[2 * at + 1] = run.answer as u64;
+    run
+}
+
+// The package index by lowest item.
+fn enlist(packs: &[u64], first: &mut [u32; 65], after: &mut [u32; 513])
+    requires { ⌜ Rows (now packs) ⌝ }
+    requires { ⌜ Blank (now first) (now after) ⌝ }
+    ensures { λ _. ⌜ Packs (now (packs .entry)) (now (first .exit)) (now (after .exit)) ⌝ }
+{
+    let mut k: usize = 0;
+    while k < packs.len() {
+        let low = base::wide(itemset::lowest(packs[k]));
+        buckets::insert(first, after, low, (k + 1) as u32);
+        k += 1;
+    }
+}
+
+// The covers of the items, with a clear memo. (It calls trial, so that search has one call and goes into trial.)
+fn begin(
+    packs: &[u64],
+    first: &[u32; 65],
+    after: &[u32; 513],
+    t: &mut [u32],
+    heads: &mut [u32; 65536],
+    next: &mut [u32; 65536],
+    memo: &mut [u64],
+    places: usize,
+    items: u64,
+    limit: u64,
+) -> Run
+    requires { ⌜ Packs (now packs) (now first) (now after) ⌝ }
+    requires { ⌜ Ready (now packs) places (now t) (now heads) (now next) (now memo) false ⌝ }
+    requires { ⌜ Unkeyed places (now memo) ⌝ }
+    ensures { λ r. ⌜ Searched (now (packs .entry)) places items limit (now (t .entry)) (now (memo .entry)) 0 false (now (t .exit)) (now (heads .exit)) (now (next .exit)) (now (memo .exit)) (r .answer) (r .steps) (r .full) (r .over) ⌝ }
+{
+    if limit == 0 {
+        return Run {
+            answer: 0,
+            steps: 0,
+            full: false,
+            over: true,
+        };
+    }
+    if items == 0 {
+        return Run {
+            answer: 1,
+            steps: 1,
+            full: false,
+            over: false,
+        };
+    }
+    let at = place(items, places);
+    trial(
+        packs,
+        first,
+        after,
+        t,
+        heads,
+        next,
+        memo,
+        places,
+        at,
+        items,
+        limit,
+        Run {
+            answer: 0,
+            steps: 1,
+            full: false,
+            over: false,
+        },
+    )
+}
+
+// Every word of the memo is 0.
+fn clear(memo: &mut [u64])
+    ensures { λ _. ⌜ Cleared (now (memo .entry)) (now (memo .exit)) ⌝ }
+{
+    let mut j: usize = 0;
+    while j < memo.len() {
+        memo[j] = 0;
+        j += 1;
+    }
+}
+
+// What cover answers: over where the limit was met, else full where the table had no room; else the answer, the steps and the nodes made.
+pub struct Answer {
+    pub answer: u32,
+    pub steps: u64,
+    pub made: u32,
+    pub full: bool,
+    pub over: bool,
+}
+
+// The covers of the items, as a number of the table.
+pub fn cover(
+    packs: &[u64],
+    t: &mut [u32],
+    heads: &mut [u32; 65536],
+    next: &mut [u32; 65536],
+    memo: &mut [u64],
+    items: u64,
+    limit: u64,
+) -> Answer
+    requires { ⌜ Rows (now packs) ⌝ }
+    requires { ⌜ Sound (keysOf (now packs)) (now t) ⌝ }
+    requires { ⌜ Indexed (now t) (now heads) (now next) ⌝ }
+    requires { ⌜ 2 ≤ length (now memo) ⌝ }
+    ensures { λ r. ⌜ Covered (now (packs .entry)) (length (now (memo .entry)) / 2) items limit (now (t .entry)) (now (t .exit)) (now (heads .exit)) (now (next .exit)) (r .answer) (r .steps) (r .made) (r .full) (r .over) ⌝ }
+{
+    let places = memo.len() / 2;
+    let mut first = [0u32; 65];
+    let mut after = [0u32; 513];
+    enlist(packs, &mut first, &mut after);
+    clear(memo);
+    let n = t[0];
+    let r = begin(
+        packs,
+        &first,
+        &after,
+        t,
+        heads,
+        next,
+        memo,
+        places,
+        items,
+        limit,
+    );
+    if r.over {
+        table::rollback(t, n);
+        return Answer {
+            answer: 0,
+            steps: 0,
+            made: 0,
+            full: false,
+            over: true,
+        };
+    }
+    if r.full {
+        table::rollback(t, n);
+        return Answer {
+            answer: 0,
+            steps: r.steps,
+            made: 0,
+            full: true,
+            over: false,
+        };
+    }
+    Answer {
+        answer: r.answer,
+        steps: r.steps,
+        made: t[0] - n,
+        full: false,
+        over: false,
+    }
+}

@@ -1,0 +1,2 @@
+-- What the proofs of several calls use.
+pub mod Reading

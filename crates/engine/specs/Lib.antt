@@ -1,0 +1,2 @@
+-- What the engine's inner functions cite. The public calls cite `statement`.
+pub mod Answers

@@ -1,0 +1,15 @@
+pub mod Lists
+pub mod Covers
+pub mod Order
+pub mod KeyLaws
+pub mod First
+pub mod Sets
+pub mod Listing
+pub mod Solve
+pub mod Fuel
+pub mod Walks
+pub mod Loops
+pub mod Partial
+pub mod Trial
+mod Uses
+mod Examples

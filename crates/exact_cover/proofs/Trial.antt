@@ -1,0 +1,57 @@
+-- The loop of the trial of A: its invariant, and each step of it in one law. ns and b are the nodes and the flag 'there was no room' before the
+-- trial, ns′ and b′ now; l is the number that the trial has after the package numbers from n on; c is the room. Assumes nothing.
+use mathlib.Core.Path.{_≡_, refl, sym, ap, _∙_, subst}
+use mathlib.Core.Bool.{Bool, true, false}
+use mathlib.Core.List.{List, [], _∷_}
+use Prim.Native.Nat.{ℕ, zero, suc, _+_, _^_, _≤_, _<_}
+use native.Mathlib.Omega.{arith}
+use lib.ListN.{length}
+use Rattle.zdd.specs.Table.{Node, Family, join, family, Nodes}
+use Rattle.zdd.proofs.Grow.{family-zero}
+use Rattle.zdd.specs.Work.{Worked, Got}
+use Rattle.zdd.proofs.Room.{worked-under}
+use Rattle.zdd.proofs.Got.{got-eq, got-there, got-split-lo, got-none-lo}
+use Rattle.exact_cover.specs.Cover.{row, covering, fits, keysOf}
+use Rattle.exact_cover.proofs.Partial.{Partial, left, partial-start, partial-pass, partial-skip, partial-take, partial-split, partial-end, partial-under}
+
+pub record Trial (S : List ℕ) (A c : ℕ) (ns : List Node) (b : Bool) (n l : ℕ) (ns′ : List Node) (b′ : Bool) : Type 0 where
+  pub acc : Family
+  pub part : Partial S A n acc
+  pub got : Got (keysOf S) c ns b l ns′ b′ acc
+
+module _ (S : List ℕ) (few : length S ≤ 512) (full : (p : ℕ) → p < length S → 0 < row S p) (A : ℕ) (w : A < 2 ^ 64) {c : ℕ} {ns : List Node} {b : Bool} where
+  -- nothing is tried: the number 0
+  pub trial-start : 0 < A → Nodes (keysOf S) ns → Trial S A c ns b (length S) 0 ns b
+  trial-start pos n = record { acc = []; part = partial-start S few full A w pos; got = got-eq (family-zero ns) (got-there c b 0 n (omega arith)) }
+
+  -- the numbers from n to m are no candidates
+  pub trial-skip : (d n m l : ℕ) {ns′ : List Node} {b′ : Bool} → m ≡ d + n → ((q : ℕ) → n ≤ q → q < m → fits S A q ≡ false)
+      → Trial S A c ns b m l ns′ b′ → Trial S A c ns b n l ns′ b′
+  trial-skip d n m l e f t = record { acc = t .acc; part = partial-skip S few full A w d n m (t .acc) e f (t .part); got = t .got }
+
+  -- n is a candidate: search gives h, find-or-make r
+  pub trial-take : (n l h r : ℕ) {n0 n1 ns′ : List Node} {b0 b1 b′ : Bool} → n < length S → fits S A n ≡ true
+      → Trial S A c ns b (suc n) l n0 b0 → Got (keysOf S) c n0 b0 h n1 b1 (left S A n)
+      → Got (keysOf S) c n1 b1 r ns′ b′ (join n (family n1 h) (family n1 l))
+      → Trial S A c ns b n r ns′ b′
+  trial-take n l h r m e t g1 g = record {
+    acc = join n (left S A n) (t .acc);
+    part = partial-take S few full A w n (t .acc) m e (t .part);
+    got = got-split-lo (partial-split S few full A w n (t .acc) m e (t .part)) (t .got) g1 g;
+  }
+
+  -- n is a candidate, and search gives 0: no node
+  pub trial-none : (n l : ℕ) {n0 n1 : List Node} {b0 b1 : Bool} → n < length S → fits S A n ≡ true
+      → Trial S A c ns b (suc n) l n0 b0 → Got (keysOf S) c n0 b0 0 n1 b1 (left S A n) → Trial S A c ns b n l n1 b1
+  trial-none n l m e t g1 = record {
+    acc = join n (left S A n) (t .acc);
+    part = partial-take S few full A w n (t .acc) m e (t .part);
+    got = got-none-lo (partial-split S few full A w n (t .acc) m e (t .part)) (t .got) g1;
+  }
+
+  pub trial-end : (l : ℕ) {ns′ : List Node} {b′ : Bool} → Trial S A c ns b 0 l ns′ b′ → Got (keysOf S) c ns b l ns′ b′ (covering S A)
+  trial-end l t = got-eq (partial-end S few full A w (t .acc) (t .part)) (t .got)
+
+  -- at any time (the step limit): what was made was made for the covers of A
+  pub trial-leave : (n l : ℕ) {ns′ : List Node} {b′ : Bool} → n ≤ length S → Trial S A c ns b n l ns′ b′ → Worked c ns b ns′ b′ (covering S A)
+  trial-leave n l h t = worked-under (t .got .work) (partial-under S few full A w n (t .acc) h (t .part))

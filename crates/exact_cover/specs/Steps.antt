@@ -1,0 +1,48 @@
+-- How many times Search is entered [document 01: steps], by the text of "Search". It is a function of the item sets alone: neither the nodes nor the
+-- table's room play a part. Assumes nothing.
+use mathlib.Core.Bool.{Bool, true, false, _||_}
+use mathlib.Core.List.{List, [], _∷_}
+use Prim.Native.Nat.{ℕ, zero, suc, _%_}
+use lib.Dec.{eqb}
+use lib.ListN.{getD, set, replicate}
+use Rattle.itemset.specs.Items.{without, size}
+use Rattle.exact_cover.specs.Cover.{row, candidates}
+
+-- the number of entries so far, and the memo's keys: 0 where a place is empty
+pub record Walk : Type 0 where
+  pub entered : ℕ
+  pub memo : List ℕ
+
+abbrev pub enter : Walk → Walk
+enter w = record { entered = suc (w .entered); memo = w .memo }
+
+-- A's place in a memo of P places is A % P; a newer entry replaces an older one
+abbrev pub store : ℕ → ℕ → Walk → Walk
+store P A w = record { entered = w .entered; memo = set (w .memo) (A % P) A }
+
+-- nothing is left to search: A is empty, or the memo holds it
+abbrev pub known : ℕ → ℕ → Walk → Bool
+known P A w = eqb A 0 || eqb (getD (w .memo) (A % P) 0) A
+
+-- f for each package of a list, one after the other
+unfoldable pub each : (ℕ → Walk → Walk) → List ℕ → Walk → Walk
+each f [] w = w
+each f (p ∷ ps) w = each f ps (f p w)
+
+-- Search of A: each entry counts; where A is empty or in the memo that is all; otherwise each package that holds A's lowest item and lies inside A,
+-- highest number first, has A without it searched, and then A goes into the memo. The first argument bounds the depth, and the size of A is enough
+unfoldable pub visit : ℕ → List ℕ → ℕ → ℕ → Walk → Walk
+visit zero S P A w = enter w
+visit (suc d) S P A w =
+    elim (known P A w) [
+      | true ↦ enter w
+      | false ↦ store P A (each (λ (p : ℕ). visit d S P (without A (row S p))) (candidates S A) (enter w))
+    ]
+
+-- the steps of cover A with a memo of P places, empty at the start
+unfoldable pub steps : List ℕ → ℕ → ℕ → ℕ
+steps S P A = visit (size A) S P A (record { entered = 0; memo = replicate P 0 }) .entered
+
+-- Search of A, with enough fuel
+unfoldable pub search : List ℕ → ℕ → ℕ → Walk → Walk
+search S P A w = visit (size A) S P A w

@@ -1,0 +1,384 @@
+-- Union, intersection and difference: the end cases, the parts of two numbers, the recursion, and what is remembered. Assumes nothing.
+use mathlib.Core.Path.{_≡_, refl, sym, ap, ap₂, subst, subst⁻¹, _∙_}
+use mathlib.Core.Logic.{_⊎_, inl, inr}
+use mathlib.Core.Bool.{Bool, true, false}
+use mathlib.Core.List.{List, [], _∷_, _++_}
+use Prim.Native.Nat.{ℕ, zero, suc, _+_, _-_, _*_, _/_, _%_, _<_, _≤_}
+use native.Mathlib.Nat.{eq-or-lt-of-le}
+use native.Mathlib.Omega.{arith}
+use native.Mathlib.Decide.{decLt, ℕ-discrete}
+use lib.ListN.{length, getD, set, length-set}
+use lib.Seq.{getD-set-same, getD-set-other}
+use Rattle.zdd.specs.Table.{Node, node, blank, Family, join, count, capacity, nodesOf, family, key, Over, Fine, Nodes, Sound, Keys}
+use Rattle.zdd.proofs.Grow.{family-zero}
+use Rattle.zdd.proofs.Words.{length-nodes, at-word}
+use Rattle.zdd.proofs.TableLaws.{over-of-key}
+use Rattle.zdd.proofs.Listing.{Listed, family-listed}
+use Rattle.zdd.specs.Work.{Split}
+use Rattle.zdd.specs.Operations.{combine, minus}
+use Rattle.zdd.proofs.Operations.{union-nil, nil-union, union-self, inter-nil, nil-inter, inter-self, differ-nil, nil-differ, differ-self}
+use Rattle.zdd.proofs.Parts.{split-same, split-left, split-right}
+use Rattle.family.specs.Gives.{Ready, Gives, Child, Noded, Answers}
+use Rattle.family.specs.Memo.{opOf, combined, Stored, Two, Pair, Ended, Ends, Top, Cut}
+use Rattle.family.proofs.GivesLaws.{gives-there, gives-answers, gives-keeps, gives-more, gives-eq, step-none-hi, step-none-lo, step-child, step-node}
+use Rattle.family.proofs.RestrictLaws.{word-node, word-label, word-fine}
+
+pub off : (op : ℕ) → opOf op false false ≡ false
+off zero = refl
+off (suc zero) = refl
+off (suc (suc n)) = refl
+
+-- ---- the end cases
+
+module _ {K : List ℕ} {ns : List Node} {f g : ℕ} (q : Pair K ns f g) where
+  lf : Listed K (family ns f)
+  lf = family-listed (q .keys) (q .nodes) f (q .left)
+
+  lg : Listed K (family ns g)
+  lg = family-listed (q .keys) (q .nodes) g (q .right)
+
+  nil : (k : ℕ) → k ≡ 0 → family ns k ≡ []
+  nil k e = ap (family ns) e ∙ family-zero ns
+
+  none : {F : Family} → F ≡ [] → Answers ns 0 F
+  none e = record { known = omega arith; holds = family-zero ns ∙ sym e }
+
+  left-nil : (op : ℕ) {F : Family} → f ≡ 0 → combined op K [] (family ns g) ≡ F → combined op K (family ns f) (family ns g) ≡ F
+  left-nil op z e = ap (λ (H : Family). combined op K H (family ns g)) (nil f z) ∙ e
+
+  right-nil : (op : ℕ) {F : Family} → g ≡ 0 → combined op K (family ns f) [] ≡ F → combined op K (family ns f) (family ns g) ≡ F
+  right-nil op z e = ap (λ (H : Family). combined op K (family ns f) H) (nil g z) ∙ e
+
+  both : (op : ℕ) {F : Family} → f ≡ g → combined op K (family ns f) (family ns f) ≡ F → combined op K (family ns f) (family ns g) ≡ F
+  both op z e = ap (λ (k : ℕ). combined op K (family ns f) (family ns k)) (sym z) ∙ e
+
+  end-left-union : (op : ℕ) → f ≡ 0 → op ≡ 0 → Answers ns g (combined op K (family ns f) (family ns g))
+  end-left-union zero z e = record { known = q .right; holds = sym (left-nil 0 z (nil-union K (q .keys) (family ns g) lg)) }
+  end-left-union (suc op) z e = absurd (omega arith)
+
+  end-left : (op : ℕ) → f ≡ 0 → 0 < op → Answers ns 0 (combined op K (family ns f) (family ns g))
+  end-left zero z e = absurd (omega arith)
+  end-left (suc zero) z e = none (left-nil 1 z (nil-inter K (q .keys) (family ns g) lg))
+  end-left (suc (suc n)) z e = none (left-nil 2 z (nil-differ K (q .keys) (family ns g) lg))
+
+  end-right-inter : (op : ℕ) → g ≡ 0 → op ≡ 1 → Answers ns 0 (combined op K (family ns f) (family ns g))
+  end-right-inter zero z e = absurd (omega arith)
+  end-right-inter (suc zero) z e = none (right-nil 1 z (inter-nil K (q .keys) (family ns f) lf))
+  end-right-inter (suc (suc n)) z e = absurd (omega arith)
+
+  end-right : (op : ℕ) → g ≡ 0 → (op ≡ 1 → ⊥) → Answers ns f (combined op K (family ns f) (family ns g))
+  end-right zero z e = record { known = q .left; holds = sym (right-nil 0 z (union-nil K (q .keys) (family ns f) lf)) }
+  end-right (suc zero) z e = absurd (e refl)
+  end-right (suc (suc n)) z e = record { known = q .left; holds = sym (right-nil 2 z (differ-nil K (q .keys) (family ns f) lf)) }
+
+  end-both : (op : ℕ) → f ≡ g → op < 2 → Answers ns f (combined op K (family ns f) (family ns g))
+  end-both zero z e = record { known = q .left; holds = sym (both 0 z (union-self K (q .keys) (family ns f) lf)) }
+  end-both (suc zero) z e = record { known = q .left; holds = sym (both 1 z (inter-self K (q .keys) (family ns f) lf)) }
+  end-both (suc (suc n)) z e = absurd (omega arith)
+
+  end-both-differ : (op : ℕ) → f ≡ g → 2 ≤ op → Answers ns 0 (combined op K (family ns f) (family ns g))
+  end-both-differ zero z e = absurd (omega arith)
+  end-both-differ (suc zero) z e = absurd (omega arith)
+  end-both-differ (suc (suc n)) z e = none (both 2 z (differ-self K (q .keys) (family ns f) lf))
+
+  answered : (op r : ℕ) → Answers ns r (combined op K (family ns f) (family ns g)) → Ended op K ns f g r
+  answered op r a =
+      let z : r < 65536 = omega (arith, a .known, q .few) in
+      record { small = omega arith; answer = λ h. (z, a); two = λ e. absurd (omega arith) }
+
+module _ (op : ℕ) (memo : List ℕ) (f g : ℕ) where
+  pub ends-left-union : f ≡ 0 → op ≡ 0 → Ends op memo f g g
+  ends-left-union z e K ns q m = answered q op g (end-left-union q op z e)
+
+  pub ends-left : f ≡ 0 → 0 < op → Ends op memo f g 0
+  ends-left z e K ns q m = answered q op 0 (end-left q op z e)
+
+  pub ends-right-inter : g ≡ 0 → op ≡ 1 → Ends op memo f g 0
+  ends-right-inter z e K ns q m = answered q op 0 (end-right-inter q op z e)
+
+  pub ends-right : g ≡ 0 → (op ≡ 1 → ⊥) → Ends op memo f g f
+  ends-right z e K ns q m = answered q op f (end-right q op z e)
+
+  pub ends-both : f ≡ g → op < 2 → Ends op memo f g f
+  ends-both z e K ns q m = answered q op f (end-both q op z e)
+
+  pub ends-both-differ : f ≡ g → 2 ≤ op → Ends op memo f g 0
+  ends-both-differ z e K ns q m = answered q op 0 (end-both-differ q op z e)
+
+  pub ends-known : (at : ℕ) → getD memo at 0 / 65536 ≡ f * 65536 + g → 0 < f → Ends op memo f g (getD memo at 0 % 65536)
+  ends-known at e z K ns q m = answered q op (getD memo at 0 % 65536) (m .each at f g e z (omega (arith, q .right, q .few)) .1 .1)
+
+  pub ends-open : Two f g → Ends op memo f g 65537
+  ends-open w K ns q m = record { small = omega arith; answer = λ h. absurd (omega arith); two = λ e. w }
+
+-- ---- the parts of two numbers
+
+module _ {K : List ℕ} {ns : List Node} where
+  pub top-most : {f r : ℕ} → Top K ns f r → r ≤ 4294967296
+  top-most {f} {r} p = go (decLt f 2)
+    where
+      go : Dec (f < 2) → r ≤ 4294967296
+      go (yes h) = omega (arith, p .end h)
+      go (no h) = omega (arith, p .key-of (omega arith) .1)
+
+  pub top-node : {f r : ℕ} → Top K ns f r → r < 4294967296 → 2 ≤ f
+  top-node {f} {r} p l = go (decLt f 2)
+    where
+      go : Dec (f < 2) → 2 ≤ f
+      go (yes h) = absurd (omega (arith, p .end h))
+      go (no h) = omega arith
+
+pub top-end : (K : List ℕ) (ns : List Node) (f : ℕ) → f < 2 → Top K ns f 4294967296
+top-end K ns f h = record { end = λ z. refl; key-of = λ z. absurd (omega arith) }
+
+pub top-of : {K t : List ℕ} → Sound K t → (f a : ℕ) → 2 ≤ f → f < count t + 2 → a ≡ 3 * f - 5 → (r : ℕ) → r ≡ getD K (getD t a 0) 0 → r < 4294967296 → Top K (nodesOf t) f r
+top-of {K} {t} s f a l w e r q z = record {
+  end = λ h. absurd (omega arith);
+  key-of = λ h. (q ∙ ap (λ (x : ℕ). getD K x 0) (sym (word-label s f a l w e)), z);
+}
+
+module _ {K t : List ℕ} (s : Sound K t) (k : Keys K) (f g : ℕ) (wf : f < count t + 2) (wg : g < count t + 2) {a b : ℕ} (ta : Top K (nodesOf t) f a) (tb : Top K (nodesOf t) g b) where
+  lenf : f < suc (suc (length (nodesOf t)))
+  lenf = omega (arith, length-nodes t)
+
+  leng : g < suc (suc (length (nodesOf t)))
+  leng = omega (arith, length-nodes t)
+
+  pub left-node : a < b → 2 ≤ f
+  left-node h = top-node ta (omega (arith, top-most tb))
+
+  pub right-node : b < a → 2 ≤ g
+  right-node h = top-node tb (omega (arith, top-most ta))
+
+  -- f's label is the earlier one
+  pub cut-left : (v : ℕ) → v ≡ 3 * f - 5 → a < b → Cut K (nodesOf t) f g (getD t v 0) (getD t (v + 2) 0) 0 (getD t (v + 1) 0) g
+  cut-left v e h =
+      let l : 2 ≤ f = left-node h in
+      let x : Fine K (nodesOf t) (f - 2) (at-word t v) = word-fine s f v l wf e in
+      record {
+        label-known = x .label-known;
+        f1-known = omega (arith, x .hi-below, lenf);
+        g1-known = omega arith;
+        f0-known = omega (arith, x .lo-below, lenf);
+        g0-known = leng;
+        falls1 = omega (arith, x .hi-below);
+        falls0 = omega (arith, x .lo-below);
+        split = λ op o.
+            subst (λ (y : Node). Split K (combine op K (family (nodesOf t) f) (family (nodesOf t) g)) (y .label) (combine op K (family (nodesOf t) (y .hi)) (family (nodesOf t) 0)) (combine op K (family (nodesOf t) (y .lo)) (family (nodesOf t) g)))
+            (word-node s f v l wf e)
+            (subst⁻¹ (λ (F : Family). Split K (combine op K (family (nodesOf t) f) (family (nodesOf t) g)) (getD (nodesOf t) (f - 2) blank .label) (combine op K (family (nodesOf t) (getD (nodesOf t) (f - 2) blank .hi)) F) (combine op K (family (nodesOf t) (getD (nodesOf t) (f - 2) blank .lo)) (family (nodesOf t) g)))
+            (family-zero (nodesOf t))
+            (subst (λ (j : ℕ). Split K (combine op K (family (nodesOf t) j) (family (nodesOf t) g)) (getD (nodesOf t) (f - 2) blank .label) (combine op K (family (nodesOf t) (getD (nodesOf t) (f - 2) blank .hi)) []) (combine op K (family (nodesOf t) (getD (nodesOf t) (f - 2) blank .lo)) (family (nodesOf t) g)))
+            (two-more f l)
+            (split-left k (s .nodes) op o (f - 2) g (omega (arith, lenf)) leng
+            (over-of-key K (nodesOf t) (suc (key K (getD (nodesOf t) (f - 2) blank .label))) g (λ z. omega (arith, ta .key-of l .0, tb .key-of z .0))))));
+      }
+    where
+      two-more : (j : ℕ) → 2 ≤ j → suc (suc (j - 2)) ≡ j
+      two-more j l = omega arith
+
+  -- g's is
+  pub cut-right : (w : ℕ) → w ≡ 3 * g - 5 → b < a → Cut K (nodesOf t) f g (getD t w 0) 0 (getD t (w + 2) 0) f (getD t (w + 1) 0)
+  cut-right w e h =
+      let l : 2 ≤ g = right-node h in
+      let x : Fine K (nodesOf t) (g - 2) (at-word t w) = word-fine s g w l wg e in
+      record {
+        label-known = x .label-known;
+        f1-known = omega arith;
+        g1-known = omega (arith, x .hi-below, leng);
+        f0-known = lenf;
+        g0-known = omega (arith, x .lo-below, leng);
+        falls1 = omega (arith, x .hi-below);
+        falls0 = omega (arith, x .lo-below);
+        split = λ op o.
+            subst (λ (y : Node). Split K (combine op K (family (nodesOf t) f) (family (nodesOf t) g)) (y .label) (combine op K (family (nodesOf t) 0) (family (nodesOf t) (y .hi))) (combine op K (family (nodesOf t) f) (family (nodesOf t) (y .lo))))
+            (word-node s g w l wg e)
+            (subst⁻¹ (λ (F : Family). Split K (combine op K (family (nodesOf t) f) (family (nodesOf t) g)) (getD (nodesOf t) (g - 2) blank .label) (combine op K F (family (nodesOf t) (getD (nodesOf t) (g - 2) blank .hi))) (combine op K (family (nodesOf t) f) (family (nodesOf t) (getD (nodesOf t) (g - 2) blank .lo))))
+            (family-zero (nodesOf t))
+            (subst (λ (j : ℕ). Split K (combine op K (family (nodesOf t) f) (family (nodesOf t) j)) (getD (nodesOf t) (g - 2) blank .label) (combine op K [] (family (nodesOf t) (getD (nodesOf t) (g - 2) blank .hi))) (combine op K (family (nodesOf t) f) (family (nodesOf t) (getD (nodesOf t) (g - 2) blank .lo))))
+            (two-more g l)
+            (split-right k (s .nodes) op o f (g - 2) lenf (omega (arith, leng))
+            (over-of-key K (nodesOf t) (suc (key K (getD (nodesOf t) (g - 2) blank .label))) f (λ z. omega (arith, tb .key-of l .0, ta .key-of z .0))))));
+      }
+    where
+      two-more : (j : ℕ) → 2 ≤ j → suc (suc (j - 2)) ≡ j
+      two-more j l = omega arith
+
+  -- they have one label
+  pub same-left : Two f g → a ≡ b → 2 ≤ f
+  same-left w e = go (decLt f 2) (decLt g 2)
+    where
+      go : Dec (f < 2) → Dec (g < 2) → 2 ≤ f
+      go (no h) y = omega arith
+      go (yes h) (no z) = absurd (omega (arith, ta .end h, tb .key-of (omega arith) .1))
+      go (yes h) (yes z) = let x : f ≡ g = omega (arith, w .some, w .other) in absurd (w .differ x)
+
+  pub same-right : Two f g → a ≡ b → 2 ≤ g
+  same-right w e = top-node tb (omega (arith, ta .key-of (same-left w e) .1))
+
+  pub cut-same : (v w : ℕ) → v ≡ 3 * f - 5 → w ≡ 3 * g - 5 → Two f g → a ≡ b
+      → Cut K (nodesOf t) f g (getD t v 0) (getD t (v + 2) 0) (getD t (w + 2) 0) (getD t (v + 1) 0) (getD t (w + 1) 0)
+  cut-same v w ev ew d e =
+      let lf : 2 ≤ f = same-left d e in
+      let lg : 2 ≤ g = same-right d e in
+      let x : Fine K (nodesOf t) (f - 2) (at-word t v) = word-fine s f v lf wf ev in
+      let y : Fine K (nodesOf t) (g - 2) (at-word t w) = word-fine s g w lg wg ew in
+      let i : f - 2 < length (nodesOf t) = omega (arith, lenf) in
+      let j : g - 2 < length (nodesOf t) = omega (arith, leng) in
+      record {
+        label-known = x .label-known;
+        f1-known = omega (arith, x .hi-below, lenf);
+        g1-known = omega (arith, y .hi-below, leng);
+        f0-known = omega (arith, x .lo-below, lenf);
+        g0-known = omega (arith, y .lo-below, leng);
+        falls1 = omega (arith, x .hi-below, y .hi-below);
+        falls0 = omega (arith, x .lo-below, y .lo-below);
+        split = λ op o.
+            subst (λ (z : Node). Split K (combine op K (family (nodesOf t) f) (family (nodesOf t) g)) (z .label) (combine op K (family (nodesOf t) (z .hi)) (family (nodesOf t) (getD t (w + 2) 0))) (combine op K (family (nodesOf t) (z .lo)) (family (nodesOf t) (getD t (w + 1) 0))))
+            (word-node s f v lf wf ev)
+            (subst (λ (z : Node). Split K (combine op K (family (nodesOf t) f) (family (nodesOf t) g)) (getD (nodesOf t) (f - 2) blank .label) (combine op K (family (nodesOf t) (getD (nodesOf t) (f - 2) blank .hi)) (family (nodesOf t) (z .hi))) (combine op K (family (nodesOf t) (getD (nodesOf t) (f - 2) blank .lo)) (family (nodesOf t) (z .lo))))
+            (word-node s g w lg wg ew)
+            (subst (λ (m : ℕ). Split K (combine op K (family (nodesOf t) f) (family (nodesOf t) m)) (getD (nodesOf t) (f - 2) blank .label) (combine op K (family (nodesOf t) (getD (nodesOf t) (f - 2) blank .hi)) (family (nodesOf t) (getD (nodesOf t) (g - 2) blank .hi))) (combine op K (family (nodesOf t) (getD (nodesOf t) (f - 2) blank .lo)) (family (nodesOf t) (getD (nodesOf t) (g - 2) blank .lo))))
+            (two-more g lg)
+            (subst (λ (m : ℕ). Split K (combine op K (family (nodesOf t) m) (family (nodesOf t) (suc (suc (g - 2))))) (getD (nodesOf t) (f - 2) blank .label) (combine op K (family (nodesOf t) (getD (nodesOf t) (f - 2) blank .hi)) (family (nodesOf t) (getD (nodesOf t) (g - 2) blank .hi))) (combine op K (family (nodesOf t) (getD (nodesOf t) (f - 2) blank .lo)) (family (nodesOf t) (getD (nodesOf t) (g - 2) blank .lo))))
+            (two-more f lf)
+            (split-same k (s .nodes) op o (f - 2) (g - 2) i j
+            (k .apart (getD (nodesOf t) (f - 2) blank .label) (getD (nodesOf t) (g - 2) blank .label) (s .nodes .each (f - 2) i .label-known) (s .nodes .each (g - 2) j .label-known)
+            (sym (ta .key-of lf .0) ∙ e ∙ tb .key-of lg .0))))));
+      }
+    where
+      two-more : (j : ℕ) → 2 ≤ j → suc (suc (j - 2)) ≡ j
+      two-more j l = omega arith
+
+-- ---- what is remembered
+
+pub stored-fresh : (op : ℕ) (K : List ℕ) (ns : List Node) (memo : List ℕ) → length memo ≡ 65536 → ((i : ℕ) → getD memo i 0 ≡ 0) → Stored op K ns memo
+stored-fresh op K ns memo l z = record { long = l; each = λ i f g e h w. absurd (omega (arith, z i)) }
+
+pub stored-grown : {op : ℕ} {K t t′ heads′ next′ memo : List ℕ} {r : ℕ} {F : Family} → Gives K t t′ heads′ next′ r F → r < 65536
+    → Stored op K (nodesOf t) memo → Stored op K (nodesOf t′) memo
+stored-grown {op} {K} {t} {t′} {heads′} {next′} {memo} g h m = record {
+  long = m .long;
+  each = λ i x y e z w.
+      let a = m .each i x y e z w in (
+        omega (arith, a .0, gives-more g h),
+        (
+          omega (arith, a .1 .0, gives-more g h),
+          record {
+            known = omega (arith, a .1 .1 .known, gives-more g h);
+            holds =
+                gives-keeps g h (getD memo i 0 % 65536) (a .1 .1 .known) ∙ a .1 .1 .holds
+                ∙ ap₂ (combined op K) (sym (gives-keeps g h x (a .0))) (sym (gives-keeps g h y (a .1 .0)));
+          },
+        ),
+      );
+}
+
+pub stored-stored : {op : ℕ} {K memo : List ℕ} {ns : List Node} (at f g r v : ℕ) → at < 65536 → v ≡ (f * 65536 + g) * 65536 + r → r < 65536 → g < 65536
+    → f < suc (suc (length ns)) → g < suc (suc (length ns))
+    → Answers ns r (combined op K (family ns f) (family ns g)) → Stored op K ns memo → Stored op K ns (set memo at v)
+stored-stored {op} {K} {memo} {ns} at f g r v la ev lr lg wf wg a m = record {
+  long = length-set memo at v ∙ m .long;
+  each = λ i x y e z w. each i (ℕ-discrete i at) x y e z w;
+}
+  where
+    same : (i : ℕ) → i ≡ at → getD (set memo at v) i 0 ≡ v
+    same i e = ap (λ (j : ℕ). getD (set memo at v) j 0) e ∙ getD-set-same memo at v 0 (omega (arith, m .long))
+
+    hit : (u x y : ℕ) → u ≡ v → u / 65536 ≡ x * 65536 + y → y < 65536
+        → (x < suc (suc (length ns))) × ((y < suc (suc (length ns))) × Answers ns (u % 65536) (combined op K (family ns x) (family ns y)))
+    hit u x y eu e w =
+        let q : u / 65536 ≡ f * 65536 + g = omega arith in
+        let ey : g ≡ y = omega arith in
+        let ex : f ≡ x = omega arith in
+        let er : r ≡ u % 65536 = omega arith in (
+          omega arith,
+          (
+            omega arith,
+            subst (λ (k : ℕ). Answers ns k (combined op K (family ns x) (family ns y))) er
+                (subst (λ (j : ℕ). Answers ns r (combined op K (family ns j) (family ns y))) ex
+                (subst (λ (j : ℕ). Answers ns r (combined op K (family ns f) (family ns j))) ey a)),
+          ),
+        )
+
+    each : (i : ℕ) → Dec (i ≡ at) → (x y : ℕ) → getD (set memo at v) i 0 / 65536 ≡ x * 65536 + y → 0 < x → y < 65536
+        → (x < suc (suc (length ns))) × ((y < suc (suc (length ns))) × Answers ns (getD (set memo at v) i 0 % 65536) (combined op K (family ns x) (family ns y)))
+    each i (yes e) x y q z w = hit (getD (set memo at v) i 0) x y (same i e) q w
+    each i (no d) x y q z w =
+        let o : getD (set memo at v) i 0 ≡ getD memo i 0 = getD-set-other memo at i v 0 d in
+        subst⁻¹ (λ (u : ℕ). (x < suc (suc (length ns))) × ((y < suc (suc (length ns))) × Answers ns (u % 65536) (combined op K (family ns x) (family ns y)))) o
+        (m .each i x y (subst (λ (u : ℕ). u / 65536 ≡ x * 65536 + y) o q) z w)
+
+-- ---- the recursion
+
+pub pair-of : {K t heads next : List ℕ} {f g : ℕ} → Ready K t heads next → (f < count t + 2) × (g < count t + 2) → Pair K (nodesOf t) f g
+pair-of {K} {t} y w = record {
+  keys = y .keys;
+  nodes = y .sound .nodes;
+  few = omega (arith, y .sound .few, length-nodes t);
+  left = omega (arith, w .0, length-nodes t);
+  right = omega (arith, w .1, length-nodes t);
+}
+
+pub ended-gives : {op : ℕ} {K t heads next memo : List ℕ} {f g r : ℕ} → Ready K t heads next → Stored op K (nodesOf t) memo → (f < count t + 2) × (g < count t + 2) → Ends op memo f g r → (r ≡ 65537 → ⊥)
+    → Gives K t t heads next r (combined op K (family (nodesOf t) f) (family (nodesOf t) g)) × (r < 65536 → Stored op K (nodesOf t) memo)
+ended-gives {op} {K} {t} {heads} {next} {memo} {f} {g} {r} y m w s d =
+    let x = s K (nodesOf t) (pair-of y w) m in
+    let z : r < 65537 = lt (eq-or-lt-of-le (x .small)) in
+    (gives-there (y .sound) (y .indexed) (x .answer z .0) (x .answer z .1), λ h. m)
+  where
+    lt : (r ≡ 65537) ⊎ (r < 65537) → r < 65537
+    lt (inl e) = absurd (d e)
+    lt (inr h) = h
+
+pub ends-two : {op : ℕ} {K t heads next memo : List ℕ} {f g r : ℕ} → Ready K t heads next → Stored op K (nodesOf t) memo → (f < count t + 2) × (g < count t + 2) → Ends op memo f g r → r ≡ 65537 → Two f g
+ends-two {op} {K} {t} y m w s e = s K (nodesOf t) (pair-of y w) m .two e
+
+pub hi-known : {K t heads next : List ℕ} {f g p f1 g1 f0 g0 : ℕ} → Ready K t heads next → Cut K (nodesOf t) f g p f1 g1 f0 g0 → (f1 < count t + 2) × (g1 < count t + 2)
+hi-known {K} {t} y c = (omega (arith, c .f1-known, length-nodes t), omega (arith, c .g1-known, length-nodes t))
+
+module _ (op : ℕ) {K t heads next : List ℕ} {f g : ℕ} (y : Ready K t heads next) (w : (f < count t + 2) × (g < count t + 2)) {p f1 g1 f0 g0 : ℕ} (c : Cut K (nodesOf t) f g p f1 g1 f0 g0)
+    {t1 heads1 next1 : List ℕ} {h : ℕ} (q1 : Gives K t t1 heads1 next1 h (combined op K (family (nodesOf t) f1) (family (nodesOf t) g1))) where
+  split-o : Split K (combined op K (family (nodesOf t) f) (family (nodesOf t) g)) p (combined op K (family (nodesOf t) f1) (family (nodesOf t) g1)) (combined op K (family (nodesOf t) f0) (family (nodesOf t) g0))
+  split-o = c .split (opOf op) (off op)
+
+  pub hi-none : {memo1 : List ℕ} → h ≡ 65536 → Gives K t t1 heads1 next1 65536 (combined op K (family (nodesOf t) f) (family (nodesOf t) g)) × (65536 < 65536 → Stored op K (nodesOf t1) memo1)
+  hi-none e = (step-none-hi split-o q1 e, λ z. absurd (omega arith))
+
+  pub hi-ready : Ready K t1 heads1 next1
+  hi-ready = record { keys = y .keys; sound = q1 .sound; indexed = q1 .indexed }
+
+  module _ (w1 : h < 65536) where
+    pub lo-known : (f0 < count t1 + 2) × (g0 < count t1 + 2)
+    lo-known = (omega (arith, c .f0-known, gives-more q1 w1, length-nodes t1), omega (arith, c .g0-known, gives-more q1 w1, length-nodes t1))
+
+    module _ {t0 heads0 next0 : List ℕ} {l : ℕ} (q0 : Gives K t1 t0 heads0 next0 l (combined op K (family (nodesOf t1) f0) (family (nodesOf t1) g0))) where
+      p0 : Gives K t1 t0 heads0 next0 l (combined op K (family (nodesOf t) f0) (family (nodesOf t) g0))
+      p0 = gives-eq (ap₂ (combined op K) (gives-keeps q1 w1 f0 (c .f0-known)) (gives-keeps q1 w1 g0 (c .g0-known))) q0
+
+      pub lo-none : {memo0 : List ℕ} → l ≡ 65536 → Gives K t t0 heads0 next0 65536 (combined op K (family (nodesOf t) f) (family (nodesOf t) g)) × (65536 < 65536 → Stored op K (nodesOf t0) memo0)
+      lo-none e = (step-none-lo split-o q1 w1 p0 e, λ z. absurd (omega arith))
+
+      module _ (w0 : l < 65536) {t′ heads′ next′ : List ℕ} {r : ℕ} (n : Noded t0 t′ heads′ next′ p l h r) where
+        whole : Gives K t t′ heads′ next′ r (combined op K (family (nodesOf t) f) (family (nodesOf t) g))
+        whole = step-node split-o q1 w1 p0 (c .label-known) w0 n
+
+        pub last-small : r ≤ 65536
+        last-small = whole .small
+
+        pub last-none : {memo0 : List ℕ} → r ≡ 65536 → Gives K t t′ heads′ next′ 65536 (combined op K (family (nodesOf t) f) (family (nodesOf t) g)) × (65536 < 65536 → Stored op K (nodesOf t′) memo0)
+        last-none e = (subst (λ (x : ℕ). Gives K t t′ heads′ next′ x (combined op K (family (nodesOf t) f) (family (nodesOf t) g))) e whole, λ z. absurd (omega arith))
+
+        pub last-stored : {memo0 : List ℕ} (at v : ℕ) → at < 65536 → v ≡ (f * 65536 + g) * 65536 + r → Stored op K (nodesOf t0) memo0
+            → Gives K t t′ heads′ next′ r (combined op K (family (nodesOf t) f) (family (nodesOf t) g)) × (r < 65536 → Stored op K (nodesOf t′) (set memo0 at v))
+        last-stored {memo0} at v la ev m = (whole, λ z. kept z)
+          where
+            kept : r < 65536 → Stored op K (nodesOf t′) (set memo0 at v)
+            kept z =
+                let wf : f < suc (suc (length (nodesOf t))) = omega (arith, w .0, length-nodes t) in
+                let wg : g < suc (suc (length (nodesOf t))) = omega (arith, w .1, length-nodes t) in
+                let a : Answers (nodesOf t′) r (combined op K (family (nodesOf t) f) (family (nodesOf t) g)) = gives-answers whole z in
+                let m′ : Stored op K (nodesOf t′) memo0 = stored-grown (n K (step-child split-o q1 w1 p0 (c .label-known) w0)) z m in
+                stored-stored at f g r v la ev z (omega (arith, w .1, y .sound .few)) (omega (arith, wf, gives-more whole z)) (omega (arith, wg, gives-more whole z))
+                (subst⁻¹ (λ (F : Family). Answers (nodesOf t′) r (combined op K F (family (nodesOf t′) g))) (gives-keeps whole z f wf)
+                (subst⁻¹ (λ (F : Family). Answers (nodesOf t′) r (combined op K (family (nodesOf t) f) F)) (gives-keeps whole z g wg) a)) m′

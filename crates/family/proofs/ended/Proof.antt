@@ -1,0 +1,59 @@
+use mathlib.Core.Path.{_∙_}
+use native.Mathlib.Omega.{arith}
+use Rattle.family.proofs.CombineLaws.{ends-left-union, ends-left, ends-right-inter, ends-right, ends-both, ends-both-differ, ends-known, ends-open}
+use borrow.Author.Needs.{needs}
+use Rattle.family.proofs.ended.Statement.{statement}
+use Rattle.family.proofs.ended.Tie as tie
+
+returns : tie.Need-returns
+returns c = ends-left-union _ _ _ _ (c .before .if1 .taken) (c .if2 .taken)
+
+returns-2 : tie.Need-returns-2
+returns-2 c = ends-left _ _ _ _ (c .before .if1 .taken) (omega (arith, c .if2 .left))
+
+returns-3 : tie.Need-returns-3
+returns-3 c = ends-right-inter _ _ _ _ (c .before .if3 .taken) (c .if4 .taken)
+
+returns-4 : tie.Need-returns-4
+returns-4 c = ends-right _ _ _ _ (c .before .if3 .taken) (λ e. omega (arith, c .if4 .left))
+
+returns-5 : tie.Need-returns-5
+returns-5 c = ends-both _ _ _ _ (c .before .if5 .taken) (omega (arith, c .if6 .taken))
+
+returns-6 : tie.Need-returns-6
+returns-6 c = ends-both-differ _ _ _ _ (c .before .if5 .taken) (omega (arith, c .if6 .left))
+
+mul-e : tie.Need-mul-e
+mul-e c = search needs
+
+element-copy-out-e : tie.Need-element-copy-out-e
+element-copy-out-e c = search needs
+
+pack-requires : tie.Need-pack-requires
+pack-requires c κs = search needs
+
+cast-result : tie.Need-cast-result
+cast-result c = search needs
+
+returns-7 : tie.Need-returns-7
+returns-7 c = ends-known _ _ _ _ (c .before .before .before .before .before .before .args .at) (c .if7 .taken ∙ c .before .pack .ensures) (omega (arith, c .before .before .before .before .before .if1 .left))
+
+returns-8 : tie.Need-returns-8
+returns-8 c = ends-open _ _ _ _ (record { some = omega (arith, c .before .before .before .before .before .if1 .left); other = omega (arith, c .before .before .before .before .if3 .left); differ = λ e. omega (arith, c .before .before .before .if5 .left) })
+
+pub ended-spec : {M : Type 1} → statement M
+ended-spec =
+    tie.close
+    (tie.spec
+    returns
+    returns-2
+    returns-3
+    returns-4
+    returns-5
+    returns-6
+    mul-e
+    element-copy-out-e
+    pack-requires
+    cast-result
+    returns-7
+    returns-8)

@@ -1,0 +1,59 @@
+-- What a function that makes a family in a sound table says: its number, or that there was no room. Assumes nothing.
+use mathlib.Core.Path.{_≡_}
+use mathlib.Core.Bool.{Bool, true, false}
+use mathlib.Core.List.{List, []}
+use Prim.Native.Nat.{ℕ, suc, _+_, _-_, _<_, _≤_}
+use lib.Dec.{ltb}
+use lib.ListN.{length, getD}
+use Rattle.zdd.specs.Table.{Node, node, blank, Family, join, count, capacity, nodesOf, family, Fine, Sound, Keys}
+use Rattle.zdd.specs.Work.{Got}
+use Rattle.zdd.specs.Branches.{missing}
+use Rattle.table.specs.State.{Indexed, Grown}
+
+-- a sound indexed table over distinct keys
+pub record Ready (K t heads next : List ℕ) : Type 0 where
+  pub keys : Keys K
+  pub sound : Sound K t
+  pub indexed : Indexed t heads next
+
+-- t before; t′, heads′ and next′ after. r is F's number, below 65536; or 65536: there was no room
+pub record Gives (K t t′ heads′ next′ : List ℕ) (r : ℕ) (F : Family) : Type 0 where
+  pub long : length t′ ≡ length t
+  pub sound : Sound K t′
+  pub indexed : Indexed t′ heads′ next′
+  pub small : r ≤ 65536
+  pub got : r < 65536 → Got K (capacity t) (nodesOf t) false r (nodesOf t′) false F
+  pub full : r ≡ 65536 → Got K (capacity t) (nodesOf t) false 0 (nodesOf t′) true F
+
+-- the node of three words may be made where hi is not 0
+pub record Child (K t : List ℕ) (label lo hi : ℕ) : Type 0 where
+  pub sound : Sound K t
+  pub lo-known : lo < count t + 2
+  pub fine : 0 < hi → Fine K (nodesOf t) (count t) (node label lo hi)
+
+-- what node ensures, whatever the keys
+abbrev pub Noded : List ℕ → List ℕ → List ℕ → List ℕ → ℕ → ℕ → ℕ → ℕ → Type 0
+Noded t t′ heads′ next′ label lo hi r =
+    (K : List ℕ) → Child K t label lo hi → Gives K t t′ heads′ next′ r (join label (family (nodesOf t) hi) (family (nodesOf t) lo))
+
+-- r is known and holds F; or r is 65537, which says nothing
+pub record Answers (ns : List Node) (r : ℕ) (F : Family) : Type 0 where
+  pub known : r < suc (suc (length ns))
+  pub holds : family ns r ≡ F
+
+-- F has its number r in the table t′, which is t with the branch nodes that were missing for it
+pub record Done (K t t′ heads′ next′ : List ℕ) (r : ℕ) (F : Family) : Type 0 where
+  pub grown : Grown K t t′
+  pub indexed : Indexed t′ heads′ next′
+  pub known : r < count t′ + 2
+  pub holds : family (nodesOf t′) r ≡ F
+  pub made : count t′ ≡ count t + missing (nodesOf t) F
+
+-- what an operation that makes F ensures: where what is missing for F exceeds the free places it says 65536 and the table is as before; where it does
+-- not, r is F's number
+pub record Makes (K t t′ heads′ next′ : List ℕ) (r : ℕ) (F : Family) : Type 0 where
+  pub small : r ≤ 65536
+  pub full : r ≡ 65536 → ltb (capacity t - count t) (missing (nodesOf t) F) ≡ true
+  pub same : r ≡ 65536 → t′ ≡ t
+  pub room : r < 65536 → ltb (capacity t - count t) (missing (nodesOf t) F) ≡ false
+  pub done : r < 65536 → Done K t t′ heads′ next′ r F

@@ -1,0 +1,87 @@
+-- The operations, and what their memories hold. Assumes nothing.
+use mathlib.Core.Path.{_≡_}
+use mathlib.Core.Bool.{Bool, true, false, _&&_, _||_}
+use mathlib.Core.List.{List, []}
+use Prim.Native.Nat.{ℕ, zero, suc, _+_, _-_, _*_, _/_, _%_, _<_, _≤_}
+use lib.ListN.{length, getD}
+use Rattle.zdd.specs.Table.{Node, node, blank, Family, join, count, capacity, nodesOf, family, Fine, Nodes, Sound, Keys}
+use Rattle.zdd.specs.Operations.{combine, minus, including, excluding}
+use Rattle.zdd.specs.Work.{Split}
+use Rattle.family.specs.Gives.{Answers}
+
+-- ---- with and without
+
+-- the sets of F with p, or those without it
+abbrev pub restricted : Bool → List ℕ → ℕ → Family → Family
+restricted true K p F = including K p F
+restricted false K p F = excluding K p F
+
+-- what the place of number k holds: 0, or one more than the number of its restriction
+pub record Kept (b : Bool) (K : List ℕ) (p : ℕ) (ns : List Node) (memo : List ℕ) : Type 0 where
+  pub long : length memo ≡ 65536
+  pub place : (k : ℕ) → 0 < getD memo k 0 → k < suc (suc (length ns))
+  pub each : (k : ℕ) → 0 < getD memo k 0 → Answers ns (getD memo k 0 - 1) (restricted b K p (family ns k))
+
+-- the number at once (r is not 65537), or a node whose restriction is to be made
+pub record Soon (b : Bool) (K : List ℕ) (p : ℕ) (ns : List Node) (f r : ℕ) : Type 0 where
+  pub small : r ≤ 65537
+  pub answer : r < 65537 → (r < 65536) × Answers ns r (restricted b K p (family ns f))
+  pub branch : r ≡ 65537 → 2 ≤ f
+  pub own : r ≡ 65537 → getD ns (f - 2) blank .label ≡ p → b ≡ true
+
+-- ---- union, intersection, difference
+
+abbrev pub opOf : ℕ → Bool → Bool → Bool
+opOf zero = _||_
+opOf (suc zero) = _&&_
+opOf (suc (suc n)) = minus
+
+abbrev pub combined : ℕ → List ℕ → Family → Family → Family
+combined op K F G = combine (opOf op) K F G
+
+-- a word of the memory is (f × 65536 + g) × 65536 + r, with f not 0: r is the number of f's and g's combination
+pub record Stored (op : ℕ) (K : List ℕ) (ns : List Node) (memo : List ℕ) : Type 0 where
+  pub long : length memo ≡ 65536
+  pub each : (i f g : ℕ) → getD memo i 0 / 65536 ≡ f * 65536 + g → 0 < f → g < 65536
+      → (f < suc (suc (length ns))) × ((g < suc (suc (length ns))) × Answers ns (getD memo i 0 % 65536) (combined op K (family ns f) (family ns g)))
+
+-- neither is 0, and they are two
+pub record Two (f g : ℕ) : Type 0 where
+  pub some : 0 < f
+  pub other : 0 < g
+  pub differ : f ≡ g → ⊥
+
+-- two numbers of nodes over distinct keys
+pub record Pair (K : List ℕ) (ns : List Node) (f g : ℕ) : Type 0 where
+  pub keys : Keys K
+  pub nodes : Nodes K ns
+  pub few : length ns ≤ 65534
+  pub left : f < suc (suc (length ns))
+  pub right : g < suc (suc (length ns))
+
+-- the number at once (r is not 65537), or two numbers whose combination is to be made
+pub record Ended (op : ℕ) (K : List ℕ) (ns : List Node) (f g r : ℕ) : Type 0 where
+  pub small : r ≤ 65537
+  pub answer : r < 65537 → (r < 65536) × Answers ns r (combined op K (family ns f) (family ns g))
+  pub two : r ≡ 65537 → Two f g
+
+-- what ended ensures, whatever the keys and the nodes
+abbrev pub Ends : ℕ → List ℕ → ℕ → ℕ → ℕ → Type 0
+Ends op memo f g r = (K : List ℕ) (ns : List Node) → Pair K ns f g → Stored op K ns memo → Ended op K ns f g r
+
+-- the key of a number's label, or 2 ^ 32 for 0 and 1
+pub record Top (K : List ℕ) (ns : List Node) (f r : ℕ) : Type 0 where
+  pub end : f < 2 → r ≡ 4294967296
+  pub key-of : 2 ≤ f → (r ≡ getD K (getD ns (f - 2) blank .label) 0) × (r < 4294967296)
+
+-- the parts of f and g at the first label of the two
+pub record Cut (K : List ℕ) (ns : List Node) (f g label f1 g1 f0 g0 : ℕ) : Type 0 where
+  pub label-known : label < length K
+  pub f1-known : f1 < suc (suc (length ns))
+  pub g1-known : g1 < suc (suc (length ns))
+  pub f0-known : f0 < suc (suc (length ns))
+  pub g0-known : g0 < suc (suc (length ns))
+  pub falls1 : f1 + g1 < f + g
+  pub falls0 : f0 + g0 < f + g
+  pub split : (op : Bool → Bool → Bool) → op false false ≡ false
+      → Split K (combine op K (family ns f) (family ns g)) label (combine op K (family ns f1) (family ns g1)) (combine op K (family ns f0) (family ns g0))

@@ -1,0 +1,397 @@
+// Union, intersection, difference, and the sets with and without a label, on a sound table.
+ghost use mathlib.Core.Path.{_≡_};
+ghost use Prim.Native.Nat.{ℕ, suc, _+_, _-_, _*_, _<_, _≤_};
+ghost use lib.ListN.{length, getD, set};
+ghost use Rattle.zdd.specs.Table.{node, blank, count, nodesOf, family, Sound, Keys};
+ghost use Rattle.zdd.specs.Operations.{including, excluding, union, inter, differ};
+ghost use Rattle.table.specs.State.{Indexed};
+ghost use Rattle.family.specs.Gives.{Ready, Gives, Makes, Noded, Answers};
+ghost use Rattle.family.specs.Memo.{restricted, Kept, Soon, combined, Stored, Ends, Two, Top, Cut};
+
+// The number of the node with these three words, found or made: lo where hi is 0; 65536 where there is no room.
+fn make(
+    t: &mut [u32],
+    heads: &mut [u32; 65536],
+    next: &mut [u32; 65536],
+    label: u32,
+    lo: u32,
+    hi: u32,
+) -> u32
+    requires { ⌜ Indexed (now t) (now heads) (now next) ⌝ }
+    ensures { λ r. ⌜ Noded (now (t .entry)) (now (t .exit)) (now (heads .exit)) (now (next .exit)) label lo hi r ⌝ }
+{
+    if hi == 0 {
+        return lo;
+    }
+    let r = table::unique(t, heads, next, label, lo, hi);
+    if r == 0 {
+        return 65536;
+    }
+    r
+}
+
+// The number of f's sets with p (or without p) where it is plain or remembered; 65537 where it is to be made.
+fn soon(t: &[u32], keys: &[u32], memo: &[u32; 65536], p: u32, holding: bool, f: u32) -> u32
+    requires { ⌜ Sound (now keys) (now t) ⌝ }
+    requires { ⌜ Keys (now keys) ⌝ }
+    requires { ⌜ Kept holding (now keys) p (nodesOf (now t)) (now memo) ⌝ }
+    requires { ⌜ (f < count (now t) + 2) × (p < length (now keys)) ⌝ }
+    ensures { λ r. ⌜ Soon holding (now (keys .entry)) p (nodesOf (now (t .entry))) f r ⌝ }
+{
+    if f < 2 {
+        if holding {
+            return 0;
+        }
+        return f;
+    }
+    let k = base::wide(f);
+    let w = 3 * k - 5;
+    let label = t[w];
+    if label == p {
+        if holding {
+            return 65537;
+        }
+        return t[w + 1];
+    }
+    let at = base::wide(label);
+    let own = base::wide(p);
+    if keys[own] < keys[at] {
+        if holding {
+            return 0;
+        }
+        return f;
+    }
+    let e = memo[k];
+    if e != 0 {
+        return e - 1;
+    }
+    65537
+}
+
+// The number of f's sets with p, or of those without p; 65536 where there is no room.
+fn restrict(
+    t: &mut [u32],
+    keys: &[u32],
+    heads: &mut [u32; 65536],
+    next: &mut [u32; 65536],
+    memo: &mut [u32; 65536],
+    p: u32,
+    holding: bool,
+    f: u32,
+) -> u32
+    requires { ⌜ Ready (now keys) (now t) (now heads) (now next) ⌝ }
+    requires { ⌜ Kept holding (now keys) p (nodesOf (now t)) (now memo) ⌝ }
+    requires { ⌜ (f < count (now t) + 2) × (p < length (now keys)) ⌝ }
+    ensures { λ r. ⌜ Gives (now (keys .entry)) (now (t .entry)) (now (t .exit)) (now (heads .exit)) (now (next .exit)) r (restricted holding (now (keys .entry)) p (family (nodesOf (now (t .entry))) f)) ⌝ }
+    ensures { λ r. ⌜ (r < 65536 → Kept holding (now (keys .entry)) p (nodesOf (now (t .exit))) (now (memo .exit))) ⌝ }
+{
+    let known = soon(t, keys, memo, p, holding, f);
+    if known != 65537 {
+        return known;
+    }
+    let k = base::wide(f);
+    let w = 3 * k - 5;
+    let label = t[w];
+    let lo = t[w + 1];
+    let hi = t[w + 2];
+    if label == p {
+        return make(t, heads, next, p, 0, hi);
+    }
+    let h = restrict(t, keys, heads, next, memo, p, holding, hi);
+    if h == 65536 {
+        return 65536;
+    }
+    let l = restrict(t, keys, heads, next, memo, p, holding, lo);
+    if l == 65536 {
+        return 65536;
+    }
+    let r = make(t, heads, next, label, l, h);
+    if r == 65536 {
+        return 65536;
+    }
+    memo[k] = r + 1;
+    r
+}
+
+fn full(x: u32) -> u64
+    ensures { λ r. ⌜ (r ≡ x) × (r < 4294967296) ⌝ }
+{
+    x as u64
+}
+
+// The place of f and g in the memory.
+fn place(f: u32, g: u32) -> usize
+    ensures { λ r. ⌜ r < 65536 ⌝ }
+{
+    (((f as u64) * 40503 + (g as u64) * 69069) % 65536) as usize
+}
+
+// f and g in one number.
+fn pack(f: u32, g: u32) -> u64
+    ensures { λ r. ⌜ r ≡ f * 65536 + g ⌝ }
+{
+    (f as u64) * 65536 + (g as u64)
+}
+
+// The number of f's and g's combination where it is plain or remembered at the place; 65537 where it is to be made.
+fn ended(memo: &[u64; 65536], at: usize, op: u8, f: u32, g: u32) -> u32
+    requires { ⌜ at < 65536 ⌝ }
+    ensures { λ r. ⌜ Ends op (now (memo .entry)) f g r ⌝ }
+{
+    if f == 0 {
+        if op == 0 {
+            return g;
+        }
+        return 0;
+    }
+    if g == 0 {
+        if op == 1 {
+            return 0;
+        }
+        return f;
+    }
+    if f == g {
+        if op < 2 {
+            return f;
+        }
+        return 0;
+    }
+    let e = memo[at];
+    let both = pack(f, g);
+    if e / 65536 == both {
+        return (e % 65536) as u32;
+    }
+    65537
+}
+
+// The key of f's label; 2 ^ 32, later than every key, for 0 and 1.
+fn top(t: &[u32], keys: &[u32], f: u32) -> u64
+    requires { ⌜ Sound (now keys) (now t) ⌝ }
+    requires { ⌜ f < count (now t) + 2 ⌝ }
+    ensures { λ r. ⌜ Top (now (keys .entry)) (nodesOf (now (t .entry))) f r ⌝ }
+{
+    if f < 2 {
+        return 4294967296;
+    }
+    let k = base::wide(f);
+    let at = base::wide(t[3 * k - 5]);
+    full(keys[at])
+}
+
+struct Parts {
+    label: u32,
+    f1: u32,
+    g1: u32,
+    f0: u32,
+    g0: u32,
+}
+
+// f and g by the earlier of their first labels: what they have with it, and what without.
+fn cut(t: &[u32], keys: &[u32], f: u32, g: u32) -> Parts
+    requires { ⌜ Sound (now keys) (now t) ⌝ }
+    requires { ⌜ Keys (now keys) ⌝ }
+    requires { ⌜ (f < count (now t) + 2) × (g < count (now t) + 2) ⌝ }
+    requires { ⌜ Two f g ⌝ }
+    ensures { λ r. ⌜ Cut (now (keys .entry)) (nodesOf (now (t .entry))) f g (r .label) (r .f1) (r .g1) (r .f0) (r .g0) ⌝ }
+{
+    let a = top(t, keys, f);
+    let b = top(t, keys, g);
+    let i = base::wide(f);
+    let j = base::wide(g);
+    if a < b {
+        let v = 3 * i - 5;
+        return Parts {
+            label: t[v],
+            f1: t[v + 2],
+            g1: 0,
+            f0: t[v + 1],
+            g0: g,
+        };
+    }
+    if b < a {
+        let w = 3 * j - 5;
+        return Parts {
+            label: t[w],
+            f1: 0,
+            g1: t[w + 2],
+            f0: f,
+            g0: t[w + 1],
+        };
+    }
+    let v = 3 * i - 5;
+    let w = 3 * j - 5;
+    Parts {
+        label: t[v],
+        f1: t[v + 2],
+        g1: t[w + 2],
+        f0: t[v + 1],
+        g0: t[w + 1],
+    }
+}
+
+// The number of f's and g's union (op 0), intersection (1) or difference (2); 65536 where there is no room.
+fn combine(
+    t: &mut [u32],
+    keys: &[u32],
+    heads: &mut [u32; 65536],
+    next: &mut [u32; 65536],
+    memo: &mut [u64; 65536],
+    op: u8,
+    f: u32,
+    g: u32,
+) -> u32
+    requires { ⌜ Ready (now keys) (now t) (now heads) (now next) ⌝ }
+    requires { ⌜ Stored op (now keys) (nodesOf (now t)) (now memo) ⌝ }
+    requires { ⌜ (f < count (now t) + 2) × (g < count (now t) + 2) ⌝ }
+    ensures { λ r. ⌜ Gives (now (keys .entry)) (now (t .entry)) (now (t .exit)) (now (heads .exit)) (now (next .exit)) r (combined op (now (keys .entry)) (family (nodesOf (now (t .entry))) f) (family (nodesOf (now (t .entry))) g)) ⌝ }
+    ensures { λ r. ⌜ (r < 65536 → Stored op (now (keys .entry)) (nodesOf (now (t .exit))) (now (memo .exit))) ⌝ }
+{
+    let at = place(f, g);
+    let known = ended(memo, at, op, f, g);
+    if known != 65537 {
+        return known;
+    }
+    let c = cut(t, keys, f, g);
+    let h = combine(t, keys, heads, next, memo, op, c.f1, c.g1);
+    if h == 65536 {
+        return 65536;
+    }
+    let l = combine(t, keys, heads, next, memo, op, c.f0, c.g0);
+    if l == 65536 {
+        return 65536;
+    }
+    let r = make(t, heads, next, c.label, l, h);
+    if r == 65536 {
+        return 65536;
+    }
+    memo[at] = pack(f, g) * 65536 + full(r);
+    r
+}
+
+// The number of f's sets with p, or of those without p. Where there is no room it is 65536, and the table is as before.
+fn restriction(
+    t: &mut [u32],
+    keys: &[u32],
+    heads: &mut [u32; 65536],
+    next: &mut [u32; 65536],
+    p: u32,
+    holding: bool,
+    f: u32,
+) -> u32
+    requires { ⌜ Ready (now keys) (now t) (now heads) (now next) ⌝ }
+    requires { ⌜ (f < count (now t) + 2) × (p < length (now keys)) ⌝ }
+    ensures { λ r. ⌜ Makes (now (keys .entry)) (now (t .entry)) (now (t .exit)) (now (heads .exit)) (now (next .exit)) r (restricted holding (now (keys .entry)) p (family (nodesOf (now (t .entry))) f)) ⌝ }
+{
+    let n = t[0];
+    let mut memo = [0u32; 65536];
+    let r = restrict(t, keys, heads, next, &mut memo, p, holding, f);
+    if r == 65536 {
+        table::rollback(t, n);
+        return 65536;
+    }
+    r
+}
+
+// The number of f's and g's union (op 0), intersection (1) or difference (2). Where there is no room it is 65536, and the table is as before.
+fn combination(
+    t: &mut [u32],
+    keys: &[u32],
+    heads: &mut [u32; 65536],
+    next: &mut [u32; 65536],
+    op: u8,
+    f: u32,
+    g: u32,
+) -> u32
+    requires { ⌜ Ready (now keys) (now t) (now heads) (now next) ⌝ }
+    requires { ⌜ (f < count (now t) + 2) × (g < count (now t) + 2) ⌝ }
+    ensures { λ r. ⌜ Makes (now (keys .entry)) (now (t .entry)) (now (t .exit)) (now (heads .exit)) (now (next .exit)) r (combined op (now (keys .entry)) (family (nodesOf (now (t .entry))) f) (family (nodesOf (now (t .entry))) g)) ⌝ }
+{
+    let n = t[0];
+    let mut memo = [0u64; 65536];
+    let r = combine(t, keys, heads, next, &mut memo, op, f, g);
+    if r == 65536 {
+        table::rollback(t, n);
+        return 65536;
+    }
+    r
+}
+
+// The number of f's sets with p. Where there is no room it is 65536, and the table is as before.
+pub fn sets_with(
+    t: &mut [u32],
+    keys: &[u32],
+    heads: &mut [u32; 65536],
+    next: &mut [u32; 65536],
+    p: u32,
+    f: u32,
+) -> u32
+    requires { ⌜ Ready (now keys) (now t) (now heads) (now next) ⌝ }
+    requires { ⌜ (f < count (now t) + 2) × (p < length (now keys)) ⌝ }
+    ensures { λ r. ⌜ Makes (now (keys .entry)) (now (t .entry)) (now (t .exit)) (now (heads .exit)) (now (next .exit)) r (including (now (keys .entry)) p (family (nodesOf (now (t .entry))) f)) ⌝ }
+{
+    restriction(t, keys, heads, next, p, true, f)
+}
+
+// The number of f's sets without p. Where there is no room it is 65536, and the table is as before.
+pub fn sets_without(
+    t: &mut [u32],
+    keys: &[u32],
+    heads: &mut [u32; 65536],
+    next: &mut [u32; 65536],
+    p: u32,
+    f: u32,
+) -> u32
+    requires { ⌜ Ready (now keys) (now t) (now heads) (now next) ⌝ }
+    requires { ⌜ (f < count (now t) + 2) × (p < length (now keys)) ⌝ }
+    ensures { λ r. ⌜ Makes (now (keys .entry)) (now (t .entry)) (now (t .exit)) (now (heads .exit)) (now (next .exit)) r (excluding (now (keys .entry)) p (family (nodesOf (now (t .entry))) f)) ⌝ }
+{
+    restriction(t, keys, heads, next, p, false, f)
+}
+
+// The number of the sets in f or in g. Where there is no room it is 65536, and the table is as before.
+pub fn union(
+    t: &mut [u32],
+    keys: &[u32],
+    heads: &mut [u32; 65536],
+    next: &mut [u32; 65536],
+    f: u32,
+    g: u32,
+) -> u32
+    requires { ⌜ Ready (now keys) (now t) (now heads) (now next) ⌝ }
+    requires { ⌜ (f < count (now t) + 2) × (g < count (now t) + 2) ⌝ }
+    ensures { λ r. ⌜ Makes (now (keys .entry)) (now (t .entry)) (now (t .exit)) (now (heads .exit)) (now (next .exit)) r (union (now (keys .entry)) (family (nodesOf (now (t .entry))) f) (family (nodesOf (now (t .entry))) g)) ⌝ }
+{
+    combination(t, keys, heads, next, 0, f, g)
+}
+
+// The number of the sets in f and in g. Where there is no room it is 65536, and the table is as before.
+pub fn intersection(
+    t: &mut [u32],
+    keys: &[u32],
+    heads: &mut [u32; 65536],
+    next: &mut [u32; 65536],
+    f: u32,
+    g: u32,
+) -> u32
+    requires { ⌜ Ready (now keys) (now t) (now heads) (now next) ⌝ }
+    requires { ⌜ (f < count (now t) + 2) × (g < count (now t) + 2) ⌝ }
+    ensures { λ r. ⌜ Makes (now (keys .entry)) (now (t .entry)) (now (t .exit)) (now (heads .exit)) (now (next .exit)) r (inter (now (keys .entry)) (family (nodesOf (now (t .entry))) f) (family (nodesOf (now (t .entry))) g)) ⌝ }
+{
+    combination(t, keys, heads, next, 1, f, g)
+}
+
+// The number of the sets in f and not in g. Where there is no room it is 65536, and the table is as before.
+pub fn difference(
+    t: &mut [u32],
+    keys: &[u32],
+    heads: &mut [u32; 65536],
+    next: &mut [u32; 65536],
+    f: u32,
+    g: u32,
+) -> u32
+    requires { ⌜ Ready (now keys) (now t) (now heads) (now next) ⌝ }
+    requires { ⌜ (f < count (now t) + 2) × (g < count (now t) + 2) ⌝ }
+    ensures { λ r. ⌜ Makes (now (keys .entry)) (now (t .entry)) (now (t .exit)) (now (heads .exit)) (now (next .exit)) r (differ (now (keys .entry)) (family (nodesOf (now (t .entry))) f) (family (nodesOf (now (t .entry))) g)) ⌝ }
+{
+    combination(t, keys, heads, next, 2, f, g)
+}

@@ -1,0 +1,2 @@
+-- Laws of the first refusals, for the public calls.
+pub mod GuardLaws

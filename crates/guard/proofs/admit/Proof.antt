@@ -1,0 +1,56 @@
+use borrow.Author.Tests.{not-true, not-false}
+use mathlib.Core.Path.{sym, ap, _∙_}
+use lib.ListN.{length}
+use native.Mathlib.Omega.{arith}
+use Rattle.exact_cover.proofs.Order.{length-keys}
+use Rattle.guard.proofs.GuardLaws.{admitted-packages, rows, admitted-spoilt, admitted-sound}
+use borrow.Author.Needs.{needs}
+use Rattle.guard.proofs.admit.Statement.{statement}
+use Rattle.guard.proofs.admit.Tie as tie
+
+packages-refusal-requires : tie.Need-packages-refusal-requires
+packages-refusal-requires c κs = search needs
+
+returns : tie.Need-returns
+returns c = admitted-packages (c .before .before .before .before .before .args .packages .now) (c .before .before .before .before .before .args .m) (c .before .packages-refusal .result) (c .before .packages-refusal .ensures) (c .if1 .taken)
+
+keys-requires : tie.Need-keys-requires
+keys-requires c κs = (rows (c .before .before .before .before .before .before .args .packages .now) (c .before .before .before .before .before .before .args .m) (sym (c .before .before .packages-refusal .ensures) ∙ c .before .if1 .left), c .before .before .before .before .before .before .pre .keys-long)
+
+slice-reshare-prefix-check : tie.Need-slice-reshare-prefix-check
+slice-reshare-prefix-check c = omega (arith, rows (c .before .before .before .before .before .before .before .before .before .args .packages .now) (c .before .before .before .before .before .before .before .before .before .args .m) (sym (c .before .before .before .before .before .packages-refusal .ensures) ∙ c .before .before .before .before .if1 .left) .few, c .before .before .keys .ensures .long)
+
+slice-aggregate-check : tie.Need-slice-aggregate-check
+slice-aggregate-check c = sym (ap length (c .before .before .before .keys .ensures .are) ∙ length-keys (c .before .before .before .before .before .before .before .before .before .before .args .packages .now))
+
+check-requires : tie.Need-check-requires
+check-requires c κs = c .before .before .before .before .before .before .before .before .before .before .before .before .pre .index
+
+same-length : tie.Need-same-length
+same-length c = search needs
+
+returns-2 : tie.Need-returns-2
+returns-2 c = admitted-spoilt (c .before .before .before .before .before .before .before .before .before .before .before .before .before .before .args .packages .now) (c .before .before .before .before .before .before .before .before .before .before .before .before .before .before .args .m) (sym (c .before .before .before .before .before .before .before .before .before .before .packages-refusal .ensures) ∙ c .before .before .before .before .before .before .before .before .before .if1 .left)
+    (rw (c .before .before .before .before .before .before .before .keys .ensures .are) at (c .before .check .ensures)) (not-true _ (c .if2 .taken))
+
+same-length-2 : tie.Need-same-length-2
+same-length-2 c = search needs
+
+returns-3 : tie.Need-returns-3
+returns-3 c = admitted-sound (c .before .before .before .before .before .before .before .before .before .before .before .before .before .before .args .packages .now) (c .before .before .before .before .before .before .before .before .before .before .before .before .before .before .args .m) (sym (c .before .before .before .before .before .before .before .before .before .before .packages-refusal .ensures) ∙ c .before .before .before .before .before .before .before .before .before .if1 .left)
+    (c .before .before .before .before .before .before .before .keys .ensures) (rw (c .before .before .before .before .before .before .before .keys .ensures .are) at (c .before .check .ensures)) (not-false _ (c .if2 .left))
+
+pub admit-spec : {M : Type 1} → statement M
+admit-spec =
+    tie.close
+    (tie.spec
+    packages-refusal-requires
+    returns
+    keys-requires
+    slice-reshare-prefix-check
+    slice-aggregate-check
+    check-requires
+    same-length
+    returns-2
+    same-length-2
+    returns-3)

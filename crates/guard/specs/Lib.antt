@@ -1,0 +1,2 @@
+-- What the contracts of guard cite.
+pub mod Admitted

@@ -1,0 +1,66 @@
+// Refusals 1, 2 and 4, which every call tests first; and with them the keys of the packages and the index of the nodes.
+ghost use mathlib.Core.Path.{_≡_};
+ghost use mathlib.Core.Bool.{not};
+ghost use mathlib.Core.List.{[], _∷_};
+ghost use Prim.Native.Nat.{_≤_};
+ghost use Rattle.statement.specs.Refusals.{firstOf, oversize, stray};
+ghost use Rattle.guard.specs.Admitted.{Blank, Admitted};
+
+// Whether no package is empty and none has an item of m or above.
+fn clean(m: u32, packages: &[u64]) -> bool
+    requires { ⌜ m ≤ 64 ⌝ }
+    ensures { λ r. ⌜ r ≡ not (stray m (now (packages .entry))) ⌝ }
+{
+    let mut k: usize = 0;
+    while k < packages.len() {
+        let x = packages[k];
+        if x == 0 {
+            return false;
+        }
+        if !itemset::below(x, m) {
+            return false;
+        }
+        k += 1;
+    }
+    true
+}
+
+// Refusal 1 or 2; 0 for neither.
+fn packages_refusal(m: u32, packages: &[u64]) -> u8
+    ensures { λ r. ⌜ r ≡ firstOf ((oversize m (now (packages .entry)), 1) ∷ (stray m (now (packages .entry)), 2) ∷ []) ⌝ }
+{
+    if m > 64 {
+        return 1;
+    }
+    if packages.len() > 512 {
+        return 1;
+    }
+    if !clean(m, packages) {
+        return 2;
+    }
+    0
+}
+
+// Refusal 1, 2 or 4; 0 where none applies, and then the keys and the index are ready.
+pub fn admit(
+    m: u32,
+    packages: &[u64],
+    t: &[u32],
+    keys: &mut [u32],
+    heads: &mut [u32; 65536],
+    next: &mut [u32; 65536],
+) -> u8
+    requires { ⌜ Blank (now keys) (now heads) (now next) ⌝ }
+    ensures { λ r. ⌜ Admitted (now (packages .entry)) m (now (t .entry)) (now (keys .exit)) (now (heads .exit)) (now (next .exit)) r ⌝ }
+{
+    let r = packages_refusal(m, packages);
+    if r != 0 {
+        return r;
+    }
+    exact_cover::keys(packages, keys);
+    let n = packages.len();
+    if !table::check(t, &keys[..n], heads, next) {
+        return 4;
+    }
+    0
+}

@@ -1,0 +1,3 @@
+-- The third demand, and a history that meets its hypotheses.
+pub mod Demand
+mod Inhabited

@@ -1,0 +1,2 @@
+-- Histories of calls, and the third demand.
+pub mod Histories

@@ -1,0 +1,1 @@
+// The third demand: definitions in specs/Histories, the theorem in proofs/Demand.

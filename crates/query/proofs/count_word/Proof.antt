@@ -1,0 +1,61 @@
+use Rattle.query.proofs.CountWords.{word-one, read-hi, read-both}
+use Rattle.query.proofs.Parts.{parts, branch}
+use Rattle.query.specs.Reading.{countWord}
+use native.Mathlib.Omega.{arith}
+use mathlib.Core.Path.{sym, ap, _∙_}
+use borrow.Author.Needs.{needs}
+use Rattle.query.proofs.count_word.Statement.{statement}
+use Rattle.query.proofs.count_word.Tie as tie
+
+returns : tie.Need-returns
+returns c = sym (ap (countWord (c .before .before .before .args .t .now)) (c .if1 .taken) ∙ word-one (c .before .before .before .args .t .now))
+
+hi-requires : tie.Need-hi-requires
+hi-requires c κs = branch (c .before .before .before .pre .0) (c .before .before .before .args .k) (omega arith) (c .before .before .before .pre .1 .0 .1)
+
+lo-requires : tie.Need-lo-requires
+lo-requires c κs = branch (c .before .before .before .before .pre .0) (c .before .before .before .before .args .k) (omega arith) (c .before .before .before .before .pre .1 .0 .1)
+
+mul-result : tie.Need-mul-result
+mul-result c = let P = parts (c .before .before .before .before .before .before .pre .0) (c .before .before .before .before .before .before .args .k) (omega arith) (c .before .before .before .before .before .before .pre .1 .0 .1) in omega (arith, c .before .before .hi .ensures, P .hi-below, c .before .before .before .before .before .before .pre .1 .1 .room)
+
+shared-slice-read-result : tie.Need-shared-slice-read-result
+shared-slice-read-result c = let P = parts (c .before .before .before .before .before .before .before .pre .0) (c .before .before .before .before .before .before .before .args .k) (omega arith) (c .before .before .before .before .before .before .before .pre .1 .0 .1) in omega (arith, c .before .before .before .hi .ensures, P .hi-below, c .before .before .before .before .before .before .before .pre .1 .1 .room)
+
+returns-2 : tie.Need-returns-2
+returns-2 c = read-hi (c .before .before .before .before .before .before .before .pre .0) (c .before .before .before .before .before .before .before .args .k) (omega arith) (c .before .before .before .before .before .before .before .pre .1 .0 .1) (c .before .before .before .before .before .before .before .args .work .now) (c .before .before .before .before .before .before .before .pre .1 .1) (c .before .before .before .hi .result) (c .before .before .lo .result) (c .before .before .before .hi .ensures) (c .before .before .lo .ensures) (c .before .if2 .taken)
+
+mul-plus : tie.Need-mul-plus
+mul-plus c = let P = parts (c .before .before .before .before .before .before .pre .0) (c .before .before .before .before .before .before .args .k) (omega arith) (c .before .before .before .before .before .before .pre .1 .0 .1) in omega (arith, c .before .before .hi .ensures, P .hi-below, c .before .before .before .before .before .before .pre .1 .1 .room)
+
+shared-slice-read-plus : tie.Need-shared-slice-read-plus
+shared-slice-read-plus c = let P = parts (c .before .before .before .before .before .before .before .pre .0) (c .before .before .before .before .before .before .before .args .k) (omega arith) (c .before .before .before .before .before .before .before .pre .1 .0 .1) in omega (arith, c .before .before .before .hi .ensures, P .hi-below, c .before .before .before .before .before .before .before .pre .1 .1 .room)
+
+mul-plus-2 : tie.Need-mul-plus-2
+mul-plus-2 c = let P = parts (c .before .before .before .before .before .before .before .pre .0) (c .before .before .before .before .before .before .before .args .k) (omega arith) (c .before .before .before .before .before .before .before .pre .1 .0 .1) in omega (arith, c .before .before .lo .ensures, P .lo-below, c .before .before .before .before .before .before .before .pre .1 .1 .room)
+
+shared-slice-read-plus-2 : tie.Need-shared-slice-read-plus-2
+shared-slice-read-plus-2 c = let P = parts (c .before .before .before .before .before .before .before .before .pre .0) (c .before .before .before .before .before .before .before .before .args .k) (omega arith) (c .before .before .before .before .before .before .before .before .pre .1 .0 .1) in omega (arith, c .before .before .before .lo .ensures, P .lo-below, c .before .before .before .before .before .before .before .before .pre .1 .1 .room)
+
+plus-requires : tie.Need-plus-requires
+plus-requires c κs = search needs
+
+returns-3 : tie.Need-returns-3
+returns-3 c = read-both (c .before .before .before .before .before .before .before .before .before .pre .0) (c .before .before .before .before .before .before .before .before .before .args .k) (omega arith) (c .before .before .before .before .before .before .before .before .before .pre .1 .0 .1) (c .before .before .before .before .before .before .before .before .before .args .work .now) (c .before .before .before .before .before .before .before .before .before .pre .1 .1) (c .before .before .before .before .before .hi .result) (c .before .before .before .before .lo .result) (c .plus .result) (c .before .before .before .before .before .hi .ensures) (c .before .before .before .before .lo .ensures) (omega arith) (c .plus .ensures)
+
+pub count-word-spec : {M : Type 1} → statement M
+count-word-spec =
+    tie.close
+    (tie.spec
+    returns
+    hi-requires
+    lo-requires
+    mul-result
+    shared-slice-read-result
+    returns-2
+    mul-plus
+    shared-slice-read-plus
+    mul-plus-2
+    shared-slice-read-plus-2
+    plus-requires
+    returns-3)

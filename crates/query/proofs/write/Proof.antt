@@ -1,0 +1,94 @@
+use Rattle.query.proofs.Pages.{Page, page-start, page-room, page-more, page-end}
+use Rattle.query.proofs.Walks.{Walk, walk-start, walk-end, walk-inside, here, walk-hi, walk-lo}
+use Rattle.query.proofs.Parts.{branch}
+use Rattle.query.specs.Questions.{familyAt, nth}
+use native.Mathlib.Omega.{arith}
+use Prim.Native.Nat.{_-_, _≤_}
+use borrow.Author.Needs.{needs}
+use Rattle.query.proofs.write.Statement.{statement}
+use Rattle.query.proofs.write.Tie as tie
+
+abbrev Inv-loop : tie.InvT-loop
+Inv-loop t a k work page₀ node₀ left₀ n₀ page node left n = Walk t a node left n × (left ≤ k) × Page (nth (familyAt t a) k) page₀ page n (nth (familyAt t node) left)
+
+abbrev μ-loop : tie.MeasureT-loop
+μ-loop t a k work page₀ node₀ left₀ n₀ page node left n = node
+
+loop-holds : tie.Need-loop-holds Inv-loop μ-loop
+loop-holds c = (walk-start (c .before .before .before .args .t .now) (c .before .before .before .args .a) (c .before .before .before .args .k) (c .before .before .before .pre .1 .0 .0) (c .before .before .before .pre .1 .0 .1), omega arith, page-start (nth (familyAt (c .before .before .before .args .t .now) (c .before .before .before .args .a)) (c .before .before .before .args .k)) (c .before .before .before .args .page .now) (c .before .before .before .pre .1 .1 .1))
+
+hi-requires : tie.Need-hi-requires Inv-loop μ-loop
+hi-requires c κs = branch (c .before .before .before .before .before .pre .0) (c .before .loop .node) (walk-inside (c .before .loop .inv .0) (c .if1 .left)) (omega (arith, c .before .loop .inv .0 .short, c .before .loop .inv .0 .known))
+
+mul-c : tie.Need-mul-c Inv-loop μ-loop
+mul-c c = let P = here (c .before .before .before .before .before .before .pre .0) (c .before .before .loop .inv .0) (walk-inside (c .before .before .loop .inv .0) (c .before .if1 .left)) (c .before .before .before .before .before .before .args .work .now) (c .before .before .before .before .before .before .pre .1 .1 .0) in omega (arith, P .hi-below, c .hi .ensures, c .before .before .loop .inv .0 .short, c .before .before .before .before .before .before .pre .1 .1 .0 .room)
+
+shared-slice-read-c : tie.Need-shared-slice-read-c Inv-loop μ-loop
+shared-slice-read-c c = let P = here (c .before .before .before .before .before .before .before .pre .0) (c .before .before .before .loop .inv .0) (walk-inside (c .before .before .before .loop .inv .0) (c .before .before .if1 .left)) (c .before .before .before .before .before .before .before .args .work .now) (c .before .before .before .before .before .before .before .pre .1 .1 .0) in omega (arith, P .hi-below, c .before .hi .ensures, c .before .before .before .loop .inv .0 .short, c .before .before .before .before .before .before .before .pre .1 .1 .0 .room)
+
+label-requires : tie.Need-label-requires Inv-loop μ-loop
+label-requires c κs = branch (c .before .before .before .before .before .before .before .before .pre .0) (c .before .before .before .before .loop .node) (walk-inside (c .before .before .before .before .loop .inv .0) (c .before .before .before .if1 .left)) (omega (arith, c .before .before .before .before .loop .inv .0 .short, c .before .before .before .before .loop .inv .0 .known))
+
+cast-page : tie.Need-cast-page Inv-loop μ-loop
+cast-page c = let P = here (c .before .before .before .before .before .before .before .before .before .pre .0) (c .before .before .before .before .before .loop .inv .0) (walk-inside (c .before .before .before .before .before .loop .inv .0) (c .before .before .before .before .if1 .left)) (c .before .before .before .before .before .before .before .before .before .args .work .now) (c .before .before .before .before .before .before .before .before .before .pre .1 .1 .0) in omega (arith, P .label-small, c .label .ensures)
+
+mul-page : tie.Need-mul-page Inv-loop μ-loop
+mul-page c = omega (arith, c .before .before .before .before .before .loop .inv .0 .short, c .before .before .before .before .before .loop .inv .0 .known, c .before .before .before .before .before .before .before .before .before .pre .0 .sound .few)
+
+slice-write-page : tie.Need-slice-write-page Inv-loop μ-loop
+slice-write-page c = let d = walk-hi (c .before .before .before .before .before .before .before .before .before .pre .0) (c .before .before .before .before .before .loop .inv .0) (walk-inside (c .before .before .before .before .before .loop .inv .0) (c .before .before .before .before .if1 .left)) (c .before .before .before .before .before .before .before .before .before .args .work .now) (c .before .before .before .before .before .before .before .before .before .pre .1 .1 .0) (c .before .before .before .hi .result) (c .before .before .before .hi .ensures) (c .before .if2 .taken) in let r = page-room (rw (d .taken) at (c .before .before .before .before .before .loop .inv .2)) in omega arith
+
+add-n : tie.Need-add-n Inv-loop μ-loop
+add-n c = let i = (walk-inside (c .before .before .before .before .before .loop .inv .0) (c .before .before .before .before .if1 .left)) in omega (arith, c .before .before .before .before .before .loop .inv .0 .short)
+
+loop-less : tie.Need-loop-less Inv-loop μ-loop
+loop-less c = let P = here (c .before .before .before .before .before .before .before .before .before .pre .0) (c .before .before .before .before .before .loop .inv .0) (walk-inside (c .before .before .before .before .before .loop .inv .0) (c .before .before .before .before .if1 .left)) (c .before .before .before .before .before .before .before .before .before .args .work .now) (c .before .before .before .before .before .before .before .before .before .pre .1 .1 .0) in omega (arith, P .hi-below, c .before .before .before .hi .ensures)
+
+loop-again : tie.Need-loop-again Inv-loop μ-loop
+loop-again c = let d = walk-hi (c .before .before .before .before .before .before .before .before .before .pre .0) (c .before .before .before .before .before .loop .inv .0) (walk-inside (c .before .before .before .before .before .loop .inv .0) (c .before .before .before .before .if1 .left)) (c .before .before .before .before .before .before .before .before .before .args .work .now) (c .before .before .before .before .before .before .before .before .before .pre .1 .1 .0) (c .before .before .before .hi .result) (c .before .before .before .hi .ensures) (c .before .if2 .taken) in (d .next, c .before .before .before .before .before .loop .inv .1, rw (c .label .ensures) (page-more (rw (d .taken) at (c .before .before .before .before .before .loop .inv .2))))
+
+sub-left : tie.Need-sub-left Inv-loop μ-loop
+sub-left c = search needs
+
+sub-left-2 : tie.Need-sub-left-2 Inv-loop μ-loop
+sub-left-2 c = search needs
+
+lo-requires : tie.Need-lo-requires Inv-loop μ-loop
+lo-requires c κs = branch (c .before .before .before .before .before .before .before .before .pre .0) (c .before .before .before .before .loop .node) (walk-inside (c .before .before .before .before .loop .inv .0) (c .before .before .before .if1 .left)) (omega (arith, c .before .before .before .before .loop .inv .0 .short, c .before .before .before .before .loop .inv .0 .known))
+
+loop-less-2 : tie.Need-loop-less-2 Inv-loop μ-loop
+loop-less-2 c = let P = here (c .before .before .before .before .before .before .before .before .before .pre .0) (c .before .before .before .before .before .loop .inv .0) (walk-inside (c .before .before .before .before .before .loop .inv .0) (c .before .before .before .before .if1 .left)) (c .before .before .before .before .before .before .before .before .before .args .work .now) (c .before .before .before .before .before .before .before .before .before .pre .1 .1 .0) in omega (arith, P .lo-below, c .lo .ensures)
+
+loop-again-2 : tie.Need-loop-again-2 Inv-loop μ-loop
+loop-again-2 c = let d = walk-lo (c .before .before .before .before .before .before .before .before .before .pre .0) (c .before .before .before .before .before .loop .inv .0) (walk-inside (c .before .before .before .before .before .loop .inv .0) (c .before .before .before .before .if1 .left)) (c .before .before .before .before .before .before .before .before .before .args .work .now) (c .before .before .before .before .before .before .before .before .before .pre .1 .1 .0) (c .before .before .before .hi .result) (c .lo .result) (c .before .before .before .hi .ensures) (c .lo .ensures) (omega (arith, c .before .before .before .before .before .before .before .before .before .fits .k .fits, c .before .before .before .before .before .loop .inv .1)) (c .before .if2 .left) in (d .next, omega (arith, c .before .before .before .before .before .loop .inv .1), rw (d .left) at (c .before .before .before .before .before .loop .inv .2))
+
+same-length : tie.Need-same-length Inv-loop μ-loop
+same-length c = c .before .loop .inv .2 .long
+
+returns : tie.Need-returns Inv-loop μ-loop
+returns c = let e = page-end (rw (walk-end (c .before .loop .inv .0) (c .if1 .taken)) at (c .before .loop .inv .2)) in (e .many, c .before .before .before .before .before .pre .1 .1 .1, e .pages)
+
+pub write-spec : {M : Type 1} → statement M
+write-spec =
+    tie.close
+    (tie.spec
+    Inv-loop
+    μ-loop
+    loop-holds
+    hi-requires
+    mul-c
+    shared-slice-read-c
+    label-requires
+    cast-page
+    mul-page
+    slice-write-page
+    add-n
+    loop-less
+    loop-again
+    sub-left
+    sub-left-2
+    lo-requires
+    loop-less-2
+    loop-again-2
+    same-length
+    returns)

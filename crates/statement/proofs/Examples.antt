@@ -1,0 +1,25 @@
+-- THEOREM: document 01's examples P1 to P8, by computation from the definitions. Assumes nothing.
+use mathlib.Core.Path.{refl}
+use Rattle.itemset.specs.Items.{holds, insideb, without, belowb, size, lowest}
+use Rattle.zdd.specs.Table.{nodesOf, capacity, families, order, allSets, sets, filter, soundb, eqSet}
+use Rattle.zdd.specs.Branches.{starting, others, weight, branchesTo, branches, eqFamily, amongb, fresh, missing}
+use Rattle.exact_cover.specs.Cover.{keysFrom, keysOf, holders, allInside, once, covers, covering, fits, down, candidates}
+use Rattle.exact_cover.specs.Steps.{each, visit, steps}
+use Rattle.statement.specs.Refusals.{firstOf, oversize, stray, unsound, unknownItem, shortWork, spent, full, coverRefusal}
+use Rattle.statement.specs.Examples.{PaperExamples}
+
+pub paper-examples : PaperExamples
+unfolding holds insideb without belowb size lowest nodesOf capacity families order allSets sets filter soundb eqSet starting others weight branchesTo branches eqFamily amongb fresh missing keysFrom keysOf holders allInside once covers covering fits down candidates each visit steps firstOf oversize stray unsound unknownItem shortWork spent full coverRefusal
+paper-examples = record {
+  p1 = refl;
+  p2 = refl;
+  p3 = refl;
+  p4 = refl;
+  p5 = refl;
+  p6 = refl;
+  p7-needs = refl;
+  p7-answers = refl;
+  p7-full = refl;
+  p8-answers = refl;
+  p8-spent = refl;
+}

@@ -1,0 +1,11 @@
+-- Theorems about the statement alone.
+pub mod FirstOf
+pub mod TestLaws
+pub mod Kept
+pub mod Determined
+pub mod Undo
+pub mod Counts
+pub mod Cheapest
+pub mod Full
+pub mod Kiosk
+mod Examples

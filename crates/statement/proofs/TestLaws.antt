@@ -1,0 +1,97 @@
+-- What each test of `specs/Refusals.antt` says where the facts are known, and what a call replies whose refusal is known. Assumes nothing.
+use mathlib.Core.Path.{_≡_, refl, sym, ap, _∙_}
+use mathlib.Core.Bool.{Bool, true, false, not, _||_}
+use mathlib.Core.List.{List}
+use Prim.Native.Nat.{ℕ, zero, suc, _+_, _≤_, _<_}
+use lib.Dec.{eqb}
+use lib.ListN.{length}
+use borrow.Author.Tests.{lt-ltb, le-ltb, le-leb, lt-leb, eq-eqb, ne-eqb}
+use Rattle.zdd.specs.Table.{Family, count}
+use Rattle.query.specs.Questions.{unknownPackage}
+use Rattle.statement.specs.Replies.{Reply, refused, gives, reply}
+use Rattle.statement.specs.Refusals.{unpriced, unknownAnswer, shortWork, uncountable, pastEnd, nothing, shortPage}
+
+-- ---- replies
+
+-- the refusal is n, and n is said
+pub reply-refused : {A : Type 0} {k : ℕ} (n : ℕ) (v : A) → k ≡ n → (n ≡ 0 → ⊥) → refused n ≡ reply k v
+reply-refused zero v e f = absurd (f refl)
+reply-refused (suc n) v e f = sym (ap (λ (i : ℕ). reply i v) e)
+
+-- there is none, and the values are given
+pub reply-gives : {A : Type 0} {k : ℕ} (v : A) → k ≡ 0 → gives v ≡ reply k v
+reply-gives v e = sym (ap (λ (i : ℕ). reply i v) e)
+
+-- ---- 3
+
+pub all-priced : (S C : List ℕ) → length C ≡ length S → unpriced S C ≡ false
+unfolding unpriced
+all-priced S C e = ap not (eq-eqb (length C) (length S) e)
+
+pub not-priced : (S C : List ℕ) → (length C ≡ length S → ⊥) → unpriced S C ≡ true
+unfolding unpriced
+not-priced S C f = ap not (ne-eqb (length C) (length S) f)
+
+-- ---- 5
+
+pub answer-known : (t : List ℕ) (a : ℕ) → a < count t + 2 → unknownAnswer t a ≡ false
+unfolding unknownAnswer
+answer-known t a h = lt-leb (count t + 2) a h
+
+pub answer-unknown : (t : List ℕ) (a : ℕ) → count t + 2 ≤ a → unknownAnswer t a ≡ true
+unfolding unknownAnswer
+answer-unknown t a h = le-leb (count t + 2) a h
+
+-- ---- 6
+
+pub package-known : (S : List ℕ) (p : ℕ) → p < length S → unknownPackage S p ≡ false
+unfolding unknownPackage
+package-known S p h = lt-leb (length S) p h
+
+pub package-unknown : (S : List ℕ) (p : ℕ) → length S ≤ p → unknownPackage S p ≡ true
+unfolding unknownPackage
+package-unknown S p h = le-leb (length S) p h
+
+-- ---- 8
+
+pub enough : (least words : ℕ) → least ≤ words → shortWork least words ≡ false
+unfolding shortWork
+enough least words h = le-ltb words least h
+
+pub too-few : (least words : ℕ) → words < least → shortWork least words ≡ true
+unfolding shortWork
+too-few least words h = lt-ltb words least h
+
+-- ---- 11, 12, 13, 15
+
+pub countable : (F : Family) → length F ≤ 18446744073709551615 → uncountable F ≡ false
+unfolding uncountable
+countable F h = le-ltb 18446744073709551615 (length F) h
+
+pub too-many : (F : Family) → 18446744073709551615 < length F → uncountable F ≡ true
+unfolding uncountable
+too-many F h = lt-ltb 18446744073709551615 (length F) h
+
+pub not-past : (F : Family) (k : ℕ) → k < length F → pastEnd F k ≡ false
+unfolding pastEnd
+not-past F k h = lt-leb (length F) k h
+
+pub past : (F : Family) (k : ℕ) → length F ≤ k → pastEnd F k ≡ true
+unfolding pastEnd
+past F k h = le-leb (length F) k h
+
+pub something : (a : ℕ) → (a ≡ 0 → ⊥) → nothing a ≡ false
+unfolding nothing
+something a f = ne-eqb a 0 f
+
+pub is-nothing : (a : ℕ) → a ≡ 0 → nothing a ≡ true
+unfolding nothing
+is-nothing a e = eq-eqb a 0 e
+
+pub page-fits : (page s : List ℕ) → length s ≤ length page → shortPage page s ≡ false
+unfolding shortPage
+page-fits page s h = le-ltb (length page) (length s) h
+
+pub page-short : (page s : List ℕ) → length page < length s → shortPage page s ≡ true
+unfolding shortPage
+page-short page s h = lt-ltb (length page) (length s) h

@@ -1,0 +1,6 @@
+-- What the public calls promise: `Replies` (what each answer means), `Refusals` (when a call is refused), `Postconditions` (one record for each call).
+pub mod Replies
+pub mod Refusals
+pub mod Postconditions
+pub mod Examples
+pub mod Kiosk

@@ -1,0 +1,116 @@
+-- The contracts: for each public call one record, which its `ensures` cites and which determines the result, the table and the page. Free are the
+-- working words after the call and which number a new node gets. Arguments: S the packages, m is M, t and t′ the table's words before and after,
+-- `words` the number of working words, r what the call returns, page and page′ the page before and after. No call has a `requires`. Assumes nothing.
+use mathlib.Core.Path.{_≡_}
+use mathlib.Core.Bool.{true}
+use mathlib.Core.List.{List, [], _∷_, _++_}
+use Prim.Native.Nat.{ℕ, zero, suc, _+_, _/_, _<_}
+use lib.ListN.{length, take, drop}
+use Rattle.zdd.specs.Table.{Family, count, nodesOf, soundb}
+use Rattle.zdd.specs.Operations.{union, inter, differ, including, excluding}
+use Rattle.zdd.specs.Branches.{missing}
+use Rattle.exact_cover.specs.Cover.{keysOf, covering}
+use Rattle.exact_cover.specs.Steps.{steps}
+use Rattle.statement.specs.declared.Report.{Report}
+use Rattle.statement.specs.declared.Soundness.{Soundness}
+use Rattle.statement.specs.declared.Counted.{Counted}
+use Rattle.statement.specs.declared.Picked.{Picked}
+use Rattle.statement.specs.declared.Placed.{Placed}
+use Rattle.statement.specs.declared.Priced.{Priced}
+use Rattle.statement.specs.Replies.{Reply, refused, gives, reply, outcomeReply, soundnessReply, countReply, pickReply, placeReply, cheapestReply}
+use Rattle.query.specs.Questions.{familyAt, nth, position, cost, cheapest}
+use Rattle.statement.specs.Refusals.{checkRefusal, coverRefusal, pairRefusal, packageRefusal, countRefusal, pickRefusal, placeRefusal, cheapestRefusal}
+
+-- ---- the calls that make an answer: cover, either, both, only, with, without
+
+-- the call is refused with the number n: 0 steps, no node made, and the table is as before
+pub record Declined (n : ℕ) (t : List ℕ) (r : Report) (t′ : List ℕ) : Type 0 where
+  pub outcome : outcomeReply (r .outcome) ≡ refused n
+  pub steps : r .steps ≡ 0
+  pub made : r .made ≡ 0
+  pub table : t′ ≡ t
+
+-- the call answers, and its answer holds the family F after s steps
+pub record Answered (K : List ℕ) (F : Family) (s : ℕ) (t : List ℕ) (r : Report) (t′ : List ℕ) : Type 0 where
+  -- the answer's number, one that the table knows, and what it holds
+  pub number : ℕ
+  pub outcome : outcomeReply (r .outcome) ≡ gives number
+  pub known : number < count t′ + 2
+  pub holds : familyAt t′ number ≡ F
+  pub steps : r .steps ≡ s
+  -- the table is as long as before, and sound; the old nodes stand first and unchanged
+  pub long : length t′ ≡ length t
+  pub sound : soundb K t′ ≡ true
+  pub old : take (count t) (nodesOf t′) ≡ nodesOf t
+  -- the nodes made are the growth of word 0, and exactly the branch nodes of the answer that the table did not hold
+  pub grown : count t′ ≡ count t + r .made
+  pub made : r .made ≡ missing (nodesOf t) F
+
+-- the contract of a call whose refusal is n (0: none), and that makes the family F in s steps
+pub record Makes (K : List ℕ) (n : ℕ) (F : Family) (s : ℕ) (t : List ℕ) (r : Report) (t′ : List ℕ) : Type 0 where
+  pub declined : 0 < n → Declined n t r t′
+  pub answered : n ≡ 0 → Answered K F s t r t′
+
+-- cover d: the timetables covering d, with the step limit `limit` [document 01: B]
+abbrev pub CoverPost : (S : List ℕ) (m : ℕ) (t : List ℕ) (d limit words : ℕ) → Report → List ℕ → Type 0
+CoverPost S m t d limit words r t′ =
+    Makes (keysOf S) (coverRefusal S m t d limit words) (covering S d) (steps S (words / 2) d) t r t′
+
+-- the calls on two answers: F is made of their families
+abbrev pub PairPost : (S : List ℕ) (m : ℕ) (t : List ℕ) (a b : ℕ) (F : Family) (words : ℕ) → Report → List ℕ → Type 0
+PairPost S m t a b F words r t′ = Makes (keysOf S) (pairRefusal S m t a b F words) F 0 t r t′
+
+-- either: union
+abbrev pub EitherPost : (S : List ℕ) (m : ℕ) (t : List ℕ) (a b words : ℕ) → Report → List ℕ → Type 0
+EitherPost S m t a b words = PairPost S m t a b (union (keysOf S) (familyAt t a) (familyAt t b)) words
+
+-- both: intersection
+abbrev pub BothPost : (S : List ℕ) (m : ℕ) (t : List ℕ) (a b words : ℕ) → Report → List ℕ → Type 0
+BothPost S m t a b words = PairPost S m t a b (inter (keysOf S) (familyAt t a) (familyAt t b)) words
+
+-- only: those of the first not in the second
+abbrev pub OnlyPost : (S : List ℕ) (m : ℕ) (t : List ℕ) (a b words : ℕ) → Report → List ℕ → Type 0
+OnlyPost S m t a b words = PairPost S m t a b (differ (keysOf S) (familyAt t a) (familyAt t b)) words
+
+-- the calls on an answer and a package
+abbrev pub PackagePost : (S : List ℕ) (m : ℕ) (t : List ℕ) (a p : ℕ) (F : Family) (words : ℕ) → Report → List ℕ → Type 0
+PackagePost S m t a p F words r t′ = Makes (keysOf S) (packageRefusal S m t a p F words) F 0 t r t′
+
+-- with p: those that hold p
+abbrev pub WithPost : (S : List ℕ) (m : ℕ) (t : List ℕ) (a p words : ℕ) → Report → List ℕ → Type 0
+WithPost S m t a p words = PackagePost S m t a p (including (keysOf S) p (familyAt t a)) words
+
+-- without p: those that do not
+abbrev pub WithoutPost : (S : List ℕ) (m : ℕ) (t : List ℕ) (a p words : ℕ) → Report → List ℕ → Type 0
+WithoutPost S m t a p words = PackagePost S m t a p (excluding (keysOf S) p (familyAt t a)) words
+
+-- ---- the questions. They are lent the table for reading only
+
+-- the page after a call whose refusal is n: the timetable s at its start and the rest unchanged, or all unchanged
+abbrev pub written : ℕ → List ℕ → List ℕ → List ℕ
+written zero s page = s ++ drop (length s) page
+written (suc n) s page = page
+
+-- the soundness check
+pub record CheckPost (S : List ℕ) (m : ℕ) (t : List ℕ) (r : Soundness) : Type 0 where
+  pub result : soundnessReply r ≡ reply (checkRefusal S m t) tt
+
+-- count: how many timetables the answer a holds
+pub record CountPost (S : List ℕ) (m : ℕ) (t : List ℕ) (a words : ℕ) (r : Counted) : Type 0 where
+  pub result : countReply r ≡ reply (countRefusal S m t a words) (length (familyAt t a))
+
+-- pick k: the k-th timetable of the answer a, written to the page, and how many packages it has
+pub record PickPost (S : List ℕ) (m : ℕ) (t : List ℕ) (a k words : ℕ) (page : List ℕ) (r : Picked) (page′ : List ℕ) : Type 0 where
+  pub result : pickReply r ≡ reply (pickRefusal S m t a k words page) (length (nth (familyAt t a) k))
+  pub pages : page′ ≡ written (pickRefusal S m t a k words page) (nth (familyAt t a) k) page
+
+-- place: where the timetable s stands in the listing of the answer a
+pub record PlacePost (S : List ℕ) (m : ℕ) (t : List ℕ) (a : ℕ) (s : List ℕ) (words : ℕ) (r : Placed) : Type 0 where
+  pub result : placeReply r ≡ reply (placeRefusal S m t a s words) (position s (familyAt t a))
+
+-- cheapest: of the timetables of the answer a with the least cost the first listed, written to the page; how many packages it has, and its cost
+pub record CheapestPost (S : List ℕ) (m : ℕ) (C t : List ℕ) (a words : ℕ) (page : List ℕ) (r : Priced) (page′ : List ℕ) : Type 0 where
+  pub result :
+      cheapestReply r
+      ≡ reply (cheapestRefusal S m C t a words page) (length (cheapest C (familyAt t a)), cost C (cheapest C (familyAt t a)))
+  pub pages : page′ ≡ written (cheapestRefusal S m C t a words page) (cheapest C (familyAt t a)) page

@@ -1,0 +1,94 @@
+use Rattle.table.proofs.IndexLaws as index
+use Rattle.table.proofs.CheckLaws.{Passed, passed-none, passed-more, refused, not-fine, not-once, decided}
+use Rattle.zdd.specs.Table.{nodesOf}
+use borrow.Author.Tests.{not-true, not-false}
+use native.Mathlib.Omega.{arith}
+use Prim.Native.Nat.{_-_}
+use borrow.Author.Needs.{needs}
+use Rattle.table.proofs.check.Statement.{statement}
+use Rattle.table.proofs.check.Tie as tie
+
+abbrev Inv-loop : tie.InvT-loop
+Inv-loop t keys heads₀ next₀ n i₀ heads next i = Passed keys t i heads next
+
+abbrev μ-loop : tie.MeasureT-loop
+μ-loop t keys heads₀ next₀ n i₀ heads next i = n - i
+
+returns : tie.Need-returns Inv-loop μ-loop
+returns c = refused _ _ _ _ (λ s. omega (arith, s .room))
+
+shared-slice-read-wide : tie.Need-shared-slice-read-wide Inv-loop μ-loop
+shared-slice-read-wide c = search needs
+
+wide-requires : tie.Need-wide-requires Inv-loop μ-loop
+wide-requires c κs = search needs
+
+returns-2 : tie.Need-returns-2 Inv-loop μ-loop
+returns-2 c = refused _ _ _ _ (λ s. omega (arith, s .few, c .before .wide .ensures))
+
+mul-if3 : tie.Need-mul-if3 Inv-loop μ-loop
+mul-if3 c = search needs
+
+returns-3 : tie.Need-returns-3 Inv-loop μ-loop
+returns-3 c = refused _ _ _ _ (λ s. omega (arith, s .room, c .before .before .wide .ensures))
+
+loop-holds : tie.Need-loop-holds Inv-loop μ-loop
+loop-holds c = let a = c .before .before .before .before .before .before .before .args in passed-none (a .keys .now) (a .t .now) (a .heads .now) (a .next .now) (index.none (nodesOf (a .t .now)) (c .before .before .before .before .before .before .before .pre))
+
+node-fits-requires : tie.Need-node-fits-requires Inv-loop μ-loop
+node-fits-requires c κs = (record { fit = omega (arith, c .before .before .before .before .wide .ensures); few = omega (arith, c .before .before .before .before .wide .ensures) }, (omega (arith, c .before .before .before .before .wide .ensures), λ j h. c .before .loop .inv .each j h .label-known))
+
+returns-4 : tie.Need-returns-4 Inv-loop μ-loop
+returns-4 c = refused _ _ _ _ (not-fine (omega (arith, c .before .before .before .before .before .before .wide .ensures)) (c .before .node-fits .ensures .no (not-true _ (c .if4 .taken))))
+
+enter-requires : tie.Need-enter-requires Inv-loop μ-loop
+enter-requires c κs = (record { fit = omega (arith, c .before .before .before .before .before .before .before .before .wide .ensures); few = omega (arith, c .before .before .before .before .before .before .before .before .wide .ensures) }, (omega (arith, c .before .before .before .before .before .before .before .before .wide .ensures), c .before .before .before .before .before .loop .inv .index))
+
+returns-5 : tie.Need-returns-5 Inv-loop μ-loop
+returns-5 c = refused _ _ _ _ (not-once (omega (arith, c .before .before .before .before .before .before .before .before .before .before .wide .ensures)) (c .before .enter .ensures) (not-true _ (c .if5 .taken)))
+
+add-i : tie.Need-add-i Inv-loop μ-loop
+add-i c = search needs
+
+loop-less : tie.Need-loop-less Inv-loop μ-loop
+loop-less c = search needs
+
+loop-again : tie.Need-loop-again Inv-loop μ-loop
+loop-again c = passed-more (c .before .before .before .before .before .before .before .loop .inv) (omega (arith, c .before .before .before .before .before .before .before .before .before .before .wide .ensures)) (c .before .before .before .before .before .node-fits .ensures .yes (not-false _ (c .before .before .before .before .if4 .left))) (c .before .enter .ensures) (not-false _ (c .if5 .left))
+
+mul-zeros : tie.Need-mul-zeros Inv-loop μ-loop
+mul-zeros c = search needs
+
+add-zeros : tie.Need-add-zeros Inv-loop μ-loop
+add-zeros c = search needs
+
+zeros-requires : tie.Need-zeros-requires Inv-loop μ-loop
+zeros-requires c κs = search needs
+
+returns-6 : tie.Need-returns-6 Inv-loop μ-loop
+returns-6 c = decided (c .before .before .loop .inv) (record { fit = omega (arith, c .before .before .before .before .before .wide .ensures); few = omega (arith, c .before .before .before .before .before .wide .ensures) }) (omega (arith, c .before .before .before .before .before .wide .ensures)) (omega (arith, c .before .before .before .before .before .wide .ensures)) (c .zeros .ensures)
+
+pub check-spec : {M : Type 1} → statement M
+check-spec =
+    tie.close
+    (tie.spec
+    Inv-loop
+    μ-loop
+    returns
+    shared-slice-read-wide
+    wide-requires
+    returns-2
+    mul-if3
+    returns-3
+    loop-holds
+    node-fits-requires
+    returns-4
+    enter-requires
+    returns-5
+    add-i
+    loop-less
+    loop-again
+    mul-zeros
+    add-zeros
+    zeros-requires
+    returns-6)

@@ -1,0 +1,52 @@
+use Rattle.table.proofs.CheckLaws.{tells-no, tells-yes, Cleared, cleared-none, cleared-more, cleared-all}
+use native.Mathlib.Omega.{arith}
+use lib.ListN.{length}
+use Prim.Native.Nat.{_-_}
+use borrow.Author.Needs.{needs}
+use Rattle.table.proofs.zeros.Statement.{statement}
+use Rattle.table.proofs.zeros.Tie as tie
+
+abbrev Inv-loop : tie.InvT-loop
+Inv-loop t w j₀ j = Cleared t w j
+
+abbrev μ-loop : tie.MeasureT-loop
+μ-loop t w j₀ j = length t - j
+
+loop-holds : tie.Need-loop-holds Inv-loop μ-loop
+loop-holds c = cleared-none _ _
+
+mul-if1 : tie.Need-mul-if1 Inv-loop μ-loop
+mul-if1 c = search needs
+
+shared-slice-read-if1 : tie.Need-shared-slice-read-if1 Inv-loop μ-loop
+shared-slice-read-if1 c = search needs
+
+returns : tie.Need-returns Inv-loop μ-loop
+returns c = tells-no (λ f. c .if1 .taken (f (c .before .before .before .loop .j) (c .before .before .before .loop .inv .from)))
+
+add-j : tie.Need-add-j Inv-loop μ-loop
+add-j c = search needs
+
+loop-less : tie.Need-loop-less Inv-loop μ-loop
+loop-less c = search needs
+
+loop-again : tie.Need-loop-again Inv-loop μ-loop
+loop-again c = cleared-more (c .before .before .before .loop .inv) (c .if1 .left)
+
+returns-2 : tie.Need-returns-2 Inv-loop μ-loop
+returns-2 c = tells-yes (cleared-all (c .before .loop .inv) (omega arith))
+
+pub zeros-spec : {M : Type 1} → statement M
+zeros-spec =
+    tie.close
+    (tie.spec
+    Inv-loop
+    μ-loop
+    loop-holds
+    mul-if1
+    shared-slice-read-if1
+    returns
+    add-j
+    loop-less
+    loop-again
+    returns-2)

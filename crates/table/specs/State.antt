@@ -1,0 +1,108 @@
+-- What the functions over a node table ask and ensure: the index of its nodes, the soundness test, find or make, and growth. Assumes nothing.
+use mathlib.Core.Path.{_≡_}
+use mathlib.Core.Bool.{Bool, true, false}
+use mathlib.Core.List.{List}
+use Prim.Native.Nat.{ℕ, suc, _+_, _-_, _*_, _%_, _<_, _≤_}
+use lib.ListN.{length, getD, take}
+use Rattle.zdd.specs.Table.{Node, blank, join, count, capacity, nodesOf, family, key, Over, Fine, Sound, soundb}
+use Rattle.buckets.specs.Chain.{Index}
+
+-- r says whether P holds
+pub record Tells (P : Type 0) (r : Bool) : Type 0 where
+  pub yes : r ≡ true → P
+  pub no : r ≡ false → P → ⊥
+
+-- ---- the index
+
+-- the bucket of a triple
+unfoldable pub hashOf : Node → ℕ
+hashOf x = (x .label * 40503 + x .lo * 2654435 + x .hi * 69069) % 65536
+
+-- the bucket of number k
+unfoldable pub bucket : List Node → ℕ → ℕ
+unfolding hashOf
+bucket ns k = hashOf (getD ns (k - 2) blank)
+
+-- the words have the nodes that word 0 counts
+pub record Room (t : List ℕ) : Type 0 where
+  pub fit : 3 * count t < length t
+  pub few : count t ≤ 65534
+
+-- heads and next index the numbers from 2 to m - 1 of the nodes ns
+pub record IndexedTo (ns : List Node) (m : ℕ) (heads next : List ℕ) : Type 0 where
+  pub heads-long : length heads ≡ 65536
+  pub next-long : length next ≡ 65536
+  pub index : Index (bucket ns) 2 m heads next
+
+-- heads and next before the first number joins. (What next holds does not matter.)
+pub record Fresh (heads next : List ℕ) : Type 0 where
+  pub heads-long : length heads ≡ 65536
+  pub next-long : length next ≡ 65536
+  pub zero : (h : ℕ) → getD heads h 0 ≡ 0
+
+-- heads and next index all nodes of t
+pub record Indexed (t heads next : List ℕ) : Type 0 where
+  pub room : Room t
+  pub index : IndexedTo (nodesOf t) (count t + 2) heads next
+
+-- what find answers: 0 exactly where no number below m is the node x
+pub record Found (ns : List Node) (m : ℕ) (x : Node) (r : ℕ) : Type 0 where
+  pub node : 0 < r → (2 ≤ r) × ((r < m) × (getD ns (r - 2) blank ≡ x))
+  pub none : r ≡ 0 → (i : ℕ) → i + 2 < m → getD ns i blank ≡ x → ⊥
+
+-- ---- the soundness test
+
+-- the labels of the nodes before index i are known
+abbrev pub Labelled : List ℕ → List Node → ℕ → Type 0
+Labelled K ns i = (j : ℕ) → j < i → getD ns j blank .label < length K
+
+-- node i joins the index, unless one before it is the same
+pub record Entered (ns : List Node) (i : ℕ) (heads next : List ℕ) (r : Bool) : Type 0 where
+  pub index : r ≡ true → IndexedTo ns (i + 1 + 2) heads next
+  pub fresh : r ≡ true → (j : ℕ) → j < i → getD ns j blank ≡ getD ns i blank → ⊥
+  pub twice : r ≡ false → (j : ℕ) × ((j < i) × (getD ns j blank ≡ getD ns i blank))
+
+-- what check answers
+pub record Checked (K t heads next : List ℕ) (r : Bool) : Type 0 where
+  pub says : r ≡ soundb K t
+  pub indexed : r ≡ true → Indexed t heads next
+
+-- ---- growth
+
+-- t′ is sound, as long as t, and has t's nodes first and unchanged
+pub record Grown (K t t′ : List ℕ) : Type 0 where
+  pub long : length t′ ≡ length t
+  pub sound : Sound K t′
+  pub old : take (count t) (nodesOf t′) ≡ nodesOf t
+
+-- no node of t is x
+abbrev pub Absent : List ℕ → Node → Type 0
+Absent t x = (i : ℕ) → i < count t → getD (nodesOf t) i blank ≡ x → ⊥
+
+-- t is sound, and x may be its next node
+pub record May (K t : List ℕ) (x : Node) : Type 0 where
+  pub sound : Sound K t
+  pub fine : Fine K (nodesOf t) (count t) x
+
+-- r is the number of the node x in t′, which is t or t with this node more; or 0, where x is not in t and t has no room
+pub record Made (K t t′ heads′ next′ : List ℕ) (x : Node) (r : ℕ) : Type 0 where
+  pub grown : Grown K t t′
+  pub indexed : Indexed t′ heads′ next′
+  pub known : r < count t′ + 2
+  -- 0 is said exactly where x is missing and the table is full
+  pub full : r ≡ 0 → Absent t x × (count t ≡ capacity t)
+  pub must : Absent t x → count t ≡ capacity t → r ≡ 0
+  -- an old number changes nothing, and a new one is the next
+  pub still : r < count t + 2 → t′ ≡ t
+  pub next : count t + 2 ≤ r → (r ≡ count t + 2) × ((count t′ ≡ count t + 1) × Absent t x)
+  -- what the number stands for
+  pub node : 0 < r → (2 ≤ r) × (getD (nodesOf t′) (r - 2) blank ≡ x)
+  pub denotes : 0 < r → family (nodesOf t′) r ≡ join (x .label) (family (nodesOf t) (x .hi)) (family (nodesOf t) (x .lo))
+
+-- what unique ensures, whatever the keys
+abbrev pub Unique : List ℕ → List ℕ → List ℕ → List ℕ → Node → ℕ → Type 0
+Unique t t′ heads′ next′ x r = (K : List ℕ) → May K t x → Made K t t′ heads′ next′ x r
+
+-- what rollback ensures: t goes back to any sound table of n nodes that it grew from
+abbrev pub Rolled : List ℕ → ℕ → List ℕ → Type 0
+Rolled t n t′ = (K t₀ : List ℕ) → Sound K t₀ → Grown K t₀ t → n ≡ count t₀ → t′ ≡ t₀

@@ -1,0 +1,465 @@
+-- Laws of `branches` and `missing`. THEOREM: a sound table that keeps the nodes of another and holds F is larger by at least as many nodes as are
+-- missing for F; so the refusal 'full' is given only where F does not fit. Assumes nothing.
+use mathlib.Core.Path.{_≡_, refl, sym, ap, ap₂, _∙_, subst, subst⁻¹}
+use mathlib.Core.Logic.{_⊎_, inl, inr, ⊎-elim}
+use mathlib.Core.Bool.{Bool, true, false, cond, _&&_, _||_}
+use mathlib.Core.List.{List, [], _∷_, _++_, map, List·Memᴰ, List·Memᴰ·head, List·Memᴰ·tail, List·Memᴰ·cases-cons, List·Memᴰ·not-nil, List·Memᴰ·append-cases, Memᴰ·append-left, Memᴰ·append-right, Memᴰ·cast, append-nil}
+use Prim.Native.Nat.{ℕ, zero, suc, _+_, _-_, _≤_, _<_, zero-le, suc-le-suc}
+use native.Mathlib.Nat.{le-antisymm, le-refl, not-suc-le-zero}
+use native.Mathlib.Omega.{arith}
+use lib.Dec.{eqb}
+use lib.ListN.{length, getD, length-append}
+use lib.Seq.{getD-append-add}
+use Rattle.base.proofs.Bools.{never, is-false, cases, and-left, and-right, and-both, or-cases, or-left, or-right, eqb-same}
+use Rattle.zdd.specs.Table.{Node, blank, Family, join, families, family, eqSet, elem, key, Nodes, _∈_}
+use Rattle.zdd.proofs.Member.{Avoids, avoids-at, from-avoids, family-from, eqSet-same, eqSet-eq}
+use Rattle.zdd.proofs.Grow.{length-families, families-append, family-ind, downward, family-node}
+use Rattle.zdd.proofs.Canon.{family-some, canonical}
+use Rattle.zdd.specs.Branches.{starting, others, weight, branchesTo, branches, eqFamily, amongb, fresh, missing}
+
+-- nothing stands twice
+abbrev pub Distinct : {A : Type 0} → List A → Type 0
+Distinct [] = Unit {0}
+Distinct (x ∷ xs) = (x ∈ xs → ⊥) × Distinct xs
+
+-- ---- the tests are exact
+
+family-same : (F : Family) → eqFamily F F ≡ true
+unfolding eqFamily
+family-same [] = refl
+family-same (t ∷ F) = and-both (eqSet t t) (eqFamily F F) (eqSet-same t) (family-same F)
+
+family-eq : (F G : Family) → eqFamily F G ≡ true → F ≡ G
+unfolding eqFamily
+family-eq [] [] e = refl
+family-eq [] (u ∷ G) e = absurd (never e refl)
+family-eq (t ∷ F) [] e = absurd (never e refl)
+family-eq (t ∷ F) (u ∷ G) e =
+    ap₂ (λ (x : List ℕ) (xs : Family). x ∷ xs) (eqSet-eq t u (and-left (eqSet t u) (eqFamily F G) e)) (family-eq F G (and-right (eqSet t u) (eqFamily F G) e))
+
+among-of : (F : Family) (l : List Family) → amongb F l ≡ true → F ∈ l
+unfolding amongb
+among-of F [] e = absurd (never e refl)
+among-of F (G ∷ l) e = go (or-cases (eqFamily F G) (amongb F l) e) (among-of F l)
+  where
+    go : (eqFamily F G ≡ true) ⊎ (amongb F l ≡ true) → (amongb F l ≡ true → F ∈ l) → F ∈ (G ∷ l)
+    go (inl q) ih = List·Memᴰ·head (family-eq F G q)
+    go (inr q) ih = List·Memᴰ·tail (ih q)
+
+among-test : (F : Family) (l : List Family) → F ∈ l → amongb F l ≡ true
+unfolding amongb
+among-test F [] m = absurd (List·Memᴰ·not-nil m)
+among-test F (G ∷ l) m = go (List·Memᴰ·cases-cons m) (among-test F l)
+  where
+    go : (F ≡ G) ⊎ (F ∈ l) → (F ∈ l → amongb F l ≡ true) → (eqFamily F G || amongb F l) ≡ true
+    go (inl q) ih = or-left (eqFamily F G) (amongb F l) (subst (λ (H : Family). eqFamily F H ≡ true) q (family-same F))
+    go (inr q) ih = or-right (eqFamily F G) (amongb F l) (ih q)
+
+-- ---- the pigeonhole: a list without repeats is no longer than one that has all of its elements
+
+drop-one : {A : Type 0} {a : A} {l : List A} → a ∈ l → List A
+drop-one (List·Memᴰ·head {xs = xs} e) = xs
+drop-one (List·Memᴰ·tail {x = x} m) = x ∷ drop-one m
+
+drop-length : {A : Type 0} {a : A} {l : List A} (m : a ∈ l) → suc (length (drop-one m)) ≡ length l
+unfolding drop-one
+drop-length (List·Memᴰ·head e) = refl
+drop-length (List·Memᴰ·tail m) = ap suc (drop-length m)
+
+drop-keeps : {A : Type 0} {a : A} {l : List A} (m : a ∈ l) (b : A) → b ∈ l → (b ≡ a → ⊥) → b ∈ drop-one m
+unfolding drop-one
+drop-keeps (List·Memᴰ·head e) b n d = ⊎-elim (λ q. absurd (d (q ∙ sym e))) (λ k. k) (List·Memᴰ·cases-cons n)
+drop-keeps (List·Memᴰ·tail {x = x} {xs = xs} m) b n d =
+    ⊎-elim (λ q. List·Memᴰ·head q) (λ k. List·Memᴰ·tail (drop-keeps m b k d)) (List·Memᴰ·cases-cons n)
+
+pub pigeonhole : {A : Type 0} (xs ys : List A) → Distinct xs → ((a : A) → a ∈ xs → a ∈ ys) → length xs ≤ length ys
+pigeonhole [] ys d s = zero-le
+pigeonhole (x ∷ xs) ys d s =
+    let m : x ∈ ys = s x (List·Memᴰ·head refl) in
+    subst (λ (n : ℕ). suc (length xs) ≤ n) (drop-length m)
+    (suc-le-suc (pigeonhole xs (drop-one m) (d .1) (λ F k. drop-keeps m F (s F (List·Memᴰ·tail k)) (λ e. d .0 (Memᴰ·cast (sym e) k)))))
+
+-- ---- `fresh`: those of the list that are not known, each once
+
+pub fresh-sound : (l known : List Family) (F : Family) → F ∈ fresh known l → (F ∈ l) × (F ∈ known → ⊥)
+unfolding fresh
+fresh-sound [] known F m = absurd (List·Memᴰ·not-nil m)
+fresh-sound (x ∷ xs) known F m = go (amongb x known) refl (fresh-sound xs known F) (fresh-sound xs (x ∷ known) F) m
+  where
+    new : amongb x known ≡ false → (F ∈ fresh (x ∷ known) xs → (F ∈ xs) × (F ∈ x ∷ known → ⊥))
+        → (F ≡ x) ⊎ (F ∈ fresh (x ∷ known) xs) → (F ∈ x ∷ xs) × (F ∈ known → ⊥)
+    new e ih (inl p) = (List·Memᴰ·head p, λ k. never (among-test x known (Memᴰ·cast (sym p) k)) e)
+    new e ih (inr n) = (List·Memᴰ·tail (ih n .0), λ k. ih n .1 (List·Memᴰ·tail k))
+
+    go : (b : Bool) → amongb x known ≡ b → (F ∈ fresh known xs → (F ∈ xs) × (F ∈ known → ⊥))
+        → (F ∈ fresh (x ∷ known) xs → (F ∈ xs) × (F ∈ x ∷ known → ⊥))
+        → F ∈ cond b (fresh known xs) (x ∷ fresh (x ∷ known) xs) → (F ∈ x ∷ xs) × (F ∈ known → ⊥)
+    go true e ih jh n = (List·Memᴰ·tail (ih n .0), ih n .1)
+    go false e ih jh n = new e jh (List·Memᴰ·cases-cons n)
+
+pub fresh-all : (l known : List Family) (F : Family) → F ∈ l → (F ∈ known) ⊎ (F ∈ fresh known l)
+unfolding fresh
+fresh-all [] known F m = absurd (List·Memᴰ·not-nil m)
+fresh-all (x ∷ xs) known F m = go (amongb x known) refl (fresh-all xs known F) (fresh-all xs (x ∷ known) F) (List·Memᴰ·cases-cons m)
+  where
+    new : (F ∈ x ∷ known) ⊎ (F ∈ fresh (x ∷ known) xs) → (F ∈ known) ⊎ (F ∈ x ∷ fresh (x ∷ known) xs)
+    new (inl k) = ⊎-elim (λ p. inr (List·Memᴰ·head p)) (λ n. inl n) (List·Memᴰ·cases-cons k)
+    new (inr n) = inr (List·Memᴰ·tail n)
+
+    go : (b : Bool) → amongb x known ≡ b → (F ∈ xs → (F ∈ known) ⊎ (F ∈ fresh known xs))
+        → (F ∈ xs → (F ∈ x ∷ known) ⊎ (F ∈ fresh (x ∷ known) xs))
+        → (F ≡ x) ⊎ (F ∈ xs) → (F ∈ known) ⊎ (F ∈ cond b (fresh known xs) (x ∷ fresh (x ∷ known) xs))
+    go true e ih jh (inl p) = inl (Memᴰ·cast p (among-of x known e))
+    go true e ih jh (inr n) = ih n
+    go false e ih jh (inl p) = inr (List·Memᴰ·head p)
+    go false e ih jh (inr n) = new (jh n)
+
+pub fresh-distinct : (l known : List Family) → Distinct (fresh known l)
+unfolding fresh
+fresh-distinct [] known = tt
+fresh-distinct (x ∷ xs) known = go (amongb x known) (fresh-distinct xs known) (fresh-distinct xs (x ∷ known))
+  where
+    go : (b : Bool) → Distinct (fresh known xs) → Distinct (fresh (x ∷ known) xs) → Distinct (cond b (fresh known xs) (x ∷ fresh (x ∷ known) xs))
+    go true ih jh = ih
+    go false ih jh = (λ m. fresh-sound xs (x ∷ known) x m .1 (List·Memᴰ·head refl), jh)
+
+-- ---- the counts: `new` are different families, unknown to the table, and branch families of F
+
+module _ (ns : List Node) (new : List Family) (F : Family) (distinct : Distinct new) (unknown : (G : Family) → G ∈ new → G ∈ families ns → ⊥) (below : (G : Family) → G ∈ new → G ∈ branches F) where
+  into : (G : Family) → G ∈ new → G ∈ fresh (families ns) (branches F)
+  into G m = ⊎-elim (λ k. absurd (unknown G m k)) (λ n. n) (fresh-all (branches F) (families ns) G (below G m))
+
+  -- they are no more than are missing
+  pub at-most : length new ≤ missing ns F
+  unfolding missing
+  at-most = pigeonhole new (fresh (families ns) (branches F)) distinct into
+
+  -- as many, where with the known ones they are all
+  pub exactly : ((G : Family) → G ∈ branches F → (G ∈ families ns) ⊎ (G ∈ new)) → length new ≡ missing ns F
+  unfolding missing
+  exactly all =
+      le-antisymm at-most (pigeonhole (fresh (families ns) (branches F)) new (fresh-distinct (branches F) (families ns)) (λ G m.
+      let s = fresh-sound (branches F) (families ns) G m in ⊎-elim (λ k. absurd (s .1 k)) (λ n. n) (all G (s .0))))
+
+  -- fewer, where one more is neither known nor among them
+  pub fewer : (G : Family) → G ∈ branches F → (G ∈ families ns → ⊥) → (G ∈ new → ⊥) → length new < missing ns F
+  unfolding missing
+  fewer G m k n =
+      pigeonhole (G ∷ new) (fresh (families ns) (branches F)) (n, distinct) (λ H h.
+      ⊎-elim (λ e. ⊎-elim (λ q. absurd (k (Memᴰ·cast (sym e) q))) (λ r. r) (fresh-all (branches F) (families ns) H (Memᴰ·cast e m))) (into H) (List·Memᴰ·cases-cons h))
+
+-- ---- `branches`: the depth is enough
+
+weight-starting : (p : ℕ) (F : Family) → weight (starting p F) ≤ weight F
+unfolding weight starting
+weight-starting p [] = le-refl 0
+weight-starting p ([] ∷ F) = let h = weight-starting p F in omega arith
+weight-starting p ((q ∷ s) ∷ F) = go (eqb p q) (weight-starting p F)
+  where
+    go : (b : Bool) → weight (starting p F) ≤ weight F → weight (cond b (s ∷ starting p F) (starting p F)) ≤ weight ((q ∷ s) ∷ F)
+    go true h = omega arith
+    go false h = omega arith
+
+weight-others : (p : ℕ) (F : Family) → weight (others p F) ≤ weight F
+unfolding weight others
+weight-others p [] = le-refl 0
+weight-others p ([] ∷ F) = let h = weight-others p F in omega arith
+weight-others p ((q ∷ s) ∷ F) = go (eqb p q) (weight-others p F)
+  where
+    go : (b : Bool) → weight (others p F) ≤ weight F → weight (cond b (others p F) ((q ∷ s) ∷ others p F)) ≤ weight ((q ∷ s) ∷ F)
+    go true h = omega arith
+    go false h = omega arith
+
+starting-first : (p : ℕ) (s : List ℕ) (F : Family) → starting p ((p ∷ s) ∷ F) ≡ s ∷ starting p F
+unfolding starting
+starting-first p s F = ap (λ (b : Bool). cond b (s ∷ starting p F) (starting p F)) (eqb-same p)
+
+others-first : (p : ℕ) (s : List ℕ) (F : Family) → others p ((p ∷ s) ∷ F) ≡ others p F
+unfolding others
+others-first p s F = ap (λ (b : Bool). cond b (others p F) ((p ∷ s) ∷ others p F)) (eqb-same p)
+
+pub weight-hi : (p : ℕ) (s : List ℕ) (F : Family) → weight (starting p ((p ∷ s) ∷ F)) < weight ((p ∷ s) ∷ F)
+unfolding weight
+weight-hi p s F = subst⁻¹ (λ (G : Family). weight G < weight ((p ∷ s) ∷ F)) (starting-first p s F) (let h = weight-starting p F in omega arith)
+
+pub weight-lo : (p : ℕ) (s : List ℕ) (F : Family) → weight (others p ((p ∷ s) ∷ F)) < weight ((p ∷ s) ∷ F)
+unfolding weight
+weight-lo p s F = subst⁻¹ (λ (G : Family). weight G < weight ((p ∷ s) ∷ F)) (others-first p s F) (let h = weight-others p F in omega arith)
+
+to-nil : (n : ℕ) → branchesTo n [] ≡ []
+unfolding branchesTo
+to-nil zero = refl
+to-nil (suc n) = refl
+
+enough : (n m : ℕ) (F : Family) → weight F ≤ n → weight F ≤ m → branchesTo n F ≡ branchesTo m F
+unfolding branchesTo weight
+enough zero m [] h k = sym (to-nil m)
+enough zero m (s ∷ F) h k = absurd (not-suc-le-zero h)
+enough (suc n) m [] h k = sym (to-nil m)
+enough (suc n) zero (s ∷ F) h k = absurd (not-suc-le-zero k)
+enough (suc n) (suc m) ([] ∷ F) h k = refl
+enough (suc n) (suc m) ((p ∷ s) ∷ F) h k =
+    let a = weight-hi p s F in
+    let b = weight-lo p s F in
+    ap₂ (λ (x y : List Family). ((p ∷ s) ∷ F) ∷ (x ++ y))
+    (enough n m (starting p ((p ∷ s) ∷ F)) (omega arith) (omega arith))
+    (enough n m (others p ((p ∷ s) ∷ F)) (omega arith) (omega arith))
+
+-- a family, then those of hi and those of lo
+pub branches-cons : (p : ℕ) (s : List ℕ) (F : Family)
+    → branches ((p ∷ s) ∷ F) ≡ ((p ∷ s) ∷ F) ∷ (branches (starting p ((p ∷ s) ∷ F)) ++ branches (others p ((p ∷ s) ∷ F)))
+unfolding branches branchesTo weight
+branches-cons p s F =
+    let a = weight-hi p s F in
+    let b = weight-lo p s F in
+    ap₂ (λ (x y : List Family). ((p ∷ s) ∷ F) ∷ (x ++ y))
+    (enough (length (p ∷ s) + weight F) (weight (starting p ((p ∷ s) ∷ F))) (starting p ((p ∷ s) ∷ F)) (omega arith) (le-refl _))
+    (enough (length (p ∷ s) + weight F) (weight (others p ((p ∷ s) ∷ F))) (others p ((p ∷ s) ∷ F)) (omega arith) (le-refl _))
+
+-- ---- a node's branch families are its own and those of its children
+
+starting-none : (p : ℕ) (F : Family) → ((t : List ℕ) → elem (p ∷ t) F ≡ false) → starting p F ≡ []
+unfolding starting elem eqSet
+starting-none p [] h = refl
+starting-none p ([] ∷ F) h = starting-none p F h
+starting-none p ((q ∷ t) ∷ F) h = go (eqb p q) refl (starting-none p F (λ u. rest u))
+  where
+    rest : (u : List ℕ) → elem (p ∷ u) F ≡ false
+    rest u = is-false (elem (p ∷ u) F) (λ e. never (or-right (eqSet (p ∷ u) (q ∷ t)) (elem (p ∷ u) F) e) (h u))
+
+    go : (b : Bool) → eqb p q ≡ b → starting p F ≡ [] → cond b (t ∷ starting p F) (starting p F) ≡ []
+    go true e ih = absurd (never (or-left (eqSet (p ∷ t) (q ∷ t)) (elem (p ∷ t) F) (and-both (eqb p q) (eqSet t t) e (eqSet-same t))) (h t))
+    go false e ih = ih
+
+others-all : (p : ℕ) (F : Family) → ((t : List ℕ) → elem (p ∷ t) F ≡ false) → others p F ≡ F
+unfolding others elem eqSet
+others-all p [] h = refl
+others-all p ([] ∷ F) h = ap (λ (G : Family). [] ∷ G) (others-all p F h)
+others-all p ((q ∷ t) ∷ F) h = go (eqb p q) refl (others-all p F (λ u. rest u))
+  where
+    rest : (u : List ℕ) → elem (p ∷ u) F ≡ false
+    rest u = is-false (elem (p ∷ u) F) (λ e. never (or-right (eqSet (p ∷ u) (q ∷ t)) (elem (p ∷ u) F) e) (h u))
+
+    go : (b : Bool) → eqb p q ≡ b → others p F ≡ F → cond b (others p F) ((q ∷ t) ∷ others p F) ≡ (q ∷ t) ∷ F
+    go true e ih = absurd (never (or-left (eqSet (p ∷ t) (q ∷ t)) (elem (p ∷ t) F) (and-both (eqb p q) (eqSet t t) e (eqSet-same t))) (h t))
+    go false e ih = ap (λ (G : Family). (q ∷ t) ∷ G) ih
+
+starting-join : (p : ℕ) (F1 F0 : Family) → Avoids p F0 → starting p (join p F1 F0) ≡ F1
+starting-join p [] F0 a = starting-none p F0 (avoids-at p F0 a)
+starting-join p (s ∷ F1) F0 a = starting-first p s (join p F1 F0) ∙ ap (λ (G : Family). s ∷ G) (starting-join p F1 F0 a)
+
+others-join : (p : ℕ) (F1 F0 : Family) → Avoids p F0 → others p (join p F1 F0) ≡ F0
+others-join p [] F0 a = others-all p F0 (avoids-at p F0 a)
+others-join p (s ∷ F1) F0 a = others-first p s (join p F1 F0) ∙ others-join p F1 F0 a
+
+pub branches-join : (p : ℕ) (F1 F0 : Family) → (F1 ≡ [] → ⊥) → Avoids p F0 → branches (join p F1 F0) ≡ join p F1 F0 ∷ (branches F1 ++ branches F0)
+branches-join p [] F0 n a = absurd (n refl)
+branches-join p (s ∷ F1) F0 n a =
+    branches-cons p s (join p F1 F0)
+    ∙ ap₂ (λ (G H : Family). ((p ∷ s) ∷ join p F1 F0) ∷ (branches G ++ branches H)) (starting-join p (s ∷ F1) F0 a) (others-join p (s ∷ F1) F0 a)
+
+pub branches-nil : branches [] ≡ []
+unfolding branches branchesTo weight
+branches-nil = refl
+
+pub branches-one : branches ([] ∷ []) ≡ []
+unfolding branches branchesTo weight
+branches-one = refl
+
+-- THEOREM: each branch family of a number of a sound table is the family of a number of it
+pub branch-known : {K : List ℕ} {ns : List Node} → Nodes K ns → (k : ℕ) → k < suc (suc (length ns)) → (G : Family) → G ∈ branches (family ns k)
+    → (j : ℕ) × (j < suc (suc (length ns))) × (G ≡ family ns j)
+branch-known {K} {ns} n k h =
+    family-ind ns (downward n) (λ k F. (G : Family) → G ∈ branches F → (j : ℕ) × (j < suc (suc (length ns))) × (G ≡ family ns j))
+    (λ G m. absurd (List·Memᴰ·not-nil (subst (λ (l : List Family). G ∈ l) branches-nil m)))
+    (λ G m. absurd (List·Memᴰ·not-nil (subst (λ (l : List Family). G ∈ l) branches-one m)))
+    (λ i w r l G m.
+    let x : Node = getD ns i blank in
+    let f = n .each i w in
+    let some : family ns (x .hi) ≡ [] → ⊥ = family-some n (x .hi) (omega (arith, f .hi-below)) (f .hi-some) in
+    let a : Avoids (x .label) (family ns (x .lo)) =
+    from-avoids K (suc (key K (x .label))) (x .label) (family ns (x .lo))
+    (family-from n (x .lo) (omega (arith, f .lo-below)) (suc (key K (x .label))) (f .lo-after)) (omega arith) in
+    ⊎-elim
+    (λ e. (suc (suc i), omega arith, e ∙ sym (family-node ns i w (f .lo-below) (f .hi-below))))
+    (λ c. ⊎-elim (r G) (l G) (List·Memᴰ·append-cases (branches (family ns (x .hi))) c))
+    (List·Memᴰ·cases-cons (subst (λ (q : List Family). G ∈ q) (branches-join (x .label) (family ns (x .hi)) (family ns (x .lo)) some a) m)))
+    k h
+
+-- ---- the growth of a table
+
+nth-member : (l : List Family) (k : ℕ) → k < length l → getD l k [] ∈ l
+nth-member [] k h = absurd (not-suc-le-zero h)
+nth-member (F ∷ l) zero h = List·Memᴰ·head refl
+nth-member (F ∷ l) (suc k) h = List·Memᴰ·tail (nth-member l k (omega arith))
+
+pub family-member : (xs : List Node) (j : ℕ) → j < suc (suc (length xs)) → family xs j ∈ families xs
+unfolding family families
+family-member xs j l = nth-member (families xs) j (omega (arith, length-families xs))
+
+-- THEOREM: nodes ms behind the nodes ns of a sound table that then has the number k are at least as many as ns lacks for k's family
+pub least-growth : {K : List ℕ} (ns ms : List Node) → Nodes K (ns ++ ms) → (k : ℕ) → k < suc (suc (length (ns ++ ms)))
+    → missing ns (family (ns ++ ms) k) ≤ length ms
+unfolding missing
+least-growth {K} ns ms n k h =
+    subst (λ (c : ℕ). length new ≤ c) (rest .2)
+    (pigeonhole new (rest .0) (fresh-distinct (branches (family (ns ++ ms) k)) (families ns)) (λ G m.
+    let s = fresh-sound (branches (family (ns ++ ms) k)) (families ns) G m in
+    let j = branch-known n k h G (s .0) in
+    let i : G ∈ families ns ++ rest .0 =
+    subst (λ (l : List Family). G ∈ l) (rest .1) (Memᴰ·cast (j .2) (member (j .0) (j .1))) in
+    ⊎-elim (λ c. absurd (s .1 c)) (λ c. c) (List·Memᴰ·append-cases (families ns) i)))
+  where
+    new : List Family
+    new = fresh (families ns) (branches (family (ns ++ ms) k))
+
+    rest : (l : List Family) × (families (ns ++ ms) ≡ families ns ++ l) × (length l ≡ length ms)
+    rest = families-append ns ms
+
+    member : (j : ℕ) → j < suc (suc (length (ns ++ ms))) → family (ns ++ ms) j ∈ families (ns ++ ms)
+    member j l = family-member (ns ++ ms) j l
+
+-- a table lacks nothing for a family that it holds
+pub known-missing : {K : List ℕ} (ns : List Node) → Nodes K ns → (k : ℕ) → k < suc (suc (length ns)) → missing ns (family ns k) ≡ 0
+known-missing {K} ns n k h =
+    let e : ns ++ [] ≡ ns = append-nil ns in
+    let g : missing ns (family (ns ++ []) k) ≤ 0 =
+    least-growth ns [] (subst⁻¹ (λ (l : List Node). Nodes K l) e n) k (subst⁻¹ (λ (l : List Node). k < suc (suc (length l))) e h) in
+    ap (λ (l : List Node). missing ns (family l k)) (sym e) ∙ le-antisymm g zero-le
+
+-- ---- branch families of branch families
+
+hi-under : (p : ℕ) (s : List ℕ) (F G : Family) → G ∈ branches (starting p ((p ∷ s) ∷ F)) → G ∈ branches ((p ∷ s) ∷ F)
+hi-under p s F G m = subst⁻¹ (λ (l : List Family). G ∈ l) (branches-cons p s F) (List·Memᴰ·tail (Memᴰ·append-left _ m))
+
+lo-under : (p : ℕ) (s : List ℕ) (F G : Family) → G ∈ branches (others p ((p ∷ s) ∷ F)) → G ∈ branches ((p ∷ s) ∷ F)
+lo-under p s F G m =
+    subst⁻¹ (λ (l : List Family). G ∈ l) (branches-cons p s F) (List·Memᴰ·tail (Memᴰ·append-right (branches (starting p ((p ∷ s) ∷ F))) m))
+
+branches-empty : (F : Family) → branches ([] ∷ F) ≡ []
+unfolding branches branchesTo weight
+branches-empty F = refl
+
+closed-at : (n : ℕ) (F : Family) → weight F ≤ n → (G H : Family) → G ∈ branches F → H ∈ branches G → H ∈ branches F
+unfolding weight
+closed-at zero [] w G H g h = absurd (List·Memᴰ·not-nil (subst (λ (l : List Family). G ∈ l) branches-nil g))
+closed-at zero (s ∷ F) w G H g h = absurd (not-suc-le-zero w)
+closed-at (suc n) [] w G H g h = absurd (List·Memᴰ·not-nil (subst (λ (l : List Family). G ∈ l) branches-nil g))
+closed-at (suc n) ([] ∷ F) w G H g h = absurd (List·Memᴰ·not-nil (subst (λ (l : List Family). G ∈ l) (branches-empty F) g))
+closed-at (suc n) ((p ∷ s) ∷ F) w G H g h =
+    let a = weight-hi p s F in
+    let b = weight-lo p s F in
+    ⊎-elim (λ e. subst (λ (X : Family). H ∈ branches X) e h)
+    (λ m. ⊎-elim
+    (λ x. hi-under p s F H (closed-at n (starting p ((p ∷ s) ∷ F)) (omega arith) G H x h))
+    (λ y. lo-under p s F H (closed-at n (others p ((p ∷ s) ∷ F)) (omega arith) G H y h))
+    (List·Memᴰ·append-cases (branches (starting p ((p ∷ s) ∷ F))) m))
+    (List·Memᴰ·cases-cons (subst (λ (l : List Family). G ∈ l) (branches-cons p s F) g))
+
+-- the branch families of a branch family of F are branch families of F
+pub branches-closed : (F G H : Family) → G ∈ branches F → H ∈ branches G → H ∈ branches F
+branches-closed F = closed-at (weight F) F (le-refl (weight F))
+
+-- ---- the growth of a table whose new nodes all serve F
+
+index-of : (l : List Family) (F : Family) → F ∈ l → (k : ℕ) × (k < length l) × (F ≡ getD l k [])
+index-of [] F m = absurd (List·Memᴰ·not-nil m)
+index-of (G ∷ l) F m =
+    ⊎-elim {C = (k : ℕ) × (k < length (G ∷ l)) × (F ≡ getD (G ∷ l) k [])}
+    (λ e. (0, omega arith, e)) (λ n. let r = index-of l F n in (suc (r .0), omega (arith, r .1), r .2)) (List·Memᴰ·cases-cons m)
+
+distinct-at : (l : List Family) → ((i j : ℕ) → i < length l → j < length l → getD l i [] ≡ getD l j [] → i ≡ j) → Distinct l
+distinct-at [] f = tt
+distinct-at (F ∷ l) f = (
+  λ m. let r = index-of l F m in let z : 0 ≡ suc (r .0) = f 0 (suc (r .0)) (omega arith) (omega (arith, r .1)) (r .2) in omega arith,
+  distinct-at l (λ i j a b e. let z : suc i ≡ suc j = f (suc i) (suc j) (omega arith) (omega arith) e in omega arith),
+)
+
+distinct-right : {A : Type 0} (a b : List A) → Distinct (a ++ b) → Distinct b × ((x : A) → x ∈ b → x ∈ a → ⊥)
+distinct-right [] b d = (d, λ x m n. List·Memᴰ·not-nil n)
+distinct-right (y ∷ a) b d =
+    let r = distinct-right a b (d .1) in
+    (r .0, λ x m n. ⊎-elim (λ e. d .0 (Memᴰ·append-right a (Memᴰ·cast (sym e) m))) (λ k. r .1 x m k) (List·Memᴰ·cases-cons n))
+
+families-distinct : {K : List ℕ} {ns : List Node} → Nodes K ns → Distinct (families ns)
+unfolding family
+families-distinct {K} {ns} n =
+    distinct-at (families ns) (λ i j a b e. canonical n i j (omega (arith, length-families ns)) (omega (arith, length-families ns)) e)
+
+module _ {K : List ℕ} (ns ms : List Node) (n : Nodes K (ns ++ ms)) (F : Family)
+    (serve : (j : ℕ) → suc (suc (length ns)) ≤ j → j < suc (suc (length (ns ++ ms))) → family (ns ++ ms) j ∈ branches F) where
+  news : (l : List Family) × (families (ns ++ ms) ≡ families ns ++ l) × (length l ≡ length ms)
+  news = families-append ns ms
+
+  news-apart : Distinct (news .0) × ((G : Family) → G ∈ news .0 → G ∈ families ns → ⊥)
+  news-apart = distinct-right (families ns) (news .0) (subst Distinct (news .1) (families-distinct n))
+
+  news-serve : (G : Family) → G ∈ news .0 → G ∈ branches F
+  unfolding family
+  news-serve G m =
+      let r = index-of (news .0) G m in
+      let j : ℕ = length (families ns) + r .0 in
+      let e : family (ns ++ ms) j ≡ G =
+      ap (λ (l : List Family). getD l j []) (news .1) ∙ getD-append-add (families ns) (news .0) (r .0) [] ∙ sym (r .2) in
+      subst (λ (X : Family). X ∈ branches F) e
+      (serve j (omega (arith, length-families ns)) (omega (arith, r .1, length-families ns, news .2, length-append ns ms)))
+
+  -- no more are made than are missing
+  pub growth-at-most : length ms ≤ missing ns F
+  growth-at-most =
+      subst (λ (c : ℕ). c ≤ missing ns F) (news .2) (at-most ns (news .0) F (news-apart .0) (news-apart .1) news-serve)
+
+  -- THEOREM: as many, once F has a number
+  pub growth-exactly : (k : ℕ) → k < suc (suc (length (ns ++ ms))) → family (ns ++ ms) k ≡ F → length ms ≡ missing ns F
+  growth-exactly k h e = le-antisymm growth-at-most (subst (λ (X : Family). missing ns X ≤ length ms) e (least-growth ns ms n k h))
+
+  -- THEOREM: fewer, while a branch family of F has none: a table without room is then full
+  pub growth-full : (G : Family) → G ∈ branches F → (G ∈ families (ns ++ ms) → ⊥) → length ms < missing ns F
+  growth-full G g d =
+      subst (λ (c : ℕ). c < missing ns F) (news .2)
+      (fewer ns (news .0) F (news-apart .0) (news-apart .1) news-serve G g
+      (λ m. d (subst⁻¹ (λ (l : List Family). G ∈ l) (news .1) (Memᴰ·append-left (news .0) m)))
+      (λ m. d (subst⁻¹ (λ (l : List Family). G ∈ l) (news .1) (Memᴰ·append-right (families ns) m))))
+
+-- ---- a table that grew by just the missing nodes
+
+-- a list without repeats that is as long as one that has all of its elements has all of that one's
+pub pigeonhole-back : (xs ys : List Family) → Distinct xs → ((F : Family) → F ∈ xs → F ∈ ys) → length ys ≤ length xs → (F : Family) → F ∈ ys → F ∈ xs
+pigeonhole-back xs ys d s l F m = go (cases (amongb F xs))
+  where
+    go : (amongb F xs ≡ true) ⊎ (amongb F xs ≡ false) → F ∈ xs
+    go (inl e) = among-of F xs e
+    go (inr e) =
+        let less : length xs ≤ length (drop-one m) =
+        pigeonhole xs (drop-one m) d (λ G g. drop-keeps m G (s G g) (λ q. never (among-test F xs (Memᴰ·cast (sym q) g)) e)) in
+        absurd (omega (arith, drop-length m))
+
+-- THEOREM: nodes ms behind ns, as many as ns lacks for the family of k: what a number denotes was denoted before, or is a branch family of k's
+pub growth-serves : {K : List ℕ} (ns ms : List Node) → Nodes K (ns ++ ms) → (k : ℕ) → k < suc (suc (length (ns ++ ms)))
+    → length ms ≡ missing ns (family (ns ++ ms) k) → (G : Family) → G ∈ families (ns ++ ms) → (G ∈ families ns) ⊎ (G ∈ branches (family (ns ++ ms) k))
+unfolding missing
+growth-serves {K} ns ms n k h e G g =
+    ⊎-elim (λ a. inl a)
+    (λ b. inr (fresh-sound (branches F) (families ns) G
+    (pigeonhole-back (fresh (families ns) (branches F)) (l .0) (fresh-distinct (branches F) (families ns)) into-new (omega (arith, l .2)) G b) .0))
+    (List·Memᴰ·append-cases (families ns) (subst (λ (q : List Family). G ∈ q) (l .1) g))
+  where
+    F : Family
+    F = family (ns ++ ms) k
+
+    l : (l : List Family) × (families (ns ++ ms) ≡ families ns ++ l) × (length l ≡ length ms)
+    l = families-append ns ms
+
+    into-new : (H : Family) → H ∈ fresh (families ns) (branches F) → H ∈ l .0
+    into-new H m =
+        let s = fresh-sound (branches F) (families ns) H m in
+        let j = branch-known n k h H (s .0) in
+        ⊎-elim (λ c. absurd (s .1 c)) (λ c. c)
+        (List·Memᴰ·append-cases (families ns) (subst (λ (q : List Family). H ∈ q) (l .1) (Memᴰ·cast (j .2) (family-member (ns ++ ms) (j .0) (j .1)))))
+
+pub number-of : (ns : List Node) (G : Family) → G ∈ families ns → (k : ℕ) × (k < suc (suc (length ns))) × (G ≡ family ns k)
+unfolding family
+number-of ns G m = let r = index-of (families ns) G m in (r .0, omega (arith, r .1, length-families ns), r .2)
+
+pub number-in : (ns : List Node) (k : ℕ) → k < suc (suc (length ns)) → family ns k ∈ families ns
+number-in ns k h = family-member ns k h

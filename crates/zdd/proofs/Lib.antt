@@ -1,0 +1,22 @@
+-- Laws of the node table, lowest first.
+pub mod Grow
+pub mod Member
+pub mod Canon
+pub mod Sorting
+pub mod Keyed
+pub mod Listing
+pub mod Tested
+pub mod Extend
+pub mod Words
+pub mod Operations
+pub mod TableLaws
+pub mod Ordered
+pub mod Counting
+pub mod Under
+pub mod Nowaste
+pub mod Room
+pub mod Split
+pub mod Restrict
+pub mod Parts
+pub mod Got
+pub mod Examples

@@ -1,0 +1,127 @@
+-- Membership of a set in a family, and families whose sets begin late. Assumes nothing.
+use mathlib.Core.Path.{_≡_, refl, sym, ap, ap₂, _∙_, subst}
+use mathlib.Core.Bool.{Bool, true, false, _&&_, _||_}
+use mathlib.Core.List.{List, [], _∷_, _++_, map}
+use mathlib.Core.Logic.{_⊎_, inl, inr}
+use Prim.Native.Nat.{ℕ, suc, _≤_, _<_}
+use native.Mathlib.Omega.{arith}
+use lib.Dec.{eqb}
+use lib.ListN.{length, getD}
+use borrow.Author.Tests.{eqb-true}
+use Rattle.base.proofs.Bools.{never, is-false, and-left, and-right, and-both, or-cases, or-left, eqb-same}
+use Rattle.zdd.specs.Table.{Node, blank, Family, join, family, key, Over, Nodes, eqSet, elem}
+use Rattle.zdd.proofs.Grow.{family-ind, downward}
+use Rattle.zdd.specs.Work.{From}
+
+pub eqSet-same : (t : List ℕ) → eqSet t t ≡ true
+unfolding eqSet
+eqSet-same [] = refl
+eqSet-same (p ∷ t) = and-both (eqb p p) (eqSet t t) (eqb-same p) (eqSet-same t)
+
+pub eqSet-eq : (s t : List ℕ) → eqSet s t ≡ true → s ≡ t
+unfolding eqSet
+eqSet-eq [] [] e = refl
+eqSet-eq [] (q ∷ t) e = absurd (never e refl)
+eqSet-eq (p ∷ s) [] e = absurd (never e refl)
+eqSet-eq (p ∷ s) (q ∷ t) e =
+    ap₂ (λ (x : ℕ) (xs : List ℕ). x ∷ xs) (eqb-true p q (and-left (eqb p q) (eqSet s t) e)) (eqSet-eq s t (and-right (eqb p q) (eqSet s t) e))
+
+-- the first set of a family is in it
+pub elem-head : (t : List ℕ) (F : Family) → elem t (t ∷ F) ≡ true
+unfolding elem
+elem-head t F = or-left (eqSet t t) (elem t F) (eqSet-same t)
+
+pub elem-append : (t : List ℕ) (F G : Family) → elem t (F ++ G) ≡ (elem t F || elem t G)
+unfolding elem
+elem-append t [] G = refl
+elem-append t (u ∷ F) G = assoc (eqSet t u) (elem t (F ++ G)) (elem t F) (elem t G) (elem-append t F G)
+  where
+    assoc : (a b c d : Bool) → b ≡ (c || d) → (a || b) ≡ ((a || c) || d)
+    assoc true b c d e = refl
+    assoc false b c d e = e
+
+-- the sets with p in front
+pub elem-nil-map : (p : ℕ) (F : Family) → elem [] (map (λ (t : List ℕ). p ∷ t) F) ≡ false
+unfolding elem
+elem-nil-map p [] = refl
+elem-nil-map p (u ∷ F) = elem-nil-map p F
+
+pub elem-cons-map : (p q : ℕ) (t : List ℕ) (F : Family) → elem (q ∷ t) (map (λ (t : List ℕ). p ∷ t) F) ≡ (eqb q p && elem t F)
+unfolding elem
+elem-cons-map p q t [] = none (eqb q p)
+  where
+    none : (a : Bool) → false ≡ (a && false)
+    none true = refl
+    none false = refl
+elem-cons-map p q t (u ∷ F) =
+    ap (λ (b : Bool). (eqb q p && eqSet t u) || b) (elem-cons-map p q t F) ∙ spread (eqb q p) (eqSet t u) (elem t F)
+  where
+    spread : (a b c : Bool) → ((a && b) || (a && c)) ≡ (a && (b || c))
+    spread true b c = refl
+    spread false b c = refl
+
+pub elem-join-nil : (p : ℕ) (F1 F0 : Family) → elem [] (join p F1 F0) ≡ elem [] F0
+elem-join-nil p F1 F0 =
+    elem-append [] (map (λ (t : List ℕ). p ∷ t) F1) F0 ∙ ap (λ (b : Bool). b || elem [] F0) (elem-nil-map p F1)
+
+pub elem-join-cons : (p q : ℕ) (t : List ℕ) (F1 F0 : Family) → elem (q ∷ t) (join p F1 F0) ≡ ((eqb q p && elem t F1) || elem (q ∷ t) F0)
+elem-join-cons p q t F1 F0 =
+    elem-append (q ∷ t) (map (λ (t : List ℕ). p ∷ t) F1) F0 ∙ ap (λ (b : Bool). b || elem (q ∷ t) F0) (elem-cons-map p q t F1)
+
+-- a set that begins with q is in a join: by its label, or by the second family
+pub join-cases : (p q : ℕ) (t : List ℕ) (F1 F0 : Family) → elem (q ∷ t) (join p F1 F0) ≡ true
+    → ((q ≡ p) × (elem t F1 ≡ true)) ⊎ (elem (q ∷ t) F0 ≡ true)
+join-cases p q t F1 F0 e = go (or-cases (eqb q p && elem t F1) (elem (q ∷ t) F0) (sym (elem-join-cons p q t F1 F0) ∙ e))
+  where
+    go : ((eqb q p && elem t F1) ≡ true) ⊎ (elem (q ∷ t) F0 ≡ true) → ((q ≡ p) × (elem t F1 ≡ true)) ⊎ (elem (q ∷ t) F0 ≡ true)
+    go (inl a) = inl (eqb-true q p (and-left (eqb q p) (elem t F1) a), and-right (eqb q p) (elem t F1) a)
+    go (inr b) = inr b
+
+-- ---- where the sets of a family begin
+
+-- no set of F begins with p
+pub Avoids : ℕ → Family → Type 0
+Avoids p F = (t : List ℕ) → elem (p ∷ t) F ≡ false
+
+pub avoids-at : (p : ℕ) (F : Family) → Avoids p F → (t : List ℕ) → elem (p ∷ t) F ≡ false
+unfolding Avoids
+avoids-at p F a = a
+
+pub from-at : (K : List ℕ) (b : ℕ) (F : Family) → From K b F → (q : ℕ) (t : List ℕ) → elem (q ∷ t) F ≡ true → b ≤ key K q
+unfolding From
+from-at K b F f = f
+
+pub from-of : (K : List ℕ) (b : ℕ) (F : Family) → ((q : ℕ) (t : List ℕ) → elem (q ∷ t) F ≡ true → b ≤ key K q) → From K b F
+unfolding From
+from-of K b F f = f
+
+pub from-avoids : (K : List ℕ) (b p : ℕ) (F : Family) → From K b F → key K p < b → Avoids p F
+unfolding From Avoids
+from-avoids K b p F f h t = is-false (elem (p ∷ t) F) (λ e. let g : b ≤ key K p = f p t e in omega arith)
+
+pub from-nil : (K : List ℕ) (b : ℕ) → From K b []
+unfolding From elem
+from-nil K b q t e = absurd (never e refl)
+
+pub from-one : (K : List ℕ) (b : ℕ) → From K b ([] ∷ [])
+unfolding From elem
+from-one K b q t e = absurd (never e refl)
+
+pub from-join : (K : List ℕ) (b p : ℕ) (F1 F0 : Family) → b ≤ key K p → From K (suc (key K p)) F0 → From K b (join p F1 F0)
+unfolding From
+from-join K b p F1 F0 h f q t e = go (join-cases p q t F1 F0 e)
+  where
+    go : ((q ≡ p) × (elem t F1 ≡ true)) ⊎ (elem (q ∷ t) F0 ≡ true) → b ≤ key K q
+    go (inl a) = subst (λ (r : ℕ). b ≤ key K r) (sym (a .0)) h
+    go (inr a) = let g : suc (key K p) ≤ key K q = f q t a in omega arith
+
+-- the sets of a number's family begin no earlier than the number's label
+pub family-from : {K : List ℕ} {ns : List Node} → Nodes K ns → (k : ℕ) → k < suc (suc (length ns)) → (b : ℕ) → Over K ns b k → From K b (family ns k)
+family-from {K} {ns} n k h =
+    family-ind ns (downward n) (λ k F. (b : ℕ) → Over K ns b k → From K b F)
+    (λ b o. from-nil K b)
+    (λ b o. from-one K b)
+    (λ i w r l b o.
+    from-join K b (getD ns i blank .label) (family ns (getD ns i blank .hi)) (family ns (getD ns i blank .lo)) o
+    (l (suc (key K (getD ns i blank .label))) (n .each i w .lo-after)))
+    k h

@@ -1,0 +1,140 @@
+-- THEOREM: `sets` is in listing order: of two sets, the first label in the order of the keys that only one of them has is in the one listed first.
+-- So are the families of a sound table, and what a test keeps. Assumes nothing.
+use mathlib.Core.Path.{_≡_, refl, sym, ap, ap₂, _∙_, subst}
+use mathlib.Core.Bool.{Bool, true, false, _&&_, _||_}
+use mathlib.Core.List.{List, [], _∷_, _++_, map, Sublistᴰ, Sublistᴰ·slnil, Sublistᴰ·cons, Sublistᴰ·cons-cons}
+use mathlib.Core.Logic.{_⊎_, inl, inr}
+use Prim.Native.Nat.{ℕ, zero, suc, _<_}
+use native.Mathlib.Nat.{not-suc-le-zero, le-of-suc-le-suc}
+use native.Mathlib.Omega.{arith}
+use lib.Dec.{eqb}
+use lib.ListN.{length, getD}
+use borrow.Author.Tests.{eqb-true, eq-eqb, ne-eqb}
+use Rattle.base.proofs.Bools.{never, is-false, and-left, and-right, or-cases, or-left, or-right, eqb-same}
+use Rattle.zdd.specs.Table.{Family, join, key, eqSet, elem, allSets, sets, order, Keys, has}
+use Rattle.zdd.proofs.Member.{eqSet-same, eqSet-eq, elem-append, elem-nil-map, elem-cons-map}
+use Rattle.zdd.proofs.Sorting.{Sorted, order-sorted}
+use Rattle.zdd.proofs.Listing.{Listed, listed-part, part-elem}
+use Rattle.zdd.specs.ListingOrder.{Earlier, Descends}
+
+-- the k-th set of a family is in it
+pub nth-elem : (F : Family) (k : ℕ) → k < length F → elem (getD F k []) F ≡ true
+unfolding elem
+nth-elem [] k h = absurd (not-suc-le-zero h)
+nth-elem (t ∷ F) zero h = or-left (eqSet t t) (elem t F) (eqSet-same t)
+nth-elem (t ∷ F) (suc k) h = or-right (eqSet (getD F k []) t) (elem (getD F k []) F) (nth-elem F k (le-of-suc-le-suc h))
+
+descends-at : (K : List ℕ) (F : Family) → Descends K F → (i j : ℕ) → i < j → j < length F → Earlier K (getD F i []) (getD F j [])
+descends-at K [] d i j l h = absurd (not-suc-le-zero h)
+descends-at K (s ∷ F) d i zero l h = absurd (not-suc-le-zero l)
+descends-at K (s ∷ F) d zero (suc j) l h = d .0 (getD F j []) (nth-elem F j (le-of-suc-le-suc h))
+descends-at K (s ∷ F) d (suc i) (suc j) l h = descends-at K F (d .1) i j (le-of-suc-le-suc l) (le-of-suc-le-suc h)
+
+descends-part : (K : List ℕ) {F G : Family} → Sublistᴰ F G → Descends K G → Descends K F
+descends-part K Sublistᴰ·slnil d = d
+descends-part K (Sublistᴰ·cons s) d = descends-part K s (d .1)
+descends-part K (Sublistᴰ·cons-cons q s) d =
+    ((λ t e. subst (λ (u : List ℕ). Earlier K u t) (sym q) (d .0 t (part-elem t s e))), descends-part K s (d .1))
+
+descends-append : (K : List ℕ) (F G : Family) → Descends K F → Descends K G
+    → ((s t : List ℕ) → elem s F ≡ true → elem t G ≡ true → Earlier K s t) → Descends K (F ++ G)
+unfolding elem
+descends-append K [] G d e h = e
+descends-append K (s ∷ F) G d e h = (
+  λ t m. go t (or-cases (elem t F) (elem t G) (sym (elem-append t F G) ∙ m)),
+  descends-append K F G (d .1) e (λ u t a b. h u t (or-right (eqSet u s) (elem u F) a) b),
+)
+  where
+    go : (t : List ℕ) → (elem t F ≡ true) ⊎ (elem t G ≡ true) → Earlier K s t
+    go t (inl a) = d .0 t a
+    go t (inr b) = h s t (or-left (eqSet s s) (elem s F) (eqSet-same s)) b
+
+-- what has p in front
+front : (p : ℕ) (F : Family) (s : List ℕ) → elem s (map (λ (t : List ℕ). p ∷ t) F) ≡ true → (t : List ℕ) × (s ≡ p ∷ t) × (elem t F ≡ true)
+front p F [] e = absurd (never e (elem-nil-map p F))
+front p F (q ∷ t) e =
+    let b : (eqb q p && elem t F) ≡ true = sym (elem-cons-map p q t F) ∙ e in
+    (t, ap (λ (x : ℕ). x ∷ t) (eqb-true q p (and-left (eqb q p) (elem t F) b)), and-right (eqb q p) (elem t F) b)
+
+-- a set of `allSets ps` has labels of ps only
+inside : (ps s : List ℕ) (q : ℕ) → elem s (allSets ps) ≡ true → has q s ≡ true → has q ps ≡ true
+unfolding allSets elem has
+inside [] [] q e h = absurd (never h refl)
+inside [] (p ∷ s) q e h = absurd (never e refl)
+inside (p ∷ ps) s q e h =
+    go (or-cases (elem s (map (λ (t : List ℕ). p ∷ t) (allSets ps))) (elem s (allSets ps)) (sym (elem-append s (map (λ (t : List ℕ). p ∷ t) (allSets ps)) (allSets ps)) ∙ e))
+    (λ t m k. inside ps t q m k)
+  where
+    with-front : (r : (t : List ℕ) × (s ≡ p ∷ t) × (elem t (allSets ps) ≡ true)) → ((t : List ℕ) → elem t (allSets ps) ≡ true → has q t ≡ true → has q ps ≡ true)
+        → (eqb q p ≡ true) ⊎ (has q (r .0) ≡ true) → (eqb q p || has q ps) ≡ true
+    with-front r ih (inl a) = or-left (eqb q p) (has q ps) a
+    with-front r ih (inr a) = or-right (eqb q p) (has q ps) (ih (r .0) (r .2) a)
+
+    go : (elem s (map (λ (t : List ℕ). p ∷ t) (allSets ps)) ≡ true) ⊎ (elem s (allSets ps) ≡ true)
+        → ((t : List ℕ) → elem t (allSets ps) ≡ true → has q t ≡ true → has q ps ≡ true) → (eqb q p || has q ps) ≡ true
+    go (inl a) ih =
+        let r = front p (allSets ps) s a in
+        with-front r ih (or-cases (eqb q p) (has q (r .0)) (sym (ap (has q) (r .1)) ∙ h))
+    go (inr a) ih = or-right (eqb q p) (has q ps) (ih s a h)
+
+module _ (K : List ℕ) (p : ℕ) (ps : List ℕ) (later : (r : ℕ) → has r ps ≡ true → key K p < key K r) where
+  -- a label up to p is in no set of ps
+  without : (s : List ℕ) → elem s (allSets ps) ≡ true → (q : ℕ) → key K q < suc (key K p) → has q s ≡ false
+  without s e q l = is-false (has q s) (λ h. let z : key K p < key K q = later q (inside ps s q e h) in omega arith)
+
+  -- two sets with p in front
+  both-have : (F : Family) → ((t : List ℕ) → elem t F ≡ true → elem t (allSets ps) ≡ true) → Descends K F → Descends K (map (λ (t : List ℕ). p ∷ t) F)
+  unfolding elem has
+  both-have [] w d = tt
+  both-have (s ∷ F) w d = (
+    λ t m. let r = front p F t m in subst (Earlier K (p ∷ s)) (sym (r .1)) (step (r .0) (d .0 (r .0) (r .2))),
+    both-have F (λ t e. w t (or-right (eqSet t s) (elem t F) e)) (d .1),
+  )
+    where
+      step : (t : List ℕ) → Earlier K s t → Earlier K (p ∷ s) (p ∷ t)
+      step t e =
+          let z : key K p < key K (e .first) = later (e .first) (inside ps s (e .first) (w s (or-left (eqSet s s) (elem s F) (eqSet-same s))) (e .here)) in
+          let n : eqb (e .first) p ≡ false = ne-eqb (e .first) p (λ q. let k = ap (key K) q in omega arith) in
+          record {
+            first = e .first;
+            here = or-right (eqb (e .first) p) (has (e .first) s) (e .here);
+            not-there = ap₂ _||_ n (e .not-there);
+            before = λ q l. ap (λ (b : Bool). eqb q p || b) (e .before q l);
+          }
+
+  -- a set with p in front, and one without p
+  one-has : (s t : List ℕ) → elem s (map (λ (u : List ℕ). p ∷ u) (allSets ps)) ≡ true → elem t (allSets ps) ≡ true → Earlier K s t
+  unfolding has
+  one-has s t a b =
+      let r = front p (allSets ps) s a in
+      subst (λ (u : List ℕ). Earlier K u t) (sym (r .1)) (step (r .0) (r .2))
+    where
+      step : (u : List ℕ) → elem u (allSets ps) ≡ true → Earlier K (p ∷ u) t
+      step u c = record {
+        first = p;
+        here = or-left (eqb p p) (has p u) (eqb-same p);
+        not-there = without t b p (omega arith);
+        before = λ q l.
+            ap₂ _||_ (ne-eqb q p (λ e. let k = ap (key K) e in omega arith)) (without u c q (omega arith)) ∙ sym (without t b q (omega arith));
+      }
+
+all-descend : (K ps : List ℕ) → Sorted K ps → Descends K (allSets ps)
+unfolding allSets elem
+all-descend K [] s = ((λ t e. absurd (never e refl)), tt)
+all-descend K (p ∷ ps) s =
+    descends-append K (map (λ (t : List ℕ). p ∷ t) (allSets ps)) (allSets ps)
+    (both-have K p ps (s .0) (allSets ps) (λ t e. e) (all-descend K ps (s .1)))
+    (all-descend K ps (s .1))
+    (one-has K p ps (s .0))
+
+sets-descend : (K : List ℕ) → Keys K → Descends K (sets K)
+unfolding sets
+sets-descend K k = all-descend K (order K) (order-sorted K k)
+
+-- THEOREM: all sets are in listing order
+pub sets-ordered : (K : List ℕ) → Keys K → (i j : ℕ) → i < j → j < length (sets K) → Earlier K (getD (sets K) i []) (getD (sets K) j [])
+sets-ordered K k = descends-at K (sets K) (sets-descend K k)
+
+-- THEOREM: a listed family is in listing order
+pub listed-ordered : (K : List ℕ) → Keys K → (F : Family) → Listed K F → (i j : ℕ) → i < j → j < length F → Earlier K (getD F i []) (getD F j [])
+listed-ordered K k F s = descends-at K F (descends-part K (listed-part K F s) (sets-descend K k))
