@@ -1,2 +1,3 @@
 -- What the proofs of several calls use.
 pub mod Reading
+pub mod Covering

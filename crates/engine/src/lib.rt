@@ -7,8 +7,11 @@ ghost use lib.ListN.{length};
 ghost use Rattle.statement.specs.Replies.{countReply};
 ghost use Rattle.engine.specs.Answers.{tallyReply};
 ghost use Rattle.statement.specs.Postconditions.{CheckPost, CountPost};
+ghost use Rattle.statement.specs.Postconditions.{CoverPost};
 use query::Tally;
 use statement::Counted;
+use statement::Outcome;
+use statement::Report;
 use statement::Soundness;
 
 // The soundness check: 1, 2, 4 or sound.
@@ -54,4 +57,42 @@ pub fn count(m: u32, packages: &[u64], t: &[u32], answer: u32, work: &mut [u64])
     }
     let c = query::count(t, a, work);
     counted(c)
+}
+
+// The timetables covering d, with the step limit `limit` [document 01: B]: two working words are one place of the memo.
+pub fn cover(
+    m: u32,
+    packages: &[u64],
+    t: &mut [u32],
+    d: u64,
+    limit: u32,
+    work: &mut [u64],
+) -> Report
+    ensures { λ r. ⌜ CoverPost (now (packages .entry)) m (now (t .entry)) d limit (length (now (work .entry))) r (now (t .exit)) ⌝ }
+{
+    let mut keys = [0u32; 512];
+    let mut heads = [0u32; 65536];
+    let mut next = [0u32; 65536];
+    let r = guard::admit(m, packages, t, &mut keys, &mut heads, &mut next);
+    if r != 0 {
+        return statement::declined(r);
+    }
+    if !itemset::below(d, m) {
+        return statement::declined(7);
+    }
+    if work.len() / 2 == 0 {
+        return statement::declined(8);
+    }
+    let found = compile::cover(packages, t, &mut heads, &mut next, work, d, limit as u64);
+    if found.over {
+        return statement::declined(9);
+    }
+    if found.full {
+        return statement::declined(10);
+    }
+    Report {
+        outcome: Outcome::Answer(found.answer),
+        steps: found.steps as u32,
+        made: found.made,
+    }
 }

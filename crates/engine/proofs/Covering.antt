@@ -1,0 +1,95 @@
+-- cover: what the search's answer makes of the call's refusal and report. Assumes nothing.
+use mathlib.Core.Path.{_≡_, refl, sym, ap, _∙_, subst⁻¹}
+use mathlib.Core.Bool.{Bool, true, false, not, _||_}
+use mathlib.Core.List.{List}
+use Prim.Native.Nat.{ℕ, _/_, _≤_, _<_}
+use native.Mathlib.Omega.{arith}
+use lib.Dec.{ltb}
+use lib.ListN.{length}
+use borrow.Author.Tests.{ltb-false}
+use Rattle.base.proofs.Bools.{never}
+use Rattle.itemset.specs.Items.{belowb}
+use Rattle.zdd.specs.Table.{Family}
+use Rattle.zdd.proofs.Tested.{sound-test}
+use Rattle.exact_cover.specs.Cover.{keysOf, covering}
+use Rattle.exact_cover.specs.Steps.{steps}
+use Rattle.compile.specs.State.{Covered}
+use Rattle.statement.specs.declared.Report.{Report}
+use Rattle.statement.specs.Replies.{gives, outcomeReply}
+use Rattle.statement.specs.Refusals.{oversize, unknownItem, spent, full, coverRefusal}
+use Rattle.statement.specs.Postconditions.{Declined, Makes}
+use Rattle.statement.proofs.FirstOf.{pass, hit, none}
+use Rattle.statement.proofs.TestLaws.{enough, too-few}
+use Rattle.guard.specs.Admitted.{Good}
+use Rattle.guard.proofs.GuardLaws.{first-passed}
+
+-- a call that makes an answer is refused with n: its report says so, and the table is as before
+pub refuses : {K : List ℕ} {k : ℕ} {F : Family} {s : ℕ} {t : List ℕ} {r : Report} {t′ : List ℕ} (n : ℕ) → k ≡ n → (n ≡ 0 → ⊥) → t′ ≡ t
+    → ((u : List ℕ) → Declined n u r u) → Makes K k F s t r t′
+refuses {K} {k} {F} {s} {t} {r} {t′} n e f z d = record {
+  declined = λ h. subst⁻¹ (λ (i : ℕ). Declined i t r t′) e (subst⁻¹ (λ (u : List ℕ). Declined n t r u) z (d t));
+  answered = λ h. absurd (f (sym e ∙ h));
+}
+
+module _ {S : List ℕ} {m : ℕ} {t keys heads next : List ℕ} (g : Good S m t keys heads next) where
+  -- a word has room for M items
+  pub items-fit : m ≤ 64
+  unfolding oversize
+  items-fit = ltb-false 64 m (left (ltb 64 m) (ltb 512 (length S)) (g .sized))
+    where
+      left : (a b : Bool) → (a || b) ≡ false → a ≡ false
+      left true b e = absurd (never refl e)
+      left false b e = refl
+
+  -- refusals 7 and 8
+  module _ (d limit words : ℕ) where
+    pub item-unknown : belowb d m ≡ false → coverRefusal S m t d limit words ≡ 7
+    unfolding coverRefusal unknownItem
+    item-unknown e = first-passed _ g ∙ hit 7 _ (ap not e)
+
+    pub words-short : belowb d m ≡ true → words < 2 → coverRefusal S m t d limit words ≡ 8
+    unfolding coverRefusal unknownItem
+    words-short e h = first-passed _ g ∙ pass 7 _ (ap not e) ∙ hit 8 _ (too-few 2 words h)
+
+  -- the search was done: 9, 10 or its answer
+  module _ {d limit words : ℕ} {t′ heads′ next′ : List ℕ} {a n k : ℕ} {filled over : Bool} (e : belowb d m ≡ true) (h : 2 ≤ words)
+      (c : Covered S (words / 2) d limit t t′ heads′ next′ a n k filled over) where
+    pub limit-met : over ≡ true → coverRefusal S m t d limit words ≡ 9
+    unfolding coverRefusal unknownItem spent
+    limit-met o = first-passed _ g ∙ pass 7 _ (ap not e) ∙ pass 8 _ (enough 2 words h) ∙ hit 9 _ (sym (c .spent) ∙ o)
+
+    pub no-room : over ≡ false → filled ≡ true → coverRefusal S m t d limit words ≡ 10
+    unfolding coverRefusal unknownItem spent full
+    no-room o f =
+        first-passed _ g ∙ pass 7 _ (ap not e) ∙ pass 8 _ (enough 2 words h) ∙ pass 9 _ (sym (c .spent) ∙ o) ∙ hit 10 _ (sym (c .short o) ∙ f)
+
+    unrefused : over ≡ false → filled ≡ false → coverRefusal S m t d limit words ≡ 0
+    unfolding coverRefusal unknownItem spent full
+    unrefused o f =
+        first-passed _ g ∙ pass 7 _ (ap not e) ∙ pass 8 _ (enough 2 words h) ∙ pass 9 _ (sym (c .spent) ∙ o) ∙ pass 10 _ (sym (c .short o) ∙ f) ∙ none
+
+    -- steps within a limit of 32 bits fit 32 bits
+    pub steps-fit : over ≡ false → filled ≡ false → n ≤ limit
+    steps-fit o f =
+        let l : steps S (words / 2) d ≤ limit = ltb-false limit (steps S (words / 2) d) (sym (c .spent) ∙ o) in
+        omega (arith, c .answer o f .counted)
+
+    pub cover-answers : over ≡ false → filled ≡ false → (r : Report) → outcomeReply (r .outcome) ≡ gives a → r .steps ≡ n → r .made ≡ k
+        → Makes (keysOf S) (coverRefusal S m t d limit words) (covering S d) (steps S (words / 2) d) t r t′
+    cover-answers o f r out same made =
+        let w = c .answer o f in
+        record {
+          declined = λ z. absurd (omega (arith, unrefused o f));
+          answered = λ z. record {
+            number = a;
+            outcome = out;
+            known = w .known;
+            holds = w .denotes;
+            steps = same ∙ w .counted;
+            long = w .grown .long;
+            sound = sound-test (keysOf S) t′ (w .grown .sound);
+            old = w .grown .old;
+            grown = omega (arith, w .grew, made);
+            made = made ∙ w .exactly;
+          };
+        }

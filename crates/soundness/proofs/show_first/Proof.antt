@@ -1,0 +1,25 @@
+use lib.Seq.{length-take-le}
+use mathlib.Core.Path.{sym}
+use borrow.Author.Needs.{needs}
+use Rattle.soundness.proofs.show_first.Statement.{statement}
+use Rattle.soundness.proofs.show_first.Tie as tie
+
+slice-aggregate-show : tie.Need-slice-aggregate-show
+slice-aggregate-show c = search needs
+
+slice-aggregate-show-2 : tie.Need-slice-aggregate-show-2
+slice-aggregate-show-2 c = sym (length-take-le _ _ (c .before .before .if1 .taken))
+
+show-requires : tie.Need-show-requires
+show-requires c κs = search needs
+
+returns : tie.Need-returns
+returns c = search needs
+
+returns-2 : tie.Need-returns-2
+returns-2 c = search needs
+
+pub show-first-spec : {M : Type 1} → statement M
+show-first-spec =
+    tie.close
+    (tie.spec slice-aggregate-show slice-aggregate-show-2 show-requires returns returns-2)
