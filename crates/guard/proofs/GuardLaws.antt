@@ -57,24 +57,23 @@ passed-all {m} {S} k p l =
     let e : k ≡ length S = omega (arith, p .within) in
     p .rest ∙ ap (λ (j : ℕ). stray m (drop j S)) e ∙ ap (stray m) (drop-length S)
 
--- ---- refusals 1 and 2
+-- ---- refusal 1
 
-module _ (m : ℕ) (S : List ℕ) (ts : List (Bool × ℕ)) where
-  pub many-items : 64 < m → firstOf ((oversize m S, 1) ∷ ts) ≡ 1
-  unfolding oversize
-  many-items h = hit 1 ts (rw (lt-ltb 64 m h))
-
-  pub many-packages : 512 < length S → firstOf ((oversize m S, 1) ∷ ts) ≡ 1
-  unfolding oversize
-  many-packages h = hit 1 ts (go (ltb 64 m))
-    where
-      go : (b : Bool) → (b || ltb 512 (length S)) ≡ true
-      go true = refl
-      go false = lt-ltb 512 (length S) h
-
-pub sized : (m : ℕ) (S : List ℕ) → m ≤ 64 → length S ≤ 512 → oversize m S ≡ false
+pub many-items : (m : ℕ) (S : List ℕ) → 64 < m → oversize m S ≡ true
 unfolding oversize
-sized m S h l = rw (le-ltb 64 m h) (le-ltb 512 (length S) l)
+many-items m S h = rw (lt-ltb 64 m h)
+
+pub few-items : (m : ℕ) (S : List ℕ) → m ≤ 64 → oversize m S ≡ ltb 512 (length S)
+unfolding oversize
+few-items m S h = rw (le-ltb 64 m h)
+
+pub items-fit : (m : ℕ) (S : List ℕ) → oversize m S ≡ false → m ≤ 64
+unfolding oversize
+items-fit m S e = ltb-false 64 m (left (ltb 64 m) e)
+  where
+    left : (a : Bool) → (a || ltb 512 (length S)) ≡ false → a ≡ false
+    left true e = absurd (never refl e)
+    left false e = refl
 
 -- ---- refusals 1, 2 and 4
 

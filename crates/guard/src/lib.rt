@@ -25,14 +25,21 @@ fn clean(m: u32, packages: &[u64]) -> bool
     true
 }
 
+// Whether M or N is above its limit.
+fn too_large(m: u32, packages: &[u64]) -> bool
+    ensures { λ r. ⌜ r ≡ oversize m (now (packages .entry)) ⌝ }
+{
+    if m > 64 {
+        return true;
+    }
+    packages.len() > 512
+}
+
 // Refusal 1 or 2; 0 for neither.
 fn packages_refusal(m: u32, packages: &[u64]) -> u8
     ensures { λ r. ⌜ r ≡ firstOf ((oversize m (now (packages .entry)), 1) ∷ (stray m (now (packages .entry)), 2) ∷ []) ⌝ }
 {
-    if m > 64 {
-        return 1;
-    }
-    if packages.len() > 512 {
+    if too_large(m, packages) {
         return 1;
     }
     if !clean(m, packages) {
