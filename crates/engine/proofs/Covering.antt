@@ -1,13 +1,12 @@
 -- cover: what the search's answer makes of the call's refusal and report. Assumes nothing.
 use mathlib.Core.Path.{_≡_, refl, sym, ap, _∙_, subst⁻¹}
-use mathlib.Core.Bool.{Bool, true, false, not, _||_}
+use mathlib.Core.Bool.{Bool, true, false, not}
 use mathlib.Core.List.{List}
 use Prim.Native.Nat.{ℕ, _/_, _≤_, _<_}
 use native.Mathlib.Omega.{arith}
 use lib.Dec.{ltb}
 use lib.ListN.{length}
 use borrow.Author.Tests.{ltb-false}
-use Rattle.base.proofs.Bools.{never}
 use Rattle.itemset.specs.Items.{belowb}
 use Rattle.zdd.specs.Table.{Family}
 use Rattle.zdd.proofs.Tested.{sound-test}
@@ -16,31 +15,20 @@ use Rattle.exact_cover.specs.Steps.{steps}
 use Rattle.compile.specs.State.{Covered}
 use Rattle.statement.specs.declared.Report.{Report}
 use Rattle.statement.specs.Replies.{gives, outcomeReply}
-use Rattle.statement.specs.Refusals.{oversize, unknownItem, spent, full, coverRefusal}
+use Rattle.statement.specs.Refusals.{unknownItem, spent, full, coverRefusal}
 use Rattle.statement.specs.Postconditions.{Declined, Makes}
 use Rattle.statement.proofs.FirstOf.{pass, hit, none}
+use Rattle.statement.proofs.Kept.{refused-makes}
 use Rattle.statement.proofs.TestLaws.{enough, too-few}
 use Rattle.guard.specs.Admitted.{Good}
 use Rattle.guard.proofs.GuardLaws.{first-passed}
 
--- a call that makes an answer is refused with n: its report says so, and the table is as before
+-- the call is refused with n, and the table is as before
 pub refuses : {K : List ℕ} {k : ℕ} {F : Family} {s : ℕ} {t : List ℕ} {r : Report} {t′ : List ℕ} (n : ℕ) → k ≡ n → (n ≡ 0 → ⊥) → t′ ≡ t
     → ((u : List ℕ) → Declined n u r u) → Makes K k F s t r t′
-refuses {K} {k} {F} {s} {t} {r} {t′} n e f z d = record {
-  declined = λ h. subst⁻¹ (λ (i : ℕ). Declined i t r t′) e (subst⁻¹ (λ (u : List ℕ). Declined n t r u) z (d t));
-  answered = λ h. absurd (f (sym e ∙ h));
-}
+refuses {t = t} {r = r} n e f z d = refused-makes n e f (subst⁻¹ (λ (u : List ℕ). Declined n t r u) z (d t))
 
 module _ {S : List ℕ} {m : ℕ} {t keys heads next : List ℕ} (g : Good S m t keys heads next) where
-  -- a word has room for M items
-  pub items-fit : m ≤ 64
-  unfolding oversize
-  items-fit = ltb-false 64 m (left (ltb 64 m) (ltb 512 (length S)) (g .sized))
-    where
-      left : (a b : Bool) → (a || b) ≡ false → a ≡ false
-      left true b e = absurd (never refl e)
-      left false b e = refl
-
   -- refusals 7 and 8
   module _ (d limit words : ℕ) where
     pub item-unknown : belowb d m ≡ false → coverRefusal S m t d limit words ≡ 7

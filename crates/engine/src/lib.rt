@@ -3,11 +3,16 @@
 //
 // m is M, packages the N item sets, t the table's words; work are the working words, whose contents before a call do not matter.
 ghost use mathlib.Core.Path.{_≡_};
+ghost use Prim.Native.Nat.{_≤_, _<_};
 ghost use lib.ListN.{length};
+ghost use Rattle.zdd.specs.Table.{count};
+ghost use Rattle.exact_cover.specs.Cover.{keysOf};
+ghost use Rattle.query.specs.Questions.{familyAt};
+ghost use Rattle.family.specs.Memo.{combined, restricted};
 ghost use Rattle.statement.specs.Replies.{countReply};
+ghost use Rattle.statement.specs.Postconditions.{CheckPost, CountPost, CoverPost, PairPost, EitherPost, BothPost, OnlyPost, PackagePost, WithPost, WithoutPost};
 ghost use Rattle.engine.specs.Answers.{tallyReply};
-ghost use Rattle.statement.specs.Postconditions.{CheckPost, CountPost};
-ghost use Rattle.statement.specs.Postconditions.{CoverPost};
+ghost use Rattle.engine.specs.Reports.{Reported};
 use query::Tally;
 use statement::Counted;
 use statement::Outcome;
@@ -95,4 +100,115 @@ pub fn cover(
         steps: found.steps as u32,
         made: found.made,
     }
+}
+
+// The report of a call whose answer has the number k, or 65536 where there was no room for it. The table had `before` nodes before the call.
+fn report(t: &[u32], before: u32, k: u32) -> Report
+    requires { ⌜ 0 < length (now t) ⌝ }
+    requires { ⌜ (k < 65536 → before ≤ count (now t)) ⌝ }
+    ensures { λ r. ⌜ Reported (now (t .entry)) before k r ⌝ }
+{
+    if k < 65536 {
+        return Report {
+            outcome: Outcome::Answer(k),
+            steps: 0,
+            made: t[0] - before,
+        };
+    }
+    statement::declined(10)
+}
+
+// Union (op 0), intersection (1) or difference (2) of the answers a and b.
+fn pair(m: u32, packages: &[u64], t: &mut [u32], a: u32, b: u32, work: &mut [u64], op: u8) -> Report
+    ensures { λ r. ⌜ PairPost (now (packages .entry)) m (now (t .entry)) a b (combined op (keysOf (now (packages .entry))) (familyAt (now (t .entry)) a) (familyAt (now (t .entry)) b)) (length (now (work .entry))) r (now (t .exit)) ⌝ }
+{
+    let mut keys = [0u32; 512];
+    let mut heads = [0u32; 65536];
+    let mut next = [0u32; 65536];
+    let r = guard::admit(m, packages, t, &mut keys, &mut heads, &mut next);
+    if r != 0 {
+        return statement::declined(r);
+    }
+    let n = t[0];
+    if n + 2 <= a {
+        return statement::declined(5);
+    }
+    if n + 2 <= b {
+        return statement::declined(5);
+    }
+    if work.len() < 2 {
+        return statement::declined(8);
+    }
+    let last = packages.len();
+    let k = family::combination(t, &keys[..last], &mut heads, &mut next, op, a, b);
+    report(t, n, k)
+}
+
+// The timetables of the answer a that hold the package p, or those that do not.
+fn package(
+    m: u32,
+    packages: &[u64],
+    t: &mut [u32],
+    a: u32,
+    p: u32,
+    work: &mut [u64],
+    holding: bool,
+) -> Report
+    ensures { λ r. ⌜ PackagePost (now (packages .entry)) m (now (t .entry)) a p (restricted holding (keysOf (now (packages .entry))) p (familyAt (now (t .entry)) a)) (length (now (work .entry))) r (now (t .exit)) ⌝ }
+{
+    let mut keys = [0u32; 512];
+    let mut heads = [0u32; 65536];
+    let mut next = [0u32; 65536];
+    let r = guard::admit(m, packages, t, &mut keys, &mut heads, &mut next);
+    if r != 0 {
+        return statement::declined(r);
+    }
+    let n = t[0];
+    if n + 2 <= a {
+        return statement::declined(5);
+    }
+    if packages.len() <= base::wide(p) {
+        return statement::declined(6);
+    }
+    if work.len() < 2 {
+        return statement::declined(8);
+    }
+    let last = packages.len();
+    let k = family::restriction(t, &keys[..last], &mut heads, &mut next, p, holding, a);
+    report(t, n, k)
+}
+
+// Union: the timetables of a and those of b.
+pub fn either(m: u32, packages: &[u64], t: &mut [u32], a: u32, b: u32, work: &mut [u64]) -> Report
+    ensures { λ r. ⌜ EitherPost (now (packages .entry)) m (now (t .entry)) a b (length (now (work .entry))) r (now (t .exit)) ⌝ }
+{
+    pair(m, packages, t, a, b, work, 0)
+}
+
+// Intersection: the timetables of a that b has too.
+pub fn both(m: u32, packages: &[u64], t: &mut [u32], a: u32, b: u32, work: &mut [u64]) -> Report
+    ensures { λ r. ⌜ BothPost (now (packages .entry)) m (now (t .entry)) a b (length (now (work .entry))) r (now (t .exit)) ⌝ }
+{
+    pair(m, packages, t, a, b, work, 1)
+}
+
+// Difference: the timetables of a that b has not.
+pub fn only(m: u32, packages: &[u64], t: &mut [u32], a: u32, b: u32, work: &mut [u64]) -> Report
+    ensures { λ r. ⌜ OnlyPost (now (packages .entry)) m (now (t .entry)) a b (length (now (work .entry))) r (now (t .exit)) ⌝ }
+{
+    pair(m, packages, t, a, b, work, 2)
+}
+
+// The timetables of a that hold p.
+pub fn with(m: u32, packages: &[u64], t: &mut [u32], a: u32, p: u32, work: &mut [u64]) -> Report
+    ensures { λ r. ⌜ WithPost (now (packages .entry)) m (now (t .entry)) a p (length (now (work .entry))) r (now (t .exit)) ⌝ }
+{
+    package(m, packages, t, a, p, work, true)
+}
+
+// The timetables of a that do not hold p.
+pub fn without(m: u32, packages: &[u64], t: &mut [u32], a: u32, p: u32, work: &mut [u64]) -> Report
+    ensures { λ r. ⌜ WithoutPost (now (packages .entry)) m (now (t .entry)) a p (length (now (work .entry))) r (now (t .exit)) ⌝ }
+{
+    package(m, packages, t, a, p, work, false)
 }

@@ -3,7 +3,6 @@ ghost use mathlib.Core.Path.{_≡_};
 ghost use Prim.Native.Nat.{ℕ, suc, _+_, _-_, _*_, _<_, _≤_};
 ghost use lib.ListN.{length, getD, set};
 ghost use Rattle.zdd.specs.Table.{node, blank, count, nodesOf, family, Sound, Keys};
-ghost use Rattle.zdd.specs.Operations.{including, excluding, union, inter, differ};
 ghost use Rattle.table.specs.State.{Indexed};
 ghost use Rattle.family.specs.Gives.{Ready, Gives, Makes, Noded, Answers};
 ghost use Rattle.family.specs.Memo.{restricted, Kept, Soon, combined, Stored, Ends, Two, Top, Cut};
@@ -269,7 +268,7 @@ fn combine(
 }
 
 // The number of f's sets with p, or of those without p. Where there is no room it is 65536, and the table is as before.
-fn restriction(
+pub fn restriction(
     t: &mut [u32],
     keys: &[u32],
     heads: &mut [u32; 65536],
@@ -293,7 +292,7 @@ fn restriction(
 }
 
 // The number of f's and g's union (op 0), intersection (1) or difference (2). Where there is no room it is 65536, and the table is as before.
-fn combination(
+pub fn combination(
     t: &mut [u32],
     keys: &[u32],
     heads: &mut [u32; 65536],
@@ -314,84 +313,4 @@ fn combination(
         return 65536;
     }
     r
-}
-
-// The number of f's sets with p. Where there is no room it is 65536, and the table is as before.
-pub fn sets_with(
-    t: &mut [u32],
-    keys: &[u32],
-    heads: &mut [u32; 65536],
-    next: &mut [u32; 65536],
-    p: u32,
-    f: u32,
-) -> u32
-    requires { ⌜ Ready (now keys) (now t) (now heads) (now next) ⌝ }
-    requires { ⌜ (f < count (now t) + 2) × (p < length (now keys)) ⌝ }
-    ensures { λ r. ⌜ Makes (now (keys .entry)) (now (t .entry)) (now (t .exit)) (now (heads .exit)) (now (next .exit)) r (including (now (keys .entry)) p (family (nodesOf (now (t .entry))) f)) ⌝ }
-{
-    restriction(t, keys, heads, next, p, true, f)
-}
-
-// The number of f's sets without p. Where there is no room it is 65536, and the table is as before.
-pub fn sets_without(
-    t: &mut [u32],
-    keys: &[u32],
-    heads: &mut [u32; 65536],
-    next: &mut [u32; 65536],
-    p: u32,
-    f: u32,
-) -> u32
-    requires { ⌜ Ready (now keys) (now t) (now heads) (now next) ⌝ }
-    requires { ⌜ (f < count (now t) + 2) × (p < length (now keys)) ⌝ }
-    ensures { λ r. ⌜ Makes (now (keys .entry)) (now (t .entry)) (now (t .exit)) (now (heads .exit)) (now (next .exit)) r (excluding (now (keys .entry)) p (family (nodesOf (now (t .entry))) f)) ⌝ }
-{
-    restriction(t, keys, heads, next, p, false, f)
-}
-
-// The number of the sets in f or in g. Where there is no room it is 65536, and the table is as before.
-pub fn union(
-    t: &mut [u32],
-    keys: &[u32],
-    heads: &mut [u32; 65536],
-    next: &mut [u32; 65536],
-    f: u32,
-    g: u32,
-) -> u32
-    requires { ⌜ Ready (now keys) (now t) (now heads) (now next) ⌝ }
-    requires { ⌜ (f < count (now t) + 2) × (g < count (now t) + 2) ⌝ }
-    ensures { λ r. ⌜ Makes (now (keys .entry)) (now (t .entry)) (now (t .exit)) (now (heads .exit)) (now (next .exit)) r (union (now (keys .entry)) (family (nodesOf (now (t .entry))) f) (family (nodesOf (now (t .entry))) g)) ⌝ }
-{
-    combination(t, keys, heads, next, 0, f, g)
-}
-
-// The number of the sets in f and in g. Where there is no room it is 65536, and the table is as before.
-pub fn intersection(
-    t: &mut [u32],
-    keys: &[u32],
-    heads: &mut [u32; 65536],
-    next: &mut [u32; 65536],
-    f: u32,
-    g: u32,
-) -> u32
-    requires { ⌜ Ready (now keys) (now t) (now heads) (now next) ⌝ }
-    requires { ⌜ (f < count (now t) + 2) × (g < count (now t) + 2) ⌝ }
-    ensures { λ r. ⌜ Makes (now (keys .entry)) (now (t .entry)) (now (t .exit)) (now (heads .exit)) (now (next .exit)) r (inter (now (keys .entry)) (family (nodesOf (now (t .entry))) f) (family (nodesOf (now (t .entry))) g)) ⌝ }
-{
-    combination(t, keys, heads, next, 1, f, g)
-}
-
-// The number of the sets in f and not in g. Where there is no room it is 65536, and the table is as before.
-pub fn difference(
-    t: &mut [u32],
-    keys: &[u32],
-    heads: &mut [u32; 65536],
-    next: &mut [u32; 65536],
-    f: u32,
-    g: u32,
-) -> u32
-    requires { ⌜ Ready (now keys) (now t) (now heads) (now next) ⌝ }
-    requires { ⌜ (f < count (now t) + 2) × (g < count (now t) + 2) ⌝ }
-    ensures { λ r. ⌜ Makes (now (keys .entry)) (now (t .entry)) (now (t .exit)) (now (heads .exit)) (now (next .exit)) r (differ (now (keys .entry)) (family (nodesOf (now (t .entry))) f) (family (nodesOf (now (t .entry))) g)) ⌝ }
-{
-    combination(t, keys, heads, next, 2, f, g)
 }

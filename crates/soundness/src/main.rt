@@ -1,7 +1,6 @@
 // Runs the soundness check over hand-made tables, good and damaged, and prints 0 for sound or the number of the refusal.
 ghost use Prim.Native.Nat.{_≤_, _<_};
 ghost use lib.ListN.{length};
-
 use statement::Soundness;
 
 fn said(s: Soundness) -> u64 {
@@ -59,7 +58,12 @@ fn small() {
     show(b"all zeros", 6, &figure(), &[0u32; 16]);
     show(b"one word", 6, &figure(), &[0u32; 1]);
     show(b"no word", 6, &figure(), &diagram()[..0]);
-    show(b"a triple twice", 6, &figure(), &[2, 2, 0, 1, 2, 0, 1, 0, 0, 0]);
+    show(
+        b"a triple twice",
+        6,
+        &figure(),
+        &[2, 2, 0, 1, 2, 0, 1, 0, 0, 0],
+    );
 }
 
 // Refusals 1 and 2 come before 4, and 1 before 2.

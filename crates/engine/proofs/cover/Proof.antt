@@ -1,9 +1,9 @@
 use mathlib.Core.Path.{refl, sym, _∙_}
 use native.Mathlib.Omega.{arith}
 use borrow.Author.Tests.{not-true, not-false}
-use Rattle.engine.proofs.Covering.{refuses, items-fit, item-unknown, words-short, limit-met, no-room, steps-fit, cover-answers}
+use Rattle.engine.proofs.Covering.{refuses, item-unknown, words-short, limit-met, no-room, steps-fit, cover-answers}
 use Rattle.statement.specs.Refusals.{coverRefusal}
-use Rattle.guard.proofs.GuardLaws.{blank, first-refused}
+use Rattle.guard.proofs.GuardLaws.{blank, first-refused, items-fit}
 use borrow.Author.Needs.{needs}
 use Rattle.engine.proofs.cover.Statement.{statement}
 use Rattle.engine.proofs.cover.Tie as tie
@@ -25,7 +25,7 @@ unfolding coverRefusal
 returns c = refuses (c .before .before .before .admit .result) (first-refused _ (c .before .before .before .admit .ensures) (c .before .if1 .taken)) (c .before .if1 .taken) refl (c .declined .ensures)
 
 below-requires : tie.Need-below-requires
-below-requires c κs = items-fit (c .before .before .admit .ensures .ready (c .if1 .left))
+below-requires c κs = items-fit _ _ (c .before .before .admit .ensures .ready (c .if1 .left) .sized)
 
 declined-requires-2 : tie.Need-declined-requires-2
 declined-requires-2 c κs = search needs

@@ -1,0 +1,100 @@
+-- The calls that make an answer: what `family`'s functions ask, and what their results make of the calls' contracts. Assumes nothing.
+use mathlib.Core.Path.{_≡_, refl, sym, ap, _∙_, subst}
+use mathlib.Core.Logic.{_⊎_, inl, inr}
+use mathlib.Core.Bool.{Bool, true, false, _||_}
+use mathlib.Core.List.{List, [], _∷_}
+use Prim.Native.Nat.{ℕ, _+_, _-_, _≤_, _<_}
+use native.Mathlib.Nat.{eq-or-lt-of-le}
+use native.Mathlib.Omega.{arith}
+use lib.ListN.{length, take}
+use Rattle.zdd.specs.Table.{Family, count}
+use Rattle.zdd.proofs.Tested.{sound-test}
+use Rattle.exact_cover.proofs.Order.{length-keys}
+use Rattle.family.specs.Gives.{Ready, Makes as FamilyMakes}
+use Rattle.statement.specs.declared.Report.{Report}
+use Rattle.statement.specs.Refusals.{firstOf, unknownAnswer, full}
+use Rattle.statement.specs.Postconditions.{Declined, Makes}
+use Rattle.statement.proofs.Kept.{refused-makes}
+use Rattle.statement.proofs.FirstOf.{pass, hit, none}
+use Rattle.statement.proofs.TestLaws.{answer-known, answer-unknown}
+use Rattle.engine.specs.Reports.{Reported}
+use Rattle.guard.specs.Admitted.{Good}
+
+-- ---- 5
+
+-- 5 is said of either operand
+pub both-known : (t : List ℕ) (a b : ℕ) → a < count t + 2 → b < count t + 2 → (unknownAnswer t a || unknownAnswer t b) ≡ false
+both-known t a b h l = rw (answer-known t a h) (answer-known t b l)
+
+pub first-unknown : (t : List ℕ) (a b : ℕ) → count t + 2 ≤ a → (unknownAnswer t a || unknownAnswer t b) ≡ true
+first-unknown t a b h = rw (answer-unknown t a h)
+
+pub second-unknown : (t : List ℕ) (a b : ℕ) → count t + 2 ≤ b → (unknownAnswer t a || unknownAnswer t b) ≡ true
+second-unknown t a b h = go (unknownAnswer t a) (answer-unknown t b h)
+  where
+    go : (c : Bool) {d : Bool} → d ≡ true → (c || d) ≡ true
+    go true e = refl
+    go false e = e
+
+-- ---- admitted
+
+module _ {S : List ℕ} {m : ℕ} {t keys heads next : List ℕ} (g : Good S m t keys heads next) where
+  pub ready : Ready (take (length S) keys) t heads next
+  ready = rw (g .keyed .are) (record { keys = g .apart; sound = g .sound; indexed = g .indexed })
+
+  pub keys-fit : length S ≤ length keys
+  keys-fit = omega (arith, g .keyed .long, g .rows .few)
+
+  pub keys-taken : length (take (length S) keys) ≡ length S
+  keys-taken = ap length (g .keyed .are) ∙ length-keys S
+
+-- ---- what the inner function gave, and what is reported of it
+
+module _ {K t t′ heads′ next′ : List ℕ} {k : ℕ} {F : Family} (f : FamilyMakes K t t′ heads′ next′ k F) where
+  -- the table still has its word 0
+  pub makes-words : 0 < length t → 0 < length t′
+  makes-words h = go (eq-or-lt-of-le (f .small))
+    where
+      go : (k ≡ 65536) ⊎ (k < 65536) → 0 < length t′
+      go (inl e) = omega (arith, ap length (f .same e))
+      go (inr l) = omega (arith, f .done l .grown .long)
+
+  pub makes-more : k < 65536 → count t ≤ count t′
+  makes-more h = omega (arith, f .done h .made)
+
+module _ {K t t′ heads′ next′ : List ℕ} {k : ℕ} {F : Family} {r : Report} (f : FamilyMakes K t t′ heads′ next′ k F) (w : Reported t′ (count t) k r) where
+  reported-full : k ≡ 65536 → Makes K (firstOf ((full t F, 10) ∷ [])) F 0 t r t′
+  unfolding full
+  reported-full e =
+      let n : firstOf ((full t F, 10) ∷ []) ≡ 10 = hit 10 [] (f .full e) in
+      let d : Declined 10 t r t = rw (f .same e) at (w .full e) in
+      rw (f .same e) (refused-makes 10 n (λ z. omega arith) d)
+
+  reported-answer : k < 65536 → Makes K (firstOf ((full t F, 10) ∷ [])) F 0 t r t′
+  unfolding full
+  reported-answer h =
+      let n : firstOf ((full t F, 10) ∷ []) ≡ 0 = pass 10 [] (f .room h) ∙ none in
+      let d = f .done h in
+      record {
+        declined = λ z. absurd (omega (arith, n));
+        answered = λ z. record {
+          number = k;
+          outcome = w .outcome h;
+          known = d .known;
+          holds = d .holds;
+          steps = w .steps;
+          long = d .grown .long;
+          sound = sound-test K t′ (d .grown .sound);
+          old = d .grown .old;
+          grown = omega (arith, w .made h, d .made);
+          made = omega (arith, w .made h, d .made);
+        };
+      }
+
+  -- the other refusals do not apply
+  pub reported-makes : {n : ℕ} → n ≡ firstOf ((full t F, 10) ∷ []) → Makes K n F 0 t r t′
+  reported-makes {n} e = subst (λ (i : ℕ). Makes K i F 0 t r t′) (sym e) (go (eq-or-lt-of-le (f .small)))
+    where
+      go : (k ≡ 65536) ⊎ (k < 65536) → Makes K (firstOf ((full t F, 10) ∷ [])) F 0 t r t′
+      go (inl z) = reported-full z
+      go (inr h) = reported-answer h
