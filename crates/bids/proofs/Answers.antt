@@ -1,0 +1,55 @@
+-- What read refuses, and what it leaves in the buffers, from what it called. Assumes nothing.
+use mathlib.Core.Path.{_≡_, refl, sym, ap, _∙_}
+use mathlib.Core.Bool.{not}
+use mathlib.Core.List.{List, []}
+use Prim.Native.Nat.{ℕ, zero, suc, _≤_, _<_}
+use native.Mathlib.Omega.{arith}
+use borrow.Author.Tests.{lt-ltb, le-ltb, eq-eqb, ne-eqb}
+use lib.Dec.{ltb}
+use lib.ListN.{length}
+use Rattle.statement.specs.Postconditions.{written}
+use Rattle.statement.proofs.FirstOf.{pass, hit, none}
+use Rattle.base.proofs.Bools.{or-left, or-right}
+use Rattle.bids.specs.Ranges.{listed}
+use Rattle.bids.specs.Format.{schools, packages, itemsOf, costOf, refusal, packagesOf, costsOf}
+use Rattle.bids.specs.Contract.{readRefusal}
+use Rattle.bids.proofs.Laws.{over, over-room, length-listed}
+
+-- ---- the refusal
+
+module _ (b : List ℕ) (p c : ℕ) where
+  pub by-file : {r : ℕ} → r ≡ refusal b → (r ≡ 0 → ⊥) → readRefusal b p c ≡ r
+  unfolding readRefusal
+  by-file e f = hit (refusal b) _ (ap not (ne-eqb (refusal b) 0 (λ z. f (e ∙ z)))) ∙ sym e
+
+  module _ (z : refusal b ≡ 0) where
+    pub few-places : p < packages b → readRefusal b p c ≡ 15
+    unfolding readRefusal
+    few-places h = pass (refusal b) _ (ap not (eq-eqb (refusal b) 0 z)) ∙ hit 15 [] (or-left (ltb p (packages b)) (ltb c (packages b)) (lt-ltb p (packages b) h))
+
+    pub few-costs : c < packages b → readRefusal b p c ≡ 15
+    unfolding readRefusal
+    few-costs h = pass (refusal b) _ (ap not (eq-eqb (refusal b) 0 z)) ∙ hit 15 [] (or-right (ltb p (packages b)) (ltb c (packages b)) (lt-ltb c (packages b) h))
+
+    pub accepted : packages b ≤ p → packages b ≤ c → readRefusal b p c ≡ 0
+    unfolding readRefusal
+    accepted h k = pass (refusal b) _ (ap not (eq-eqb (refusal b) 0 z)) ∙ pass 15 [] (rw (le-ltb p (packages b) h) (le-ltb c (packages b) k)) ∙ none
+
+-- ---- the buffers
+
+pub unwritten : {k : ℕ} (n : ℕ) (vs l : List ℕ) → k ≡ n → (n ≡ 0 → ⊥) → l ≡ written k vs l
+unwritten zero vs l e f = absurd (f refl)
+unwritten (suc n) vs l e f = sym (ap (λ (i : ℕ). written i vs l) e)
+
+-- all of the list was stored, one after the other
+pub stored : (f : ℕ → ℕ) (l : List ℕ) {m : List ℕ} (n : ℕ) → m ≡ over (listed f n) l → n ≤ length l → m ≡ written 0 (listed f n) l
+stored f l n e p = e ∙ over-room (listed f n) l (omega (arith, length-listed f n))
+
+module _ (b l : List ℕ) {m : List ℕ} {s n r : ℕ} (z : r ≡ 0) (e : s ≡ schools b) (f : n ≡ packages b) where
+  pub items-stored : m ≡ written 0 (listed (itemsOf b s) n) l → m ≡ written r (packagesOf b) l
+  unfolding packagesOf
+  items-stored h = rw z (rw (e, f) at h)
+
+  pub costs-stored : m ≡ written 0 (listed (costOf b s) n) l → m ≡ written r (costsOf b) l
+  unfolding costsOf
+  costs-stored h = rw z (rw (e, f) at h)

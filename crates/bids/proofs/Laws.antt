@@ -1,0 +1,138 @@
+-- The laws of the definitions that the loops go by. Assumes nothing.
+use mathlib.Core.Path.{_≡_, refl, ap, _∙_}
+use mathlib.Core.Bool.{Bool, true, false, not}
+use mathlib.Core.List.{List, [], _∷_, _++_}
+use Prim.Native.Nat.{ℕ, zero, suc, _+_, _-_, _*_, _%_, _^_, _<_, _≤_}
+use native.Mathlib.Numerals.{add-one}
+use native.Mathlib.Decide.{ℕ-discrete}
+use native.Mathlib.Omega.{arith}
+use borrow.Author.Tests.{lt-ltb, le-ltb, ltb-false}
+use lib.Dec.{ltb}
+use lib.Bits.{bitXor}
+use lib.ListN.{length, getD, take, drop, set, length-append}
+use lib.Seq.{take-suc, sets, sets-eq, length-sets}
+use native.Mathlib.Nat.{add-zero, zero-add}
+use Rattle.base.proofs.Bools.{by-test}
+use Rattle.bids.specs.Bytes.{fnvFrom, fnv}
+use Rattle.bids.specs.Ranges.{first, some, listed}
+
+-- ---- the check
+
+fnvFrom-more : (h : ℕ) (xs : List ℕ) (x : ℕ) → fnvFrom h (xs ++ (x ∷ [])) ≡ bitXor (fnvFrom h xs) x * 16777619 % 2 ^ 32
+unfolding fnvFrom
+fnvFrom-more h [] x = refl
+fnvFrom-more h (y ∷ xs) x = fnvFrom-more (bitXor h y * 16777619 % 2 ^ 32) xs x
+
+pub fnv-none : (b : List ℕ) → 2166136261 ≡ fnv (take 0 b)
+unfolding fnv fnvFrom
+fnv-none b = refl
+
+pub fnv-more : (b : List ℕ) (i : ℕ) → i < length b → fnv (take (i + 1) b) ≡ bitXor (fnv (take i b)) (getD b i 0) * 16777619 % 2 ^ 32
+unfolding fnv
+fnv-more b i p = rw (add-one, take-suc b i 0) (fnvFrom-more 2166136261 (take i b) (getD b i 0))
+
+-- ---- the first that a test holds of
+
+-- the three ways of `first` at suc n
+way-below : (b c : Bool) (m n : ℕ) → b ≡ true → elim b [ true ↦ m | false ↦ elim c [ true ↦ n | false ↦ suc n ] ] ≡ m
+way-below b c m n e = rw e
+
+way-here : (b c : Bool) (m n : ℕ) → b ≡ false → c ≡ true → elim b [ true ↦ m | false ↦ elim c [ true ↦ n | false ↦ suc n ] ] ≡ n
+way-here b c m n e g = rw (e, g)
+
+way-none : (b c : Bool) (m n : ℕ) → b ≡ false → c ≡ false → elim b [ true ↦ m | false ↦ elim c [ true ↦ n | false ↦ suc n ] ] ≡ suc n
+way-none b c m n e g = rw (e, g)
+
+module _ (f : ℕ → Bool) where
+  pub first-zero : first f 0 ≡ 0
+  unfolding first
+  first-zero = refl
+
+  kept : (n : ℕ) → ltb (first f n) n ≡ true → first f (suc n) ≡ first f n
+  unfolding first
+  kept n e = way-below (ltb (first f n) n) (f n) (first f n) n e
+
+  here : (n : ℕ) → ltb (first f n) n ≡ false → f n ≡ true → first f (suc n) ≡ n
+  unfolding first
+  here n e g = way-here (ltb (first f n) n) (f n) (first f n) n e g
+
+  none : (n : ℕ) → ltb (first f n) n ≡ false → f n ≡ false → first f (suc n) ≡ suc n
+  unfolding first
+  none n e g = way-none (ltb (first f n) n) (f n) (first f n) n e g
+
+  -- none below n, and not n
+  pub first-more : (n : ℕ) → first f n ≡ n → f n ≡ false → first f (n + 1) ≡ n + 1
+  first-more n e g = rw add-one (none n (le-ltb (first f n) n (omega arith)) g)
+
+  -- none below i, and i
+  pub first-hit : (n i : ℕ) → i < n → first f i ≡ i → f i ≡ true → first f n ≡ i
+  first-hit zero i p e g = absurd (omega arith)
+  first-hit (suc n) i p e g = go (ℕ-discrete i n) (λ q. first-hit n i q e g)
+    where
+      go : Dec (i ≡ n) → (i < n → first f n ≡ i) → first f (suc n) ≡ i
+      go (yes q) ih = rw (← q) (here i (le-ltb (first f i) i (omega arith)) g)
+      go (no q) ih = let h = ih (omega arith) in kept n (lt-ltb (first f n) n (omega arith)) ∙ h
+
+  pub first-le : (n : ℕ) → first f n ≤ n
+  first-le zero = omega (arith, first-zero)
+  first-le (suc n) =
+      by-test (ltb (first f n) n) (λ e. omega (arith, kept n e, first-le n))
+      (λ e. by-test (f n) (λ g. omega (arith, here n e g)) (λ g. omega (arith, none n e g)))
+
+  last : (n : ℕ) → first f (suc n) ≡ suc n → (f n ≡ false) × (first f n ≡ n)
+  last n q =
+      by-test (ltb (first f n) n) (λ e. absurd (omega (arith, kept n e, first-le n)))
+      (λ e. by-test (f n) (λ g. absurd (omega (arith, here n e g))) (λ g. (g, omega (arith, first-le n, ltb-false (first f n) n e))))
+
+  -- it holds of none where the first is n
+  pub first-none : (n i : ℕ) → i < n → first f n ≡ n → f i ≡ false
+  first-none zero i p e = absurd (omega arith)
+  first-none (suc n) i p e = go (ℕ-discrete i n) (λ q. first-none n i q (last n e .1))
+    where
+      go : Dec (i ≡ n) → (i < n → f i ≡ false) → f i ≡ false
+      go (yes q) ih = rw q (last n e .0)
+      go (no q) ih = ih (omega arith)
+
+  pub some-hit : (n i : ℕ) → i < n → first f i ≡ i → f i ≡ true → some f n ≡ true
+  unfolding some
+  some-hit n i p e g = lt-ltb (first f n) n (omega (arith, first-hit n i p e g))
+
+  pub some-none : (n : ℕ) → first f n ≡ n → some f n ≡ false
+  unfolding some
+  some-none n e = le-ltb (first f n) n (omega (arith, e))
+
+  pub none-some : (n i : ℕ) → some f n ≡ false → i < n → f i ≡ false
+  unfolding some
+  none-some n i e p = first-none n i p (omega (arith, ltb-false (first f n) n e, first-le n))
+
+-- ---- a list by its places, and stored
+
+-- l with vs stored at its start, one after the other
+abbrev pub over : List ℕ → List ℕ → List ℕ
+over vs l = sets l 0 vs
+
+sets-more : (vs l : List ℕ) (i v : ℕ) → sets l i (vs ++ (v ∷ [])) ≡ set (sets l i vs) (i + length vs) v
+sets-more [] l i v = rw add-zero
+sets-more (w ∷ vs) l i v = sets-more vs (set l i w) (suc i) v ∙ ap (λ (k : ℕ). set (sets (set l i w) (suc i) vs) k v) (omega arith)
+
+pub over-long : (vs l : List ℕ) {m : List ℕ} → m ≡ over vs l → length m ≡ length l
+over-long vs l e = ap length e ∙ length-sets l 0 vs
+
+pub over-room : (vs l : List ℕ) → length vs ≤ length l → over vs l ≡ vs ++ drop (length vs) l
+over-room vs l p = sets-eq vs l 0 (omega arith) ∙ rw zero-add
+
+module _ (f : ℕ → ℕ) where
+  pub length-listed : (n : ℕ) → length (listed f n) ≡ n
+  unfolding listed
+  length-listed zero = refl
+  length-listed (suc n) = simp (length-append, length-listed n) (omega arith)
+
+  pub over-zero : (l : List ℕ) → l ≡ over (listed f 0) l
+  unfolding listed
+  over-zero l = refl
+
+  -- one store more
+  pub over-more : (l : List ℕ) (n v : ℕ) → v ≡ f n → set (over (listed f n) l) n v ≡ over (listed f (n + 1)) l
+  unfolding listed
+  over-more l n v e =
+      rw (add-one, e, sets-more (listed f n) l 0 (f n)) (ap (λ (k : ℕ). set (sets l 0 (listed f n)) k (f n)) (omega (arith, length-listed n)))

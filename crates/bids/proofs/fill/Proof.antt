@@ -1,0 +1,115 @@
+use native.Mathlib.Omega.{arith}
+use mathlib.Core.Path.{_≡_, _∙_}
+use Prim.Native.Nat.{_≤_, _-_}
+use Rattle.bids.specs.Ranges.{listed}
+use Rattle.bids.specs.Format.{packageAt, itemsOf, costOf}
+use Rattle.bids.proofs.Answers.{stored}
+use Rattle.bids.proofs.Laws.{over, over-zero, over-more, over-long}
+use Rattle.bids.proofs.Records.{items-read, school-read, cost-read}
+use Rattle.bids.proofs.fill.Statement.{statement}
+use Rattle.bids.proofs.fill.Tie as tie
+
+abbrev Inv-loop : tie.InvT-loop
+Inv-loop file s n packages₀ costs₀ c₀ k₀ packages costs c k = (k ≤ n) × (c .at ≡ packageAt s k) × (packages ≡ over (listed (itemsOf file s) k) packages₀) × (costs ≡ over (listed (costOf file s) k) costs₀)
+
+abbrev μ-loop : tie.MeasureT-loop
+μ-loop file s n packages₀ costs₀ c₀ k₀ packages costs c k = n - k
+
+mul-t10 : tie.Need-mul-t10 Inv-loop μ-loop
+mul-t10 c = omega (arith, c .before .before .before .pre .0 .few .0)
+
+add-t11 : tie.Need-add-t11 Inv-loop μ-loop
+add-t11 c = omega (arith, c .before .before .before .pre .0 .few .0)
+
+loop-holds : tie.Need-loop-holds Inv-loop μ-loop
+loop-holds c =
+    let a = c .before .before .before .args in
+    (omega arith, omega arith, over-zero (itemsOf (a .file .now) (a .s)) (a .packages .now), over-zero (costOf (a .file .now) (a .s)) (a .costs .now))
+
+school-index-requires : tie.Need-school-index-requires Inv-loop μ-loop
+school-index-requires c κs = omega (arith, c .before .before .before .before .before .pre .0 .long)
+
+package-record-requires : tie.Need-package-record-requires Inv-loop μ-loop
+package-record-requires c κs = omega (arith, c .before .before .before .before .before .before .pre .0 .long)
+
+items-of-requires : tie.Need-items-of-requires Inv-loop μ-loop
+items-of-requires c κs =
+    let a = c .before .before .before .before .before .before .before .args in
+    let p = c .before .before .before .before .before .before .before .pre .0 in
+    let k = c .before .before .before .loop .k in (
+      (omega (arith, p .known k (c .before .before .loop-test .taken), school-read (a .file .now) (a .s) k (c .before .before .before .loop .c .at) (c .before .before .before .loop .inv .1) (c .before .school-index .ensures)), p .few .0),
+      rw (items-read (a .file .now) (a .s) k (c .before .before .before .loop .c .at) (c .before .before .before .loop .inv .1) (c .before .school-index .ensures) (c .package-record .ensures .slots)) (p .inside k (c .before .before .loop-test .taken)),
+    )
+
+mul-packages : tie.Need-mul-packages Inv-loop μ-loop
+mul-packages c = omega (arith, c .before .before .before .before .before .before .before .before .pre .0 .few .1)
+
+slice-write-packages : tie.Need-slice-write-packages Inv-loop μ-loop
+slice-write-packages c = omega (arith, c .before .before .before .before .before .before .before .before .pre .1 .0, over-long (listed (itemsOf (c .before .before .before .before .before .before .before .before .args .file .now) (c .before .before .before .before .before .before .before .before .args .s)) (c .before .before .before .before .loop .k)) (c .before .before .before .before .before .before .before .before .args .packages .now) (c .before .before .before .before .loop .inv .2))
+
+cast-costs : tie.Need-cast-costs Inv-loop μ-loop
+cast-costs c = omega (arith, c .before .before .package-record .ensures .small)
+
+mul-costs : tie.Need-mul-costs Inv-loop μ-loop
+mul-costs c = omega (arith, c .before .before .before .before .before .before .before .before .before .pre .0 .few .1)
+
+slice-write-costs : tie.Need-slice-write-costs Inv-loop μ-loop
+slice-write-costs c = omega (arith, c .before .before .before .before .before .before .before .before .before .pre .1 .1, over-long (listed (costOf (c .before .before .before .before .before .before .before .before .before .args .file .now) (c .before .before .before .before .before .before .before .before .before .args .s)) (c .before .before .before .before .before .loop .k)) (c .before .before .before .before .before .before .before .before .before .args .costs .now) (c .before .before .before .before .before .loop .inv .3))
+
+add-k : tie.Need-add-k Inv-loop μ-loop
+add-k c = omega arith
+
+loop-less : tie.Need-loop-less Inv-loop μ-loop
+loop-less c = omega arith
+
+loop-again : tie.Need-loop-again Inv-loop μ-loop
+loop-again c =
+    let a = c .before .before .before .before .before .before .before .before .before .before .args in
+    let k = c .before .before .before .before .before .before .loop .k in
+    let f = a .file .now in (
+      omega arith,
+      omega (arith, c .before .before .before .package-record .ensures .next),
+      rw (c .before .before .before .before .before .before .loop .inv .2) (over-more (itemsOf f (a .s)) (a .packages .now) k (c .before .before .items-of .result)
+          (c .before .before .items-of .ensures ∙ items-read f (a .s) k (c .before .before .before .before .before .before .loop .c .at) (c .before .before .before .before .before .before .loop .inv .1) (c .before .before .before .before .school-index .ensures) (c .before .before .before .package-record .ensures .slots))),
+      rw (c .before .before .before .before .before .before .loop .inv .3) (over-more (costOf f (a .s)) (a .costs .now) k (c .before .before .before .package-record .result .cost)
+          (cost-read f (a .s) k (c .before .before .before .before .before .before .loop .c .at) (c .before .before .before .before .before .before .loop .inv .1) (c .before .before .before .package-record .ensures .cost))),
+    )
+
+same-length : tie.Need-same-length Inv-loop μ-loop
+same-length c = over-long (listed (itemsOf (c .before .before .before .before .before .args .file .now) (c .before .before .before .before .before .args .s)) (c .before .loop .k)) (c .before .before .before .before .before .args .packages .now) (c .before .loop .inv .2)
+
+same-length-2 : tie.Need-same-length-2 Inv-loop μ-loop
+same-length-2 c = over-long (listed (costOf (c .before .before .before .before .before .args .file .now) (c .before .before .before .before .before .args .s)) (c .before .loop .k)) (c .before .before .before .before .before .args .costs .now) (c .before .loop .inv .3)
+
+returns : tie.Need-returns Inv-loop μ-loop
+returns c =
+    let a = c .before .before .before .before .before .args in
+    let p = c .before .before .before .before .before .pre .1 in
+    let e : c .before .loop .k ≡ a .n = omega arith in (
+      stored (itemsOf (a .file .now) (a .s)) (a .packages .now) (a .n) (rw e at (c .before .loop .inv .2)) (p .0),
+      stored (costOf (a .file .now) (a .s)) (a .costs .now) (a .n) (rw e at (c .before .loop .inv .3)) (p .1),
+    )
+
+pub fill-spec : {M : Type 1} → statement M
+fill-spec =
+    tie.close
+    (tie.spec
+    Inv-loop
+    μ-loop
+    mul-t10
+    add-t11
+    loop-holds
+    school-index-requires
+    package-record-requires
+    items-of-requires
+    mul-packages
+    slice-write-packages
+    cast-costs
+    mul-costs
+    slice-write-costs
+    add-k
+    loop-less
+    loop-again
+    same-length
+    same-length-2
+    returns)

@@ -1,0 +1,82 @@
+use native.Mathlib.Omega.{arith}
+use mathlib.Core.Path.{_≡_, sym, _∙_}
+use Prim.Native.Nat.{ℕ, _≤_, _-_}
+use Rattle.bids.specs.Format.{packageAt, packageIn, samePackage}
+use Rattle.bids.specs.Contract.{PackagePost}
+use Rattle.bids.proofs.Laws.{first-zero, first-hit, first-more}
+use Rattle.bids.proofs.Records.{same-package}
+use borrow.Author.Needs.{needs}
+use Rattle.bids.proofs.package_index.Statement.{statement}
+use Rattle.bids.proofs.package_index.Tie as tie
+
+abbrev Inv-loop : tie.InvT-loop
+Inv-loop file s n wanted c₀ k₀ c k = (k ≤ n) × (c .at ≡ packageAt s k) × ((x : ℕ) → PackagePost file x wanted → packageIn file s k x ≡ k)
+
+abbrev μ-loop : tie.MeasureT-loop
+μ-loop file s n wanted c₀ k₀ c k = n - k
+
+package-record-requires : tie.Need-package-record-requires Inv-loop μ-loop
+package-record-requires c κs = omega arith
+
+mul-t9 : tie.Need-mul-t9 Inv-loop μ-loop
+mul-t9 c = search needs
+
+add-t10 : tie.Need-add-t10 Inv-loop μ-loop
+add-t10 c = search needs
+
+loop-holds : tie.Need-loop-holds Inv-loop μ-loop
+unfolding packageIn
+loop-holds c = (omega arith, omega arith, λ x p. first-zero (λ j. samePackage (c .before .before .args .file .now) (packageAt (c .before .before .args .s) j) x))
+
+package-record-requires-2 : tie.Need-package-record-requires-2 Inv-loop μ-loop
+package-record-requires-2 c κs = omega (arith, c .before .before .before .before .pre .0)
+
+same-package-requires : tie.Need-same-package-requires Inv-loop μ-loop
+same-package-requires c κs = search needs
+
+returns : tie.Need-returns Inv-loop μ-loop
+unfolding packageIn
+returns c =
+    let b = c .before .before .before .before .before .before .before .args .file .now in
+    let x = c .before .before .before .before .before .before .before .args .key .at in
+    sym (first-hit (λ j. samePackage b (packageAt (c .before .before .before .before .before .before .before .args .s) j) x) (c .before .before .before .before .before .before .before .args .n) (c .before .before .before .before .loop .k) (c .before .before .before .loop-test .taken) (c .before .before .before .before .loop .inv .2 x (c .before .before .before .before .before .package-record .ensures))
+    (same-package b (c .before .before .before .before .loop .inv .1) (c .before .before .package-record2 .ensures) (c .before .before .before .before .before .package-record .ensures) (c .before .same-package .ensures) ∙ c .if1 .taken))
+
+add-k : tie.Need-add-k Inv-loop μ-loop
+add-k c = search needs
+
+loop-less : tie.Need-loop-less Inv-loop μ-loop
+loop-less c = omega arith
+
+loop-again : tie.Need-loop-again Inv-loop μ-loop
+unfolding packageIn
+loop-again c =
+    let b = c .before .before .before .before .before .before .before .before .args .file .now in (
+      omega arith,
+      omega (arith, c .before .before .before .package-record2 .ensures .next),
+      λ x p. first-more (λ j. samePackage b (packageAt (c .before .before .before .before .before .before .before .before .args .s) j) x) (c .before .before .before .before .before .loop .k) (c .before .before .before .before .before .loop .inv .2 x p)
+          (same-package b (c .before .before .before .before .before .loop .inv .1) (c .before .before .before .package-record2 .ensures) p (c .before .before .same-package .ensures) ∙ c .before .if1 .left),
+    )
+
+returns-2 : tie.Need-returns-2 Inv-loop μ-loop
+returns-2 c =
+    let e : c .before .loop .k ≡ c .before .before .before .before .args .n = omega arith in
+    sym (rw e at (c .before .loop .inv .2 (c .before .before .before .before .args .key .at) (c .before .before .package-record .ensures)))
+
+pub package-index-spec : {M : Type 1} → statement M
+package-index-spec =
+    tie.close
+    (tie.spec
+    Inv-loop
+    μ-loop
+    package-record-requires
+    mul-t9
+    add-t10
+    loop-holds
+    package-record-requires-2
+    same-package-requires
+    returns
+    add-k
+    loop-less
+    loop-again
+    returns-2)

@@ -1,0 +1,100 @@
+use Rattle.bids.proofs.Answers.{by-file, few-places, few-costs, accepted, unwritten, items-stored, costs-stored}
+use Rattle.bids.proofs.Fit.{readable}
+use Rattle.bids.proofs.Refused.{whole}
+use Rattle.bids.specs.Format.{refusal, packagesOf, costsOf}
+use Rattle.bids.specs.Format as F
+use Rattle.statement.proofs.TestLaws.{reply-refused, reply-gives}
+use lib.ListN.{length}
+use native.Mathlib.Omega.{arith}
+use mathlib.Core.Path.{sym, _∙_}
+use borrow.Author.Needs.{needs}
+use Rattle.bids.proofs.read.Statement.{statement}
+use Rattle.bids.proofs.read.Tie as tie
+
+refusal-requires : tie.Need-refusal-requires
+refusal-requires c κs = search needs
+
+returns : tie.Need-returns
+returns c =
+    let a = c .before .before .before .before .before .args in
+    let b = a .file .now in
+    let e = by-file b (length (a .packages .now)) (length (a .costs .now)) (c .before .refusal .ensures) (c .if1 .taken) in
+    record {
+      answer = reply-refused (c .before .refusal .result) (F.schools b, (F.slots b, F.packages b)) e (c .if1 .taken);
+      items = unwritten (c .before .refusal .result) (packagesOf b) (a .packages .now) e (c .if1 .taken);
+      costs = unwritten (c .before .refusal .result) (costsOf b) (a .costs .now) e (c .if1 .taken);
+    }
+
+read-header-requires : tie.Need-read-header-requires
+read-header-requires c κs = whole (c .before .before .before .before .before .args .file .now) (sym (c .before .refusal .ensures) ∙ c .if1 .left)
+
+cast-s : tie.Need-cast-s
+cast-s c = search needs
+
+cast-t : tie.Need-cast-t
+cast-t c = search needs
+
+returns-2 : tie.Need-returns-2
+returns-2 c =
+    let a = c .before .before .before .before .before .before .before .before .before .args in
+    let b = a .file .now in
+    let e = few-places b (length (a .packages .now)) (length (a .costs .now)) (sym (c .before .before .before .before .before .refusal .ensures) ∙ c .before .before .before .before .if1 .left) (omega (arith, c .before .before .before .read-header .ensures .packages, c .if2 .taken)) in
+    record {
+      answer = reply-refused 15 (F.schools b, (F.slots b, F.packages b)) e (λ z. omega arith);
+      items = unwritten 15 (packagesOf b) (a .packages .now) e (λ z. omega arith);
+      costs = unwritten 15 (costsOf b) (a .costs .now) e (λ z. omega arith);
+    }
+
+returns-3 : tie.Need-returns-3
+returns-3 c =
+    let a = c .before .before .before .before .before .before .before .before .before .before .args in
+    let b = a .file .now in
+    let e = few-costs b (length (a .packages .now)) (length (a .costs .now)) (sym (c .before .before .before .before .before .before .refusal .ensures) ∙ c .before .before .before .before .before .if1 .left) (omega (arith, c .before .before .before .before .read-header .ensures .packages, c .if3 .taken)) in
+    record {
+      answer = reply-refused 15 (F.schools b, (F.slots b, F.packages b)) e (λ z. omega arith);
+      items = unwritten 15 (packagesOf b) (a .packages .now) e (λ z. omega arith);
+      costs = unwritten 15 (costsOf b) (a .costs .now) e (λ z. omega arith);
+    }
+
+wide-requires : tie.Need-wide-requires
+wide-requires c κs = search needs
+
+fill-requires : tie.Need-fill-requires
+fill-requires c κs =
+    let p = c .before .before .before .before .before .before .before .read-header .ensures in
+    (readable (c .before .before .before .before .before .before .before .before .before .before .before .before .before .args .file .now) (sym (c .before .before .before .before .before .before .before .before .before .refusal .ensures) ∙ c .before .before .before .before .before .before .before .before .if1 .left) (c .before .before .wide .ensures ∙ p .schools) (p .packages), (omega (arith, c .before .before .before .before .if2 .left), omega (arith, c .before .before .before .if3 .left)))
+
+same-length : tie.Need-same-length
+same-length c = search needs
+
+same-length-2 : tie.Need-same-length-2
+same-length-2 c = search needs
+
+returns-4 : tie.Need-returns-4
+returns-4 c =
+    let a = c .before .before .before .before .before .before .before .before .before .before .before .before .before .before .before .before .before .before .args in
+    let b = a .file .now in
+    let p = c .before .before .before .before .before .before .before .before .before .before .before .before .read-header .ensures in
+    let e = accepted b (length (a .packages .now)) (length (a .costs .now)) (sym (c .before .before .before .before .before .before .before .before .before .before .before .before .before .before .refusal .ensures) ∙ c .before .before .before .before .before .before .before .before .before .before .before .before .before .if1 .left) (omega (arith, p .packages, c .before .before .before .before .before .before .before .before .before .if2 .left)) (omega (arith, p .packages, c .before .before .before .before .before .before .before .before .if3 .left)) in
+    record {
+      answer = (rw (p .schools, p .slots, p .packages) (reply-gives (F.schools b, (F.slots b, F.packages b)) e));
+      items = items-stored b (a .packages .now) e (c .before .before .before .before .before .before .before .wide .ensures ∙ p .schools) (p .packages) (c .before .before .before .before .fill .ensures .0);
+      costs = costs-stored b (a .costs .now) e (c .before .before .before .before .before .before .before .wide .ensures ∙ p .schools) (p .packages) (c .before .before .before .before .fill .ensures .1);
+    }
+
+pub read-spec : {M : Type 1} → statement M
+read-spec =
+    tie.close
+    (tie.spec
+    refusal-requires
+    returns
+    read-header-requires
+    cast-s
+    cast-t
+    returns-2
+    returns-3
+    wide-requires
+    fill-requires
+    same-length
+    same-length-2
+    returns-4)

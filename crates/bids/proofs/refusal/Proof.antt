@@ -1,0 +1,42 @@
+use mathlib.Core.List.{[]}
+use Rattle.bids.proofs.Refused.{is-cut, by-header, header-passed, by-records, sized}
+use mathlib.Core.Path.{sym, _∙_}
+use borrow.Author.Needs.{needs}
+use Rattle.bids.proofs.refusal.Statement.{statement}
+use Rattle.bids.proofs.refusal.Tie as tie
+
+returns : tie.Need-returns
+returns c = is-cut (c .before .before .args .file .now) (c .if1 .taken)
+
+read-header-requires : tie.Need-read-header-requires
+read-header-requires c κs = search needs
+
+header-refusal-requires : tie.Need-header-refusal-requires
+header-refusal-requires c κs = search needs
+
+returns-2 : tie.Need-returns-2
+returns-2 c = by-header (c .before .before .before .before .before .args .file .now) (c .before .before .before .if1 .left) (c .before .header-refusal .ensures) (c .if2 .taken)
+
+cast-record-refusal : tie.Need-cast-record-refusal
+cast-record-refusal c = search needs
+
+record-refusal-requires : tie.Need-record-refusal-requires
+record-refusal-requires c κs =
+    let b = c .before .before .before .before .before .before .args .file .now in
+    let p = c .before .before .before .read-header .ensures in
+    sized b (p .schools) (p .slots) (p .packages) (header-passed b [] (sym (c .before .before .header-refusal .ensures) ∙ c .before .if2 .left) .0)
+
+returns-3 : tie.Need-returns-3
+returns-3 c = c .record-refusal .ensures ∙ sym (by-records (c .before .before .before .before .before .before .before .args .file .now) (c .before .before .before .before .before .if1 .left) (sym (c .before .before .before .header-refusal .ensures) ∙ c .before .before .if2 .left))
+
+pub refusal-spec : {M : Type 1} → statement M
+refusal-spec =
+    tie.close
+    (tie.spec
+    returns
+    read-header-requires
+    header-refusal-requires
+    returns-2
+    cast-record-refusal
+    record-refusal-requires
+    returns-3)

@@ -1,0 +1,73 @@
+use native.Mathlib.Omega.{arith}
+use mathlib.Core.Path.{_≡_, sym, _∙_}
+use Prim.Native.Nat.{ℕ, _≤_, _-_}
+use Rattle.bids.specs.Format.{schoolAt, schoolIn, sameSchool}
+use Rattle.bids.proofs.Laws.{first-zero, first-hit, first-more}
+use Rattle.bids.proofs.Records.{Names, names, same-school}
+use borrow.Author.Needs.{needs}
+use Rattle.bids.proofs.school_index.Statement.{statement}
+use Rattle.bids.proofs.school_index.Tie as tie
+
+abbrev Inv-loop : tie.InvT-loop
+Inv-loop file n wanted c₀ j₀ c j = (j ≤ n) × (c .at ≡ schoolAt j) × ((x : ℕ) → Names file x wanted → schoolIn file j x ≡ j)
+
+abbrev μ-loop : tie.MeasureT-loop
+μ-loop file n wanted c₀ j₀ c j = n - j
+
+school-record-requires : tie.Need-school-record-requires Inv-loop μ-loop
+school-record-requires c κs = omega arith
+
+loop-holds : tie.Need-loop-holds Inv-loop μ-loop
+unfolding schoolIn
+loop-holds c = (omega arith, omega arith, λ x p. first-zero (λ j. sameSchool (c .before .before .before .args .file .now) (schoolAt j) x))
+
+school-record-requires-2 : tie.Need-school-record-requires-2 Inv-loop μ-loop
+school-record-requires-2 c κs = omega (arith, c .before .before .before .before .before .pre .0)
+
+same-school-requires : tie.Need-same-school-requires Inv-loop μ-loop
+same-school-requires c κs = search needs
+
+returns : tie.Need-returns Inv-loop μ-loop
+unfolding schoolIn
+returns c =
+    let b = c .before .before .before .before .before .before .before .before .before .args .file .now in
+    let x = c .before .before .before .before .before .before .before .before .before .args .key .at in
+    sym (first-hit (λ j. sameSchool b (schoolAt j) x) (c .before .before .before .before .before .before .before .before .before .args .n) (c .before .before .before .before .before .loop .j) (c .before .before .before .before .loop-test .taken) (c .before .before .before .before .before .loop .inv .2 x (names (c .before .before .before .before .before .before .before .school-record .ensures)))
+    (same-school b (c .before .before .before .before .before .loop .inv .1) (c .before .before .before .school-record2 .ensures) (names (c .before .before .before .before .before .before .before .school-record .ensures)) (c .before .same-school .ensures) ∙ c .if1 .taken))
+
+add-j : tie.Need-add-j Inv-loop μ-loop
+add-j c = search needs
+
+loop-less : tie.Need-loop-less Inv-loop μ-loop
+loop-less c = omega arith
+
+loop-again : tie.Need-loop-again Inv-loop μ-loop
+unfolding schoolIn
+loop-again c =
+    let b = c .before .before .before .before .before .before .before .before .before .before .args .file .now in (
+      omega arith,
+      omega (arith, c .before .before .before .before .school-record2 .ensures .next),
+      λ x p. first-more (λ j. sameSchool b (schoolAt j) x) (c .before .before .before .before .before .before .loop .j) (c .before .before .before .before .before .before .loop .inv .2 x p)
+          (same-school b (c .before .before .before .before .before .before .loop .inv .1) (c .before .before .before .before .school-record2 .ensures) p (c .before .before .same-school .ensures) ∙ c .before .if1 .left),
+    )
+
+returns-2 : tie.Need-returns-2 Inv-loop μ-loop
+returns-2 c =
+    let e : c .before .loop .j ≡ c .before .before .before .before .before .args .n = omega arith in
+    sym (rw e at (c .before .loop .inv .2 (c .before .before .before .before .before .args .key .at) (names (c .before .before .before .school-record .ensures))))
+
+pub school-index-spec : {M : Type 1} → statement M
+school-index-spec =
+    tie.close
+    (tie.spec
+    Inv-loop
+    μ-loop
+    school-record-requires
+    loop-holds
+    school-record-requires-2
+    same-school-requires
+    returns
+    add-j
+    loop-less
+    loop-again
+    returns-2)
