@@ -329,14 +329,14 @@ known-missing {K} ns n k h =
 
 -- ---- branch families of branch families
 
-hi-under : (p : ℕ) (s : List ℕ) (F G : Family) → G ∈ branches (starting p ((p ∷ s) ∷ F)) → G ∈ branches ((p ∷ s) ∷ F)
+pub hi-under : (p : ℕ) (s : List ℕ) (F G : Family) → G ∈ branches (starting p ((p ∷ s) ∷ F)) → G ∈ branches ((p ∷ s) ∷ F)
 hi-under p s F G m = subst⁻¹ (λ (l : List Family). G ∈ l) (branches-cons p s F) (List·Memᴰ·tail (Memᴰ·append-left _ m))
 
-lo-under : (p : ℕ) (s : List ℕ) (F G : Family) → G ∈ branches (others p ((p ∷ s) ∷ F)) → G ∈ branches ((p ∷ s) ∷ F)
+pub lo-under : (p : ℕ) (s : List ℕ) (F G : Family) → G ∈ branches (others p ((p ∷ s) ∷ F)) → G ∈ branches ((p ∷ s) ∷ F)
 lo-under p s F G m =
     subst⁻¹ (λ (l : List Family). G ∈ l) (branches-cons p s F) (List·Memᴰ·tail (Memᴰ·append-right (branches (starting p ((p ∷ s) ∷ F))) m))
 
-branches-empty : (F : Family) → branches ([] ∷ F) ≡ []
+pub branches-empty : (F : Family) → branches ([] ∷ F) ≡ []
 unfolding branches branchesTo weight
 branches-empty F = refl
 

@@ -12,7 +12,7 @@ use Rattle.zdd.proofs.Member.{Avoids, from-avoids}
 use Rattle.zdd.specs.Work.{From, Under}
 use Rattle.zdd.proofs.Listing.{Listed, listed-part}
 use Rattle.zdd.specs.Branches.{starting, others, weight, branchesTo, branches, fresh, missing}
-use Rattle.zdd.proofs.Counting.{weight-hi, weight-lo, branches-cons, branches-join, branches-nil, branches-one, at-most, fresh-sound, fresh-distinct}
+use Rattle.zdd.proofs.Counting.{branches-cons, branches-join, branches-nil, branches-one, at-most, fresh-sound, fresh-distinct, hi-under, lo-under, branches-empty, branches-closed}
 
 pub under-self : (F : Family) → Under F F
 under-self F = record { each = λ H m. m }
@@ -35,38 +35,27 @@ under-one G = under-none branches-one G
 
 -- ---- the sets of F that begin with its first label, and the others
 
-starting-in : (p : ℕ) (s : List ℕ) (F H : Family) → H ∈ branches (starting p ((p ∷ s) ∷ F)) → H ∈ branches ((p ∷ s) ∷ F)
-starting-in p s F H m = subst⁻¹ (λ (l : List Family). H ∈ l) (branches-cons p s F) (List·Memᴰ·tail (Memᴰ·append-left _ m))
-
-others-in : (p : ℕ) (s : List ℕ) (F H : Family) → H ∈ branches (others p ((p ∷ s) ∷ F)) → H ∈ branches ((p ∷ s) ∷ F)
-others-in p s F H m =
-    subst⁻¹ (λ (l : List Family). H ∈ l) (branches-cons p s F) (List·Memᴰ·tail (Memᴰ·append-right (branches (starting p ((p ∷ s) ∷ F))) m))
-
 pub under-starting : (p : ℕ) (s : List ℕ) (F : Family) → Under (starting p ((p ∷ s) ∷ F)) ((p ∷ s) ∷ F)
-under-starting p s F = record { each = starting-in p s F }
+under-starting p s F = record { each = hi-under p s F }
 
 pub under-others : (p : ℕ) (s : List ℕ) (F : Family) → Under (others p ((p ∷ s) ∷ F)) ((p ∷ s) ∷ F)
-under-others p s F = record { each = others-in p s F }
-
-no-branch : (F : Family) → branches ([] ∷ F) ≡ []
-unfolding branches branchesTo weight
-no-branch F = refl
+under-others p s F = record { each = lo-under p s F }
 
 -- a family is its own branch family, or has none (it has no set, or the empty set comes first)
 pub self-or-none : (F : Family) → (F ∈ branches F) ⊎ (branches F ≡ [])
 self-or-none [] = inr branches-nil
-self-or-none ([] ∷ F) = inr (no-branch F)
+self-or-none ([] ∷ F) = inr (branches-empty F)
 self-or-none ((p ∷ s) ∷ F) = inl (subst⁻¹ (λ (l : List Family). ((p ∷ s) ∷ F) ∈ l) (branches-cons p s F) (List·Memᴰ·head refl))
 
 pub starting-or-none : (p : ℕ) (s : List ℕ) (F : Family)
     → (starting p ((p ∷ s) ∷ F) ∈ branches ((p ∷ s) ∷ F)) ⊎ (branches (starting p ((p ∷ s) ∷ F)) ≡ [])
 starting-or-none p s F =
-    ⊎-elim (λ m. inl (starting-in p s F (starting p ((p ∷ s) ∷ F)) m)) (λ e. inr e) (self-or-none (starting p ((p ∷ s) ∷ F)))
+    ⊎-elim (λ m. inl (hi-under p s F (starting p ((p ∷ s) ∷ F)) m)) (λ e. inr e) (self-or-none (starting p ((p ∷ s) ∷ F)))
 
 pub others-or-none : (p : ℕ) (s : List ℕ) (F : Family)
     → (others p ((p ∷ s) ∷ F) ∈ branches ((p ∷ s) ∷ F)) ⊎ (branches (others p ((p ∷ s) ∷ F)) ≡ [])
 others-or-none p s F =
-    ⊎-elim (λ m. inl (others-in p s F (others p ((p ∷ s) ∷ F)) m)) (λ e. inr e) (self-or-none (others p ((p ∷ s) ∷ F)))
+    ⊎-elim (λ m. inl (lo-under p s F (others p ((p ∷ s) ∷ F)) m)) (λ e. inr e) (self-or-none (others p ((p ∷ s) ∷ F)))
 
 -- a family under F is a branch family of F, or has none
 pub under-cases : {F G : Family} → Under G F → (G ∈ branches F) ⊎ (branches G ≡ [])
@@ -94,29 +83,9 @@ listed-terminal K [] l e = inl refl
 listed-terminal K ([] ∷ R) l e = inr (ap (λ (F : Family). [] ∷ F) (sets-empty K R (listed-part K ([] ∷ R) l)))
 listed-terminal K ((p ∷ s) ∷ R) l e = absurd (cons≢nil (sym (branches-cons p s R) ∙ e))
 
--- ---- THEOREM: the branch families of a branch family are branch families
-
-closed-at : (n : ℕ) (F : Family) → weight F ≤ n → (G H : Family) → G ∈ branches F → H ∈ branches G → H ∈ branches F
-unfolding weight
-closed-at zero [] w G H g h = absurd (List·Memᴰ·not-nil (subst (λ (l : List Family). G ∈ l) branches-nil g))
-closed-at zero (s ∷ F) w G H g h = absurd (not-suc-le-zero w)
-closed-at (suc n) [] w G H g h = absurd (List·Memᴰ·not-nil (subst (λ (l : List Family). G ∈ l) branches-nil g))
-closed-at (suc n) ([] ∷ F) w G H g h = absurd (List·Memᴰ·not-nil (subst (λ (l : List Family). G ∈ l) (no-branch F) g))
-closed-at (suc n) ((p ∷ s) ∷ F) w G H g h =
-    let L : Family = (p ∷ s) ∷ F in
-    let a = weight-hi p s F in
-    let b = weight-lo p s F in
-    ⊎-elim (λ e. subst (λ (X : Family). H ∈ branches X) e h)
-    (λ m. ⊎-elim (λ x. starting-in p s F H (closed-at n (starting p L) (omega arith) G H x h))
-    (λ y. others-in p s F H (closed-at n (others p L) (omega arith) G H y h))
-    (List·Memᴰ·append-cases (branches (starting p L)) m))
-    (List·Memᴰ·cases-cons (subst (λ (l : List Family). G ∈ l) (branches-cons p s F) g))
-
-pub closed : (F G H : Family) → G ∈ branches F → H ∈ branches G → H ∈ branches F
-closed F G H g h = closed-at (weight F) F (le-refl (weight F)) G H g h
-
+-- the branch families of a branch family are branch families
 pub under-branch : {F G : Family} → G ∈ branches F → Under G F
-under-branch {F} {G} m = record { each = λ H h. closed F G H m h }
+under-branch {F} {G} m = record { each = λ H h. branches-closed F G H m h }
 
 -- ---- the parts of a join are under it, whatever they are: where F1 has no set, the join is F0
 
