@@ -1,2 +1,3 @@
 -- What the engine's inner functions cite. The public calls cite `statement`.
 pub mod Answers
+pub mod Opened

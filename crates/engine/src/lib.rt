@@ -4,11 +4,18 @@
 // m is M, packages the N item sets, t the table's words; work are the working words, whose contents before a call do not matter.
 ghost use mathlib.Core.Path.{_≡_};
 ghost use lib.ListN.{length};
-ghost use Rattle.statement.specs.Replies.{countReply};
-ghost use Rattle.engine.specs.Answers.{tallyReply};
-ghost use Rattle.statement.specs.Postconditions.{CheckPost, CountPost};
+ghost use Rattle.statement.specs.Replies.{countReply, pickReply, placeReply, cheapestReply};
+ghost use Rattle.engine.specs.Answers.{tallyReply, endRefusal, writtenReply, placedReply, cheapReply};
+ghost use Rattle.engine.specs.Opened.{Opened, OpenedPriced};
+ghost use Rattle.statement.specs.Postconditions.{CheckPost, CountPost, PickPost, PlacePost, CheapestPost};
+use query::Cheap;
+use query::Spot;
 use query::Tally;
+use query::Written;
 use statement::Counted;
+use statement::Picked;
+use statement::Placed;
+use statement::Priced;
 use statement::Soundness;
 
 // The soundness check: 1, 2, 4 or sound.
@@ -54,4 +61,170 @@ pub fn count(m: u32, packages: &[u64], t: &[u32], answer: u32, work: &mut [u64])
     }
     let c = query::count(t, a, work);
     counted(c)
+}
+
+// Refusal 1, 2, 4 or 5 of a call that reads an answer; 0 where none applies, and then the keys are ready.
+fn opened(m: u32, packages: &[u64], t: &[u32], answer: u32, keys: &mut [u32; 512]) -> u8
+    requires { ⌜ length (now keys) ≡ 512 ⌝ }
+    ensures { λ r. ⌜ Opened (now (packages .entry)) m (now (t .entry)) (now (keys .exit)) answer r ⌝ }
+{
+    let mut heads = [0u32; 65536];
+    let mut next = [0u32; 65536];
+    let r = guard::admit(m, packages, t, keys, &mut heads, &mut next);
+    if r != 0 {
+        return r;
+    }
+    if base::wide(t[0]) + 2 <= base::wide(answer) {
+        return 5;
+    }
+    0
+}
+
+// The same with refusal 3 in its place.
+fn opened_priced(m: u32, packages: &[u64], costs: &[u16], t: &[u32], answer: u32) -> u8
+    ensures { λ r. ⌜ OpenedPriced (now (packages .entry)) m (now (costs .entry)) (now (t .entry)) answer r ⌝ }
+{
+    let mut keys = [0u32; 512];
+    let r = opened(m, packages, t, answer, &mut keys);
+    if r == 1 {
+        return 1;
+    }
+    if r == 2 {
+        return 2;
+    }
+    if costs.len() != packages.len() {
+        return 3;
+    }
+    r
+}
+
+// Refusal 11 or 12 of a pick of k from that many; 0 for neither.
+fn past_end(c: Tally, k: u64) -> u8
+    ensures { λ r. ⌜ r ≡ endRefusal c k ⌝ }
+{
+    match c {
+        Tally::Exactly(n) => {
+            if n <= k {
+                return 12;
+            }
+            0
+        }
+        Tally::TooMany => 11,
+    }
+}
+
+fn picked(w: Written) -> Picked
+    ensures { λ r. ⌜ pickReply r ≡ writtenReply w ⌝ }
+{
+    match w {
+        Written::Packages(n) => Picked::Packages(n),
+        Written::Short => Picked::Refused(15),
+    }
+}
+
+// The k-th timetable of the answer, to the start of the page.
+pub fn pick(
+    m: u32,
+    packages: &[u64],
+    t: &[u32],
+    answer: u32,
+    k: u64,
+    work: &mut [u64],
+    page: &mut [u16],
+) -> Picked
+    ensures { λ r. ⌜ PickPost (now (packages .entry)) m (now (t .entry)) answer k (length (now (work .entry))) (now (page .entry)) r (now (page .exit)) ⌝ }
+{
+    let mut keys = [0u32; 512];
+    let r = opened(m, packages, t, answer, &mut keys);
+    if r != 0 {
+        return Picked::Refused(r);
+    }
+    let a = base::wide(answer);
+    if work.len() <= a {
+        return Picked::Refused(8);
+    }
+    let c = query::count(t, a, work);
+    let past = past_end(c, k);
+    if past != 0 {
+        return Picked::Refused(past);
+    }
+    let w = query::pick(t, a, k, work, page);
+    picked(w)
+}
+
+fn placed(c: Tally, s: Spot) -> Placed
+    ensures { λ r. ⌜ placeReply r ≡ placedReply c s ⌝ }
+{
+    match c {
+        Tally::Exactly(_) => match s {
+            Spot::At(k) => Placed::Place(k),
+            Spot::Absent => Placed::Refused(14),
+        },
+        Tally::TooMany => Placed::Refused(11),
+    }
+}
+
+// Where the list stands in the listing of the answer.
+pub fn place(
+    m: u32,
+    packages: &[u64],
+    t: &[u32],
+    answer: u32,
+    list: &[u16],
+    work: &mut [u64],
+) -> Placed
+    ensures { λ r. ⌜ PlacePost (now (packages .entry)) m (now (t .entry)) answer (now (list .entry)) (length (now (work .entry))) r ⌝ }
+{
+    let mut keys = [0u32; 512];
+    let r = opened(m, packages, t, answer, &mut keys);
+    if r != 0 {
+        return Placed::Refused(r);
+    }
+    let n = packages.len();
+    if !query::in_precedence(list, &keys[..n]) {
+        return Placed::Refused(6);
+    }
+    let a = base::wide(answer);
+    if work.len() <= a {
+        return Placed::Refused(8);
+    }
+    let c = query::count(t, a, work);
+    let s = query::place(t, a, list, work);
+    placed(c, s)
+}
+
+fn priced(c: Cheap) -> Priced
+    ensures { λ r. ⌜ cheapestReply r ≡ cheapReply c ⌝ }
+{
+    match c {
+        Cheap::Found { packages, cost } => Priced::Cheapest { packages, cost },
+        Cheap::NoRoom => Priced::Refused(15),
+    }
+}
+
+// Of the timetables of the answer with the least cost the first listed, to the start of the page.
+pub fn cheapest(
+    m: u32,
+    packages: &[u64],
+    costs: &[u16],
+    t: &[u32],
+    answer: u32,
+    work: &mut [u64],
+    page: &mut [u16],
+) -> Priced
+    ensures { λ r. ⌜ CheapestPost (now (packages .entry)) m (now (costs .entry)) (now (t .entry)) answer (length (now (work .entry))) (now (page .entry)) r (now (page .exit)) ⌝ }
+{
+    let r = opened_priced(m, packages, costs, t, answer);
+    if r != 0 {
+        return Priced::Refused(r);
+    }
+    let a = base::wide(answer);
+    if work.len() < 2 * (a + 1) {
+        return Priced::Refused(8);
+    }
+    if a == 0 {
+        return Priced::Refused(13);
+    }
+    let c = query::cheapest(costs, t, a, work, page);
+    priced(c)
 }
