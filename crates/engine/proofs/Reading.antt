@@ -22,15 +22,17 @@ use Rattle.query.specs.declared.Spot.the-variants.{At, Absent}
 use Rattle.query.specs.declared.Cheap.{Cheap}
 use Rattle.query.specs.declared.Cheap.the-variants.{Found, NoRoom}
 use Rattle.query.proofs.Precede.{unknown-length}
+use Rattle.statement.specs.declared.Counted.{Counted}
+use Rattle.statement.specs.declared.Counted.the-variants.{Refused as CountRefused}
 use Rattle.statement.specs.declared.Picked.{Picked}
 use Rattle.statement.specs.declared.Picked.the-variants.{Refused as PickRefused}
 use Rattle.statement.specs.declared.Placed.{Placed}
 use Rattle.statement.specs.declared.Placed.the-variants.{Refused as PlaceRefused}
 use Rattle.statement.specs.declared.Priced.{Priced}
 use Rattle.statement.specs.declared.Priced.the-variants.{Refused as PriceRefused}
-use Rattle.statement.specs.Replies.{Reply, refused, gives, reply, pickReply, placeReply, cheapestReply}
+use Rattle.statement.specs.Replies.{Reply, refused, gives, reply, countReply, pickReply, placeReply, cheapestReply}
 use Rattle.statement.specs.Refusals.{firstOf, oversize, stray, unpriced, unsound, unknownAnswer, notTimetable, shortWork, uncountable, pastEnd, absent, shortPage, countRefusal, pickRefusal, placeRefusal, cheapestRefusal}
-use Rattle.statement.specs.Postconditions.{PickPost, PlacePost, CheapestPost}
+use Rattle.statement.specs.Postconditions.{CountPost, PickPost, PlacePost, CheapestPost}
 use Rattle.statement.proofs.FirstOf.{pass, hit, none, passed, front, unsaid, said, above}
 use Rattle.statement.proofs.TestLaws.{reply-refused, reply-gives, page-left, page-written, all-priced, not-priced, answer-known, answer-unknown, enough, too-few, countable, too-many, not-past, something, is-nothing, page-fits, page-short}
 use Rattle.engine.specs.Answers.{tallyReply, endRefusal, writtenReply, placedReply, cheapReply}
@@ -41,21 +43,6 @@ use Rattle.guard.proofs.GuardLaws.{first-refused, first-passed}
 module _ {S : List ℕ} {m : ℕ} {t keys heads next : List ℕ} (g : Good S m t keys heads next) where
   pub readable : Readable t
   readable = record { keys = keysOf S; sound = g .sound; few = omega (arith, length-keys S, g .rows .few) }
-
-  -- count of a known answer, with the words that it needs
-  module _ {a words : ℕ} (known : a < count t + 2) (room : a < words) where
-    pub count-delivers : (r : Tally) → Told r (length (familyAt t a)) → tallyReply r ≡ reply (countRefusal S m t a words) (length (familyAt t a))
-    unfolding countRefusal
-    count-delivers (Exactly n) e =
-        ap gives (e .0)
-        ∙ reply-gives (length (familyAt t a))
-        (first-passed _ g ∙ pass 5 _ (answer-known t a known) ∙ pass 8 _ (enough (a + 1) words (omega arith))
-        ∙ pass 11 _ (countable (familyAt t a) (e .1)) ∙ none)
-    count-delivers TooMany e =
-        reply-refused 11 (length (familyAt t a))
-        (first-passed _ g ∙ pass 5 _ (answer-known t a known) ∙ pass 8 _ (enough (a + 1) words (omega arith))
-        ∙ hit 11 _ (too-many (familyAt t a) e))
-        (λ z. omega arith)
 
 -- ---- refusals 1, 2, 4 and 5
 
@@ -81,6 +68,29 @@ module _ {S : List ℕ} {m : ℕ} {t keys : List ℕ} {a : ℕ} (ts : List (Bool
   pub answer-passed : Known S m t keys a
       → firstOf ((oversize m S, 1) ∷ (stray m S, 2) ∷ (unsound S t, 4) ∷ (unknownAnswer t a, 5) ∷ ts) ≡ firstOf ts
   answer-passed o = first-passed _ (o .good) ∙ pass 5 _ (answer-known t a (o .known))
+
+-- ---- count
+
+module _ {S : List ℕ} {m : ℕ} {t keys : List ℕ} {a words : ℕ} where
+  pub count-refused : {r : ℕ} → Opened S m t keys a r → (r ≡ 0 → ⊥) → CountPost S m t a words (CountRefused r)
+  unfolding countRefusal
+  count-refused {r} o f = record { result = reply-refused r _ (answer-refused _ o f) f }
+
+  module _ (o : Known S m t keys a) where
+    pub count-words : words ≤ a → CountPost S m t a words (CountRefused 8)
+    unfolding countRefusal
+    count-words h = record { result = reply-refused 8 _ (answer-passed _ o ∙ hit 8 _ (too-few (a + 1) words (omega arith))) (λ z. omega arith) }
+
+    pub count-delivers : a < words → (x : Counted) (c : Tally) → countReply x ≡ tallyReply c → Told c (length (familyAt t a)) → CountPost S m t a words x
+    unfolding countRefusal
+    count-delivers room x c d e = record { result = d ∙ go c e }
+      where
+        so-far : countRefusal S m t a words ≡ firstOf ((uncountable (familyAt t a), 11) ∷ [])
+        so-far = answer-passed _ o ∙ pass 8 _ (enough (a + 1) words (omega arith))
+
+        go : (c : Tally) → Told c (length (familyAt t a)) → tallyReply c ≡ reply (countRefusal S m t a words) (length (familyAt t a))
+        go (Exactly n) e = ap gives (e .0) ∙ reply-gives _ (so-far ∙ pass 11 _ (countable (familyAt t a) (e .1)) ∙ none)
+        go TooMany e = reply-refused 11 _ (so-far ∙ hit 11 _ (too-many (familyAt t a) e)) (λ z. omega arith)
 
 -- ---- pick
 

@@ -46,16 +46,11 @@ pub fn count(m: u32, packages: &[u64], t: &[u32], answer: u32, work: &mut [u64])
     ensures { λ r. ⌜ CountPost (now (packages .entry)) m (now (t .entry)) answer (length (now (work .entry))) r ⌝ }
 {
     let mut keys = [0u32; 512];
-    let mut heads = [0u32; 65536];
-    let mut next = [0u32; 65536];
-    let r = guard::admit(m, packages, t, &mut keys, &mut heads, &mut next);
+    let r = opened(m, packages, t, answer, &mut keys);
     if r != 0 {
         return Counted::Refused(r);
     }
     let a = base::wide(answer);
-    if base::wide(t[0]) + 2 <= a {
-        return Counted::Refused(5);
-    }
     if work.len() <= a {
         return Counted::Refused(8);
     }
@@ -181,11 +176,13 @@ pub fn place(
         return Placed::Refused(r);
     }
     let n = packages.len();
-    if !query::in_precedence(list, &keys[..n]) {
+    let listed = query::in_precedence(list, &keys[..n]);
+    let a = base::wide(answer);
+    let words = work.len();
+    if !listed {
         return Placed::Refused(6);
     }
-    let a = base::wide(answer);
-    if work.len() <= a {
+    if words <= a {
         return Placed::Refused(8);
     }
     let c = query::count(t, a, work);
