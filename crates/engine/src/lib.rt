@@ -5,17 +5,25 @@
 ghost use mathlib.Core.Path.{_≡_};
 ghost use Prim.Native.Nat.{_≤_, _<_};
 ghost use lib.ListN.{length};
-ghost use Rattle.zdd.specs.Table.{count};
+ghost use Rattle.zdd.specs.Table.{count as nodes};
 ghost use Rattle.exact_cover.specs.Cover.{keysOf};
 ghost use Rattle.query.specs.Questions.{familyAt};
 ghost use Rattle.family.specs.Memo.{combined, restricted};
-ghost use Rattle.statement.specs.Replies.{countReply};
-ghost use Rattle.statement.specs.Postconditions.{CheckPost, CountPost, CoverPost, PairPost, EitherPost, BothPost, OnlyPost, PackagePost, WithPost, WithoutPost};
-ghost use Rattle.engine.specs.Answers.{tallyReply};
+ghost use Rattle.statement.specs.Replies.{countReply, pickReply, placeReply, cheapestReply};
+ghost use Rattle.statement.specs.Postconditions.{CheckPost, CountPost, PickPost, PlacePost, CheapestPost};
+ghost use Rattle.statement.specs.Postconditions.{CoverPost, PairPost, EitherPost, BothPost, OnlyPost, PackagePost, WithPost, WithoutPost};
+ghost use Rattle.engine.specs.Answers.{tallyReply, endRefusal, writtenReply, placedReply, cheapReply};
+ghost use Rattle.engine.specs.Opened.{Opened, OpenedPriced};
 ghost use Rattle.engine.specs.Reports.{Reported};
+use query::Cheap;
+use query::Spot;
 use query::Tally;
+use query::Written;
 use statement::Counted;
 use statement::Outcome;
+use statement::Picked;
+use statement::Placed;
+use statement::Priced;
 use statement::Report;
 use statement::Soundness;
 
@@ -33,6 +41,23 @@ pub fn check(m: u32, packages: &[u64], t: &[u32]) -> Soundness
     Soundness::Sound
 }
 
+// Refusal 1, 2, 4 or 5 of a call that reads an answer; 0 where none applies, and then the keys are ready.
+fn opened(m: u32, packages: &[u64], t: &[u32], answer: u32, keys: &mut [u32; 512]) -> u8
+    requires { ⌜ length (now keys) ≡ 512 ⌝ }
+    ensures { λ r. ⌜ Opened (now (packages .entry)) m (now (t .entry)) (now (keys .exit)) answer r ⌝ }
+{
+    let mut heads = [0u32; 65536];
+    let mut next = [0u32; 65536];
+    let r = guard::admit(m, packages, t, keys, &mut heads, &mut next);
+    if r != 0 {
+        return r;
+    }
+    if base::wide(t[0]) + 2 <= base::wide(answer) {
+        return 5;
+    }
+    0
+}
+
 fn counted(c: Tally) -> Counted
     ensures { λ r. ⌜ countReply r ≡ tallyReply c ⌝ }
 {
@@ -47,21 +72,167 @@ pub fn count(m: u32, packages: &[u64], t: &[u32], answer: u32, work: &mut [u64])
     ensures { λ r. ⌜ CountPost (now (packages .entry)) m (now (t .entry)) answer (length (now (work .entry))) r ⌝ }
 {
     let mut keys = [0u32; 512];
-    let mut heads = [0u32; 65536];
-    let mut next = [0u32; 65536];
-    let r = guard::admit(m, packages, t, &mut keys, &mut heads, &mut next);
+    let r = opened(m, packages, t, answer, &mut keys);
     if r != 0 {
         return Counted::Refused(r);
     }
     let a = base::wide(answer);
-    if base::wide(t[0]) + 2 <= a {
-        return Counted::Refused(5);
-    }
     if work.len() <= a {
         return Counted::Refused(8);
     }
     let c = query::count(t, a, work);
     counted(c)
+}
+
+// Refusal 11 or 12 of a pick of k from that many; 0 for neither.
+fn past_end(c: Tally, k: u64) -> u8
+    ensures { λ r. ⌜ r ≡ endRefusal c k ⌝ }
+{
+    match c {
+        Tally::Exactly(n) => {
+            if n <= k {
+                return 12;
+            }
+            0
+        }
+        Tally::TooMany => 11,
+    }
+}
+
+fn picked(w: Written) -> Picked
+    ensures { λ r. ⌜ pickReply r ≡ writtenReply w ⌝ }
+{
+    match w {
+        Written::Packages(n) => Picked::Packages(n),
+        Written::Short => Picked::Refused(15),
+    }
+}
+
+// The k-th timetable of the answer, to the start of the page.
+pub fn pick(
+    m: u32,
+    packages: &[u64],
+    t: &[u32],
+    answer: u32,
+    k: u64,
+    work: &mut [u64],
+    page: &mut [u16],
+) -> Picked
+    ensures { λ r. ⌜ PickPost (now (packages .entry)) m (now (t .entry)) answer k (length (now (work .entry))) (now (page .entry)) r (now (page .exit)) ⌝ }
+{
+    let mut keys = [0u32; 512];
+    let r = opened(m, packages, t, answer, &mut keys);
+    if r != 0 {
+        return Picked::Refused(r);
+    }
+    let a = base::wide(answer);
+    if work.len() <= a {
+        return Picked::Refused(8);
+    }
+    let c = query::count(t, a, work);
+    let past = past_end(c, k);
+    if past != 0 {
+        return Picked::Refused(past);
+    }
+    let w = query::pick(t, a, k, work, page);
+    picked(w)
+}
+
+fn placed(c: Tally, s: Spot) -> Placed
+    ensures { λ r. ⌜ placeReply r ≡ placedReply c s ⌝ }
+{
+    match c {
+        Tally::Exactly(_) => match s {
+            Spot::At(k) => Placed::Place(k),
+            Spot::Absent => Placed::Refused(14),
+        },
+        Tally::TooMany => Placed::Refused(11),
+    }
+}
+
+// Where the list stands in the listing of the answer.
+pub fn place(
+    m: u32,
+    packages: &[u64],
+    t: &[u32],
+    answer: u32,
+    list: &[u16],
+    work: &mut [u64],
+) -> Placed
+    ensures { λ r. ⌜ PlacePost (now (packages .entry)) m (now (t .entry)) answer (now (list .entry)) (length (now (work .entry))) r ⌝ }
+{
+    let mut keys = [0u32; 512];
+    let r = opened(m, packages, t, answer, &mut keys);
+    if r != 0 {
+        return Placed::Refused(r);
+    }
+    let n = packages.len();
+    let listed = query::in_precedence(list, &keys[..n]);
+    let a = base::wide(answer);
+    let words = work.len();
+    if !listed {
+        return Placed::Refused(6);
+    }
+    if words <= a {
+        return Placed::Refused(8);
+    }
+    let c = query::count(t, a, work);
+    let s = query::place(t, a, list, work);
+    placed(c, s)
+}
+
+// Refusal 1, 2, 3, 4 or 5 of cheapest; 0 where none applies.
+fn opened_priced(m: u32, packages: &[u64], costs: &[u16], t: &[u32], answer: u32) -> u8
+    ensures { λ r. ⌜ OpenedPriced (now (packages .entry)) m (now (costs .entry)) (now (t .entry)) answer r ⌝ }
+{
+    let mut keys = [0u32; 512];
+    let r = opened(m, packages, t, answer, &mut keys);
+    if r == 1 {
+        return 1;
+    }
+    if r == 2 {
+        return 2;
+    }
+    if costs.len() != packages.len() {
+        return 3;
+    }
+    r
+}
+
+fn priced(c: Cheap) -> Priced
+    ensures { λ r. ⌜ cheapestReply r ≡ cheapReply c ⌝ }
+{
+    match c {
+        Cheap::Found { packages, cost } => Priced::Cheapest { packages, cost },
+        Cheap::NoRoom => Priced::Refused(15),
+    }
+}
+
+// Of the timetables of the answer with the least cost the first listed, to the start of the page.
+pub fn cheapest(
+    m: u32,
+    packages: &[u64],
+    costs: &[u16],
+    t: &[u32],
+    answer: u32,
+    work: &mut [u64],
+    page: &mut [u16],
+) -> Priced
+    ensures { λ r. ⌜ CheapestPost (now (packages .entry)) m (now (costs .entry)) (now (t .entry)) answer (length (now (work .entry))) (now (page .entry)) r (now (page .exit)) ⌝ }
+{
+    let r = opened_priced(m, packages, costs, t, answer);
+    if r != 0 {
+        return Priced::Refused(r);
+    }
+    let a = base::wide(answer);
+    if work.len() < 2 * (a + 1) {
+        return Priced::Refused(8);
+    }
+    if a == 0 {
+        return Priced::Refused(13);
+    }
+    let c = query::cheapest(costs, t, a, work, page);
+    priced(c)
 }
 
 // The timetables covering d, with the step limit `limit` [document 01: B]: two working words are one place of the memo.
@@ -105,7 +276,7 @@ pub fn cover(
 // The report of a call whose answer has the number k, or 65536 where there was no room for it. The table had `before` nodes before the call.
 fn report(t: &[u32], before: u32, k: u32) -> Report
     requires { ⌜ 0 < length (now t) ⌝ }
-    requires { ⌜ (k < 65536 → before ≤ count (now t)) ⌝ }
+    requires { ⌜ (k < 65536 → before ≤ nodes (now t)) ⌝ }
     ensures { λ r. ⌜ Reported (now (t .entry)) before k r ⌝ }
 {
     if k < 65536 {

@@ -125,7 +125,7 @@ fn measure(t: &[u32], a: usize, k: u64, work: &[u64]) -> usize
     ensures { λ r. ⌜ r ≡ length (nth (familyAt (now (t .entry)) a) k) ⌝ }
 {
     let mut node = a;
-    let mut left = k;
+    let mut rest = k;
     let mut n: usize = 0;
     loop {
         if node == 1 {
@@ -133,12 +133,12 @@ fn measure(t: &[u32], a: usize, k: u64, work: &[u64]) -> usize
         }
         let h = hi(t, node);
         let c = work[h];
-        if left <= c {
+        if rest <= c {
             n += 1;
             node = h;
             continue;
         }
-        left = left - c - 1;
+        rest = rest - c - 1;
         node = lo(t, node);
     }
 }

@@ -2,7 +2,7 @@
 use mathlib.Core.Path.{_≡_, refl, sym, ap, _∙_}
 use mathlib.Core.Bool.{Bool, true, false}
 use mathlib.Core.List.{List, [], _∷_, _++_}
-use Prim.Native.Nat.{ℕ, zero, suc}
+use Prim.Native.Nat.{ℕ, zero, suc, _<_}
 use native.Mathlib.Omega.{arith}
 use Rattle.statement.specs.Refusals.{firstOf}
 
@@ -36,3 +36,21 @@ front (x ∷ xs) ts f = go (x .0) (front xs ts) f
         → (firstOf ((b, x .1) ∷ xs) ≡ 0 → ⊥) → firstOf ((b, x .1) ∷ (xs ++ ts)) ≡ firstOf ((b, x .1) ∷ xs)
     go true h f = refl
     go false h f = h f
+
+-- the first test's number is not said: it fails
+pub unsaid : (b : Bool) (n : ℕ) (ts : List (Bool × ℕ)) → (firstOf ((b, n) ∷ ts) ≡ n → ⊥) → b ≡ false
+unfolding firstOf
+unsaid true n ts f = absurd (f refl)
+unsaid false n ts f = refl
+
+-- it is said, and the others do not say it: the first test holds
+pub said : (b : Bool) (n : ℕ) (ts : List (Bool × ℕ)) → firstOf ((b, n) ∷ ts) ≡ n → (firstOf ts ≡ n → ⊥) → b ≡ true
+unfolding firstOf
+said true n ts e f = refl
+said false n ts e f = absurd (f e)
+
+-- tests with greater numbers do not say it
+pub above : {n : ℕ} (b : Bool) (k : ℕ) (ts : List (Bool × ℕ)) → n < k → (firstOf ts ≡ n → ⊥) → firstOf ((b, k) ∷ ts) ≡ n → ⊥
+unfolding firstOf
+above true k ts l f e = omega arith
+above false k ts l f e = f e

@@ -1,14 +1,15 @@
 -- What each test of `specs/Refusals.antt` says where the facts are known, and what a call replies whose refusal is known. Assumes nothing.
 use mathlib.Core.Path.{_≡_, refl, sym, ap, _∙_}
 use mathlib.Core.Bool.{Bool, true, false, not, _||_}
-use mathlib.Core.List.{List}
+use mathlib.Core.List.{List, _++_}
 use Prim.Native.Nat.{ℕ, zero, suc, _+_, _≤_, _<_}
 use lib.Dec.{eqb}
-use lib.ListN.{length}
+use lib.ListN.{length, drop}
 use borrow.Author.Tests.{lt-ltb, le-ltb, le-leb, lt-leb, eq-eqb, ne-eqb}
 use Rattle.zdd.specs.Table.{Family, count}
 use Rattle.query.specs.Questions.{unknownPackage}
 use Rattle.statement.specs.Replies.{Reply, refused, gives, reply}
+use Rattle.statement.specs.Postconditions.{written}
 use Rattle.statement.specs.Refusals.{unpriced, unknownAnswer, shortWork, uncountable, pastEnd, nothing, shortPage}
 
 -- ---- replies
@@ -21,6 +22,15 @@ reply-refused (suc n) v e f = sym (ap (λ (i : ℕ). reply i v) e)
 -- there is none, and the values are given
 pub reply-gives : {A : Type 0} {k : ℕ} (v : A) → k ≡ 0 → gives v ≡ reply k v
 reply-gives v e = sym (ap (λ (i : ℕ). reply i v) e)
+
+-- a refused call leaves the page alone
+pub page-left : {k : ℕ} (n : ℕ) (s page : List ℕ) → k ≡ n → (n ≡ 0 → ⊥) → page ≡ written k s page
+page-left zero s page e f = absurd (f refl)
+page-left (suc n) s page e f = sym (ap (λ (i : ℕ). written i s page) e)
+
+-- one that is not writes to its start
+pub page-written : {k : ℕ} (s page : List ℕ) → k ≡ 0 → s ++ drop (length s) page ≡ written k s page
+page-written s page e = sym (ap (λ (i : ℕ). written i s page) e)
 
 -- ---- 3
 

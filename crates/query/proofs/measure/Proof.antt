@@ -10,10 +10,10 @@ use Rattle.query.proofs.measure.Statement.{statement}
 use Rattle.query.proofs.measure.Tie as tie
 
 abbrev Inv-loop : tie.InvT-loop
-Inv-loop t a k work node₀ left₀ n₀ node left n = Walk t a node left n × (left ≤ k) × (length (nth (familyAt t a) k) ≡ n + length (nth (familyAt t node) left))
+Inv-loop t a k work node₀ rest₀ n₀ node rest n = Walk t a node rest n × (rest ≤ k) × (length (nth (familyAt t a) k) ≡ n + length (nth (familyAt t node) rest))
 
 abbrev μ-loop : tie.MeasureT-loop
-μ-loop t a k work node₀ left₀ n₀ node left n = node
+μ-loop t a k work node₀ rest₀ n₀ node rest n = node
 
 loop-holds : tie.Need-loop-holds Inv-loop μ-loop
 loop-holds c = (walk-start (c .before .before .args .t .now) (c .before .before .args .a) (c .before .before .args .k) (c .before .before .pre .1 .0 .0) (c .before .before .pre .1 .0 .1), omega arith, omega arith)
@@ -36,11 +36,11 @@ loop-less c = let P = here (c .before .before .before .before .before .before .b
 loop-again : tie.Need-loop-again Inv-loop μ-loop
 loop-again c = let d = walk-hi (c .before .before .before .before .before .before .before .pre .0) (c .before .before .before .before .loop .inv .0) (walk-inside (c .before .before .before .before .loop .inv .0) (c .before .before .before .if1 .left)) (c .before .before .before .before .before .before .before .args .work .now) (c .before .before .before .before .before .before .before .pre .1 .1) (c .before .before .hi .result) (c .before .before .hi .ensures) (c .if2 .taken) in (d .next, c .before .before .before .before .loop .inv .1, omega (arith, c .before .before .before .before .loop .inv .2, ap length (d .taken)))
 
-sub-left : tie.Need-sub-left Inv-loop μ-loop
-sub-left c = search needs
+sub-rest : tie.Need-sub-rest Inv-loop μ-loop
+sub-rest c = search needs
 
-sub-left-2 : tie.Need-sub-left-2 Inv-loop μ-loop
-sub-left-2 c = search needs
+sub-rest-2 : tie.Need-sub-rest-2 Inv-loop μ-loop
+sub-rest-2 c = search needs
 
 lo-requires : tie.Need-lo-requires Inv-loop μ-loop
 lo-requires c κs = branch (c .before .before .before .before .before .before .before .pre .0) (c .before .before .before .before .loop .node) (walk-inside (c .before .before .before .before .loop .inv .0) (c .before .before .before .if1 .left)) (omega (arith, c .before .before .before .before .loop .inv .0 .short, c .before .before .before .before .loop .inv .0 .known))
@@ -67,8 +67,8 @@ measure-spec =
     add-n
     loop-less
     loop-again
-    sub-left
-    sub-left-2
+    sub-rest
+    sub-rest-2
     lo-requires
     loop-less-2
     loop-again-2

@@ -1,0 +1,58 @@
+use native.Mathlib.Omega.{arith}
+use Rattle.engine.proofs.Reading.{cheapest-refused, cheapest-words, cheapest-nothing, cheapest-delivers, priceable}
+use borrow.Author.Needs.{needs}
+use Rattle.engine.proofs.cheapest.Statement.{statement}
+use Rattle.engine.proofs.cheapest.Tie as tie
+
+opened-priced-requires : tie.Need-opened-priced-requires
+opened-priced-requires c κs = search needs
+
+returns : tie.Need-returns
+returns c = cheapest-refused (c .before .opened-priced .ensures) (c .if1 .taken)
+
+wide-requires : tie.Need-wide-requires
+wide-requires c κs = search needs
+
+add-if2 : tie.Need-add-if2
+add-if2 c = omega (arith, c .wide .ensures)
+
+mul-if2 : tie.Need-mul-if2
+mul-if2 c = omega (arith, c .wide .ensures)
+
+returns-2 : tie.Need-returns-2
+returns-2 c = cheapest-words (c .before .before .before .opened-priced .ensures .ready (c .before .before .if1 .left)) (omega (arith, c .before .wide .ensures, c .if2 .taken))
+
+returns-3 : tie.Need-returns-3
+returns-3 c = cheapest-nothing (c .before .before .before .before .opened-priced .ensures .ready (c .before .before .before .if1 .left)) (omega (arith, c .before .before .wide .ensures, c .before .if2 .left)) (omega (arith, c .before .before .wide .ensures, c .if3 .taken))
+
+cheapest-requires : tie.Need-cheapest-requires
+cheapest-requires c κs = (priceable (c .before .before .before .before .before .before .opened-priced .ensures .ready (c .before .before .before .before .before .if1 .left)), ((omega (arith, c .before .before .if3 .left), omega (arith, c .before .before .before .before .wide .ensures, c .before .before .before .before .before .before .opened-priced .ensures .ready (c .before .before .before .before .before .if1 .left) .answer .known)), omega (arith, c .before .before .before .if2 .left)))
+
+priced-requires : tie.Need-priced-requires
+priced-requires c κs = search needs
+
+same-length : tie.Need-same-length
+same-length c = search needs
+
+same-length-2 : tie.Need-same-length-2
+same-length-2 c = search needs
+
+returns-4 : tie.Need-returns-4
+returns-4 c = cheapest-delivers (c .before .before .before .before .before .before .before .before .before .before .before .before .opened-priced .ensures .ready (c .before .before .before .before .before .before .before .before .before .before .before .if1 .left)) (omega (arith, c .before .before .before .before .before .before .before .before .before .before .wide .ensures, c .before .before .before .before .before .before .before .before .before .if2 .left)) (λ z. omega (arith, c .before .before .before .before .before .before .before .before .before .before .wide .ensures, c .before .before .before .before .before .before .before .before .if3 .left)) (c .priced .result) (c .before .before .before .before .before .cheapest .result) (c .priced .ensures) (rw (c .before .before .before .before .before .before .before .before .before .before .wide .ensures) at (c .before .before .before .before .before .cheapest .ensures))
+
+pub cheapest-spec : {M : Type 1} → statement M
+cheapest-spec =
+    tie.close
+    (tie.spec
+    opened-priced-requires
+    returns
+    wide-requires
+    add-if2
+    mul-if2
+    returns-2
+    returns-3
+    cheapest-requires
+    priced-requires
+    same-length
+    same-length-2
+    returns-4)

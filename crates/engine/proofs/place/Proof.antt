@@ -1,0 +1,67 @@
+use lib.ListN.{length, length-replicate}
+use Prim.Native.Nat.{ℕ}
+use native.Mathlib.Omega.{arith}
+use mathlib.Core.Path.{sym, ap, _∙_}
+use borrow.Author.Tests.{not-true, not-false}
+use Rattle.exact_cover.proofs.Order.{length-keys}
+use Rattle.engine.proofs.Reading.{readable, place-refused, place-unlisted, place-words, place-delivers, no-list, is-list}
+use borrow.Author.Needs.{needs}
+use Rattle.engine.proofs.place.Statement.{statement}
+use Rattle.engine.proofs.place.Tie as tie
+
+opened-requires : tie.Need-opened-requires
+opened-requires c κs = length-replicate {A = ℕ} 512 0
+
+returns : tie.Need-returns
+returns c = place-refused (c .before .opened .ensures) (c .if1 .taken)
+
+array-share-prefix-keys : tie.Need-array-share-prefix-keys
+array-share-prefix-keys c = omega (arith, c .before .opened .ensures .ready (c .if1 .left) .good .rows .few, c .before .opened .ensures .ready (c .if1 .left) .good .keyed .long)
+
+slice-aggregate-in-precedence : tie.Need-slice-aggregate-in-precedence
+slice-aggregate-in-precedence c = sym (ap length (c .before .before .opened .ensures .ready (c .before .if1 .left) .good .keyed .are) ∙ length-keys (c .before .before .before .before .before .before .before .before .args .packages .now))
+
+in-precedence-requires : tie.Need-in-precedence-requires
+in-precedence-requires c κs = search needs
+
+wide-requires : tie.Need-wide-requires
+wide-requires c κs = search needs
+
+returns-2 : tie.Need-returns-2
+returns-2 c = place-unlisted (c .before .before .before .before .before .opened .ensures .ready (c .before .before .before .before .if1 .left)) (no-list _ _ (rw (c .before .before .before .before .before .opened .ensures .ready (c .before .before .before .before .if1 .left) .good .keyed .are) at (c .before .before .in-precedence .ensures)) (not-true _ (c .if2 .taken)))
+
+returns-3 : tie.Need-returns-3
+returns-3 c = place-words (c .before .before .before .before .before .before .opened .ensures .ready (c .before .before .before .before .before .if1 .left)) (is-list _ _ (rw (c .before .before .before .before .before .before .opened .ensures .ready (c .before .before .before .before .before .if1 .left) .good .keyed .are) at (c .before .before .before .in-precedence .ensures)) (not-false _ (c .before .if2 .left))) (omega (arith, c .before .before .wide .ensures, c .if3 .taken))
+
+count-requires : tie.Need-count-requires
+count-requires c κs = (readable (c .before .before .before .before .before .before .before .opened .ensures .ready (c .before .before .before .before .before .before .if1 .left) .good), (omega (arith, c .before .before .before .wide .ensures, c .before .before .before .before .before .before .before .opened .ensures .ready (c .before .before .before .before .before .before .if1 .left) .known), omega (arith, c .before .if3 .left)))
+
+place-requires : tie.Need-place-requires
+place-requires c κs = (readable (c .before .before .before .before .before .before .before .before .before .before .before .opened .ensures .ready (c .before .before .before .before .before .before .before .before .before .before .if1 .left) .good), (omega (arith, c .before .before .before .before .before .before .before .wide .ensures, c .before .before .before .before .before .before .before .before .before .before .before .opened .ensures .ready (c .before .before .before .before .before .before .before .before .before .before .if1 .left) .known), c .before .before .before .count .ensures .0))
+
+placed-requires : tie.Need-placed-requires
+placed-requires c κs = search needs
+
+same-length : tie.Need-same-length
+same-length c = search needs
+
+returns-4 : tie.Need-returns-4
+returns-4 c = place-delivers (c .before .before .before .before .before .before .before .before .before .before .before .before .before .opened .ensures .ready (c .before .before .before .before .before .before .before .before .before .before .before .before .if1 .left)) (is-list _ _ (rw (c .before .before .before .before .before .before .before .before .before .before .before .before .before .opened .ensures .ready (c .before .before .before .before .before .before .before .before .before .before .before .before .if1 .left) .good .keyed .are) at (c .before .before .before .before .before .before .before .before .before .before .in-precedence .ensures)) (not-false _ (c .before .before .before .before .before .before .before .before .if2 .left))) (omega (arith, c .before .before .before .before .before .before .before .before .before .wide .ensures, c .before .before .before .before .before .before .before .if3 .left)) (c .placed .result) (c .before .before .before .before .before .count .result) (c .before .place .result) (c .placed .ensures) (rw (c .before .before .before .before .before .before .before .before .before .wide .ensures) at (c .before .before .before .before .before .count .ensures .1)) (rw (c .before .before .before .before .before .before .before .before .before .wide .ensures) at (c .before .place .ensures))
+
+pub place-spec : {M : Type 1} → statement M
+place-spec =
+    tie.close
+    (tie.spec
+    opened-requires
+    returns
+    array-share-prefix-keys
+    slice-aggregate-in-precedence
+    in-precedence-requires
+    wide-requires
+    returns-2
+    returns-3
+    count-requires
+    place-requires
+    placed-requires
+    same-length
+    returns-4)
