@@ -243,16 +243,17 @@ module _ {S first after : List ℕ} (ps : Packs S first after) (A : ℕ) (w64 : 
         still-known = omega (arith, u .trial .got .known, length-nodes t, grown-more (d .grown))
 
         -- the flag is up: nothing is made
-        pub turn-idle : b′ ≡ true → Turn S P A limit t₀ memo₀ n₀ b₀ t′ heads′ next′ memo′ k l n′ true
+        pub turn-idle : b′ ≡ true → Turn S P A limit t₀ memo₀ n₀ b₀ t′ heads′ next′ memo′ k l n′ b′
         turn-idle y = record {
           grown = grown-trans (u .grown) (d .grown);
           indexed = d .indexed;
           same = d .same ∙ u .same;
-          held = subst (λ (c : Bool). Held S P t′ memo′ c) y (d .held o);
+          held = d .held o;
           within = d .within o;
-          trial = trial-take S (ps .few) (ps .some) A w64 k l h l low (at-fits p k e a i) before
+          trial = subst⁻¹ (λ (c : Bool). Trial S A (capacity t₀) (nodesOf t₀) b₀ k l (nodesOf t′) c) y
+              (trial-take S (ps .few) (ps .some) A w64 k l h l low (at-fits p k e a i) before
               (subst (λ (c : Bool). Got (keysOf S) (capacity t₀) (nodesOf t) b h (nodesOf t′) c (left S A k)) y found)
-              (got-idle (capacity t₀) l (join k (family (nodesOf t′) h) (family (nodesOf t′) l)) (d .grown .sound .nodes) (omega (arith, still-known, length-nodes t′)));
+              (got-idle (capacity t₀) l (join k (family (nodesOf t′) h) (family (nodesOf t′) l)) (d .grown .sound .nodes) (omega (arith, still-known, length-nodes t′))));
           walk = walked;
         }
 

@@ -1,4 +1,11 @@
 // The exact covers of an item set as a diagram in the node table: search and trial, the memo and the step limit.
+//
+// Search of an item set and trial of its packages call each other: a trial searches a smaller set, and has fewer packages left after it.
+//
+// What the functions are lent: packs, the packages' items; first and after, the packages by lowest item (entry p is package p - 1, and 0 is none);
+// t, the node table, with heads and next, its index; memo, with `places` places of two words: an item set (0 where the place is empty) and the
+// number of its covers. limit is document 01's B. Steps depend on the item sets alone, so a search that finds no room in the table goes on, makes
+// nothing more, and its count of steps stays right: spent is told before full.
 ghost use mathlib.Core.Path.{_≡_};
 ghost use mathlib.Core.Bool.{true, false};
 ghost use Prim.Native.Nat.{ℕ, suc, _+_, _-_, _*_, _/_, _%_, _<_, _≤_};
@@ -8,7 +15,7 @@ ghost use Rattle.zdd.specs.Table.{Sound};
 ghost use Rattle.exact_cover.specs.Cover.{Rows, keysOf};
 ghost use Rattle.table.specs.State.{Indexed};
 
-// A search's state: the number of its answer, the entries so far, whether the table had no room, whether the limit was met.
+// A search's state: the number of the answer so far, the entries so far, whether the table had no room, whether the limit was met.
 pub struct Run {
     pub answer: u32,
     pub steps: u64,
@@ -16,7 +23,7 @@ pub struct Run {
     pub over: bool,
 }
 
-// The word of a set's place in a memo of the given places.
+// The place of a set in a memo of that many places.
 fn place(items: u64, places: usize) -> usize
     requires { ⌜ 0 < places ⌝ }
     ensures { λ r. ⌜ r ≡ items % places ⌝ }
@@ -24,7 +31,7 @@ fn place(items: u64, places: usize) -> usize
     (items % (places as u64)) as usize
 }
 
-// The covers of the items.
+// The covers of the items. Each call is one entry, and counts, unless the limit is met.
 fn search(
     packs: &[u64],
     first: &[u32; 65],
@@ -53,10 +60,11 @@ fn search(
             over: true,
         };
     }
+    let entered = steps + 1;
     if items == 0 {
         return Run {
             answer: 1,
-            steps: steps + 1,
+            steps: entered,
             full: full,
             over: false,
         };
@@ -65,7 +73,7 @@ fn search(
     if memo[2 * at] == items {
         return Run {
             answer: memo[2 * at + 1] as u32,
-            steps: steps + 1,
+            steps: entered,
             full: full,
             over: false,
         };
@@ -84,14 +92,15 @@ fn search(
         limit,
         Run {
             answer: 0,
-            steps: steps + 1,
+            steps: entered,
             full: full,
             over: false,
         },
     )
 }
 
-// The covers of items that are not known, entered already: each package is tried, and the answer goes into the memo, at its place.
+// The covers of items that are neither none nor in the memo, entered already: the packages of the lowest item are tried, highest number first, and
+// the answer goes into the memo, at the items' place.
 fn trial(
     packs: &[u64],
     first: &[u32; 65],
@@ -130,7 +139,6 @@ fn trial(
             continue;
         }
         let rest = itemset::without(items, pack);
-        let x = run.answer;
         let r = search(
             packs,
             first,
@@ -148,41 +156,25 @@ fn trial(
             return r;
         }
         let y = r.answer;
+        run.steps = r.steps;
+        run.full = r.full;
+        p = later;
         if y == 0 {
-            run = Run {
-                answer: x,
-                steps: r.steps,
-                full: r.full,
-                over: false,
-            };
-            p = later;
             continue;
         }
         if r.full {
-            run = Run {
-                answer: x,
-                steps: r.steps,
-                full: true,
-                over: false,
-            };
-            p = later;
             continue;
         }
-        let z = table::unique(t, heads, next, label, x, y);
-        run = Run {
-            answer: z,
-            steps: r.steps,
-            full: z == 0,
-            over: false,
-        };
-        p = later;
+        let z = table::unique(t, heads, next, label, run.answer, y);
+        run.answer = z;
+        run.full = z == 0;
     }
     memo[2 * at] = items;
     memo[2 * at + 1] = run.answer as u64;
     run
 }
 
-// The package index by lowest item.
+// Every package goes into the index by lowest item.
 fn enlist(packs: &[u64], first: &mut [u32; 65], after: &mut [u32; 513])
     requires { ⌜ Rows (now packs) ⌝ }
     requires { ⌜ Blank (now first) (now after) ⌝ }
@@ -196,7 +188,7 @@ fn enlist(packs: &[u64], first: &mut [u32; 65], after: &mut [u32; 513])
     }
 }
 
-// The covers of the items, with a clear memo. (It calls trial, so that search has one call and goes into trial.)
+// The covers of the items: search with a memo that holds nothing. (It calls trial, so that search has one caller and is compiled into it.)
 fn begin(
     packs: &[u64],
     first: &[u32; 65],
@@ -252,7 +244,7 @@ fn begin(
     )
 }
 
-// Every word of the memo is 0.
+// Every word of the memo becomes 0: old contents are never believed.
 fn clear(memo: &mut [u64])
     ensures { λ _. ⌜ Cleared (now (memo .entry)) (now (memo .exit)) ⌝ }
 {
@@ -263,7 +255,8 @@ fn clear(memo: &mut [u64])
     }
 }
 
-// What cover answers: over where the limit was met, else full where the table had no room; else the answer, the steps and the nodes made.
+// What cover answers: over where the steps exceed the limit, else full where the nodes outnumber the free places; else the answer, the steps and the
+// nodes made.
 pub struct Answer {
     pub answer: u32,
     pub steps: u64,
@@ -272,7 +265,7 @@ pub struct Answer {
     pub over: bool,
 }
 
-// The covers of the items, as a number of the table.
+// The covers of the items, as a number of the table. Where there is none, over or full, the table goes back to what it was.
 pub fn cover(
     packs: &[u64],
     t: &mut [u32],

@@ -1,8 +1,8 @@
-use borrow.Author.Tests.{not-true, not-false}
-use lib.ListN.{getD, set, length-set}
+use lib.ListN.{getD, length-set}
 use mathlib.Core.Bool.{false}
 use mathlib.Core.Path.{_≡_, refl, sym, _∙_}
 use native.Mathlib.Omega.{arith}
+use borrow.Author.Tests.{not-true, not-false}
 use native.Mathlib.Nat.{mod-lt}
 use Prim.Native.Nat.{_+_, _*_, _-_}
 use Rattle.itemset.proofs.Laws.{lowest-lt, without-back}
@@ -17,8 +17,8 @@ use Rattle.compile.proofs.+search+trial.Lts-search as search-lts
 use Rattle.compile.proofs.trial.Reads as trial
 use Rattle.compile.proofs.trial.Kinds as trial-kinds
 use Rattle.compile.proofs.+search+trial.Lts-trial as trial-lts
-use Rattle.compile.proofs.place.Reads as place-reads
 use Rattle.base.proofs.wide.Reads as wide-reads
+use Rattle.compile.proofs.place.Reads as place-reads
 use Rattle.itemset.proofs.inside.Reads as inside-reads
 use Rattle.itemset.proofs.lowest.Reads as lowest-reads
 use Rattle.itemset.proofs.without.Reads as without-reads
@@ -44,174 +44,82 @@ trial-at t = and 7 trial-kinds.ps (is 7 trial-kinds.ps μ-trial t) trial.Pre
 abbrev trial-below : ℕ → In 7 trial-kinds.ps
 trial-below t = and 7 trial-kinds.ps (falls 7 trial-kinds.ps _<_ μ-trial t) trial.Pre
 
-search-returns : (t : ℕ) → search-lts.Need-returns (
+-- what the calls in search ask and ensure, where search's measure is t
+abbrev search-claims : ℕ → search-lts.Claims
+search-claims t = (
   place-reads.Asked,
   place-reads.Learnt,
   trial-below t,
   trial.Post,
-) (search-at t) search′.Post
+)
+
+search-returns : (t : ℕ) → search-lts.Need-returns (search-claims t) (search-at t) search′.Post
 search-returns t c = search-over (c .before .before .before .before .pre .1 .0) (c .before .before .before .before .pre .1 .1 .0) (c .before .before .before .before .args .items) (omega (arith, c .if1 .taken)) _ _
 
-search-add-t16 : (t : ℕ) → search-lts.Need-add-t16 (
-  place-reads.Asked,
-  place-reads.Learnt,
-  trial-below t,
-  trial.Post,
-) (search-at t) search′.Post
-search-add-t16 t c = search needs
+search-add-entered : (t : ℕ) → search-lts.Need-add-entered (search-claims t) (search-at t) search′.Post
+search-add-entered t c = search needs
 
-search-returns-2 : (t : ℕ) → search-lts.Need-returns-2 (
-  place-reads.Asked,
-  place-reads.Learnt,
-  trial-below t,
-  trial.Post,
-) (search-at t) search′.Post
+search-returns-2 : (t : ℕ) → search-lts.Need-returns-2 (search-claims t) (search-at t) search′.Post
 search-returns-2 t c = search-empty (c .before .before .before .before .before .pre .1 .0) (c .before .before .before .before .before .pre .1 .1 .0) (c .before .before .before .before .before .args .items) _ (omega (arith, c .before .if1 .left)) refl (c .if2 .taken)
 
-search-place-requires : (t : ℕ) → search-lts.Need-place-requires (
-  place-reads.Asked,
-  place-reads.Learnt,
-  trial-below t,
-  trial.Post,
-) (search-at t) search′.Post
+search-place-requires : (t : ℕ) → search-lts.Need-place-requires (search-claims t) (search-at t) search′.Post
 search-place-requires t c κs = c .before .before .before .before .before .pre .1 .1 .0 .held .some
 
-search-mul-if3 : (t : ℕ) → search-lts.Need-mul-if3 (
-  place-reads.Asked,
-  place-reads.Learnt,
-  trial-below t,
-  trial.Post,
-) (search-at t) search′.Post
+search-mul-if3 : (t : ℕ) → search-lts.Need-mul-if3 (search-claims t) (search-at t) search′.Post
 search-mul-if3 t c =
     let q = c .before .before .before .before .before .before .pre .1 .1 .0 .held in
     omega (arith, c .place .ensures, mod-lt (c .before .before .before .before .before .before .args .items) (q .some), q .long, c .before .before .before .before .before .before .good .1 .1 .1 .1 .1 .1 .0 .1)
 
-search-mul-if3-2 : (t : ℕ) → search-lts.Need-mul-if3-2 (
-  place-reads.Asked,
-  place-reads.Learnt,
-  trial-below t,
-  trial.Post,
-) (search-at t) search′.Post
+search-mul-if3-2 : (t : ℕ) → search-lts.Need-mul-if3-2 (search-claims t) (search-at t) search′.Post
 search-mul-if3-2 t c =
     let q = c .before .before .before .before .before .before .pre .1 .1 .0 .held in
     omega (arith, c .place .ensures, mod-lt (c .before .before .before .before .before .before .args .items) (q .some), q .long, c .before .before .before .before .before .before .good .1 .1 .1 .1 .1 .1 .0 .1)
 
-search-slice-read-if3 : (t : ℕ) → search-lts.Need-slice-read-if3 (
-  place-reads.Asked,
-  place-reads.Learnt,
-  trial-below t,
-  trial.Post,
-) (search-at t) search′.Post
+search-slice-read-if3 : (t : ℕ) → search-lts.Need-slice-read-if3 (search-claims t) (search-at t) search′.Post
 search-slice-read-if3 t c =
     let q = c .before .before .before .before .before .before .before .pre .1 .1 .0 .held in
     omega (arith, c .before .place .ensures, mod-lt (c .before .before .before .before .before .before .before .args .items) (q .some), q .long)
 
-search-mul-t21 : (t : ℕ) → search-lts.Need-mul-t21 (
-  place-reads.Asked,
-  place-reads.Learnt,
-  trial-below t,
-  trial.Post,
-) (search-at t) search′.Post
+search-mul-t21 : (t : ℕ) → search-lts.Need-mul-t21 (search-claims t) (search-at t) search′.Post
 search-mul-t21 t c =
     let q = c .before .before .before .before .before .before .before .before .pre .1 .1 .0 .held in
     omega (arith, c .before .before .place .ensures, mod-lt (c .before .before .before .before .before .before .before .before .args .items) (q .some), q .long, c .before .before .before .before .before .before .before .before .good .1 .1 .1 .1 .1 .1 .0 .1)
 
-search-add-t22 : (t : ℕ) → search-lts.Need-add-t22 (
-  place-reads.Asked,
-  place-reads.Learnt,
-  trial-below t,
-  trial.Post,
-) (search-at t) search′.Post
+search-add-t22 : (t : ℕ) → search-lts.Need-add-t22 (search-claims t) (search-at t) search′.Post
 search-add-t22 t c =
     let q = c .before .before .before .before .before .before .before .before .pre .1 .1 .0 .held in
     omega (arith, c .before .before .place .ensures, mod-lt (c .before .before .before .before .before .before .before .before .args .items) (q .some), q .long, c .before .before .before .before .before .before .before .before .good .1 .1 .1 .1 .1 .1 .0 .1)
 
-search-mul-t23 : (t : ℕ) → search-lts.Need-mul-t23 (
-  place-reads.Asked,
-  place-reads.Learnt,
-  trial-below t,
-  trial.Post,
-) (search-at t) search′.Post
+search-mul-t23 : (t : ℕ) → search-lts.Need-mul-t23 (search-claims t) (search-at t) search′.Post
 search-mul-t23 t c =
     let q = c .before .before .before .before .before .before .before .before .pre .1 .1 .0 .held in
     omega (arith, c .before .before .place .ensures, mod-lt (c .before .before .before .before .before .before .before .before .args .items) (q .some), q .long, c .before .before .before .before .before .before .before .before .good .1 .1 .1 .1 .1 .1 .0 .1)
 
-search-slice-read-t25 : (t : ℕ) → search-lts.Need-slice-read-t25 (
-  place-reads.Asked,
-  place-reads.Learnt,
-  trial-below t,
-  trial.Post,
-) (search-at t) search′.Post
+search-slice-read-t25 : (t : ℕ) → search-lts.Need-slice-read-t25 (search-claims t) (search-at t) search′.Post
 search-slice-read-t25 t c =
     let q = c .before .before .before .before .before .before .before .before .before .pre .1 .1 .0 .held in
     omega (arith, c .before .before .before .place .ensures, mod-lt (c .before .before .before .before .before .before .before .before .before .args .items) (q .some), q .long)
 
-search-cast-t26 : (t : ℕ) → search-lts.Need-cast-t26 (
-  place-reads.Asked,
-  place-reads.Learnt,
-  trial-below t,
-  trial.Post,
-) (search-at t) search′.Post
+search-cast-t26 : (t : ℕ) → search-lts.Need-cast-t26 (search-claims t) (search-at t) search′.Post
 search-cast-t26 t c =
     let q = c .before .before .before .before .before .before .before .before .before .pre .1 .1 .0 in
     omega (arith, q .held .values (c .before .before .before .place .result) (omega (arith, c .before .before .before .place .ensures, mod-lt (c .before .before .before .before .before .before .before .before .before .args .items) (q .held .some))), q .indexed .room .few)
 
-search-add-t27 : (t : ℕ) → search-lts.Need-add-t27 (
-  place-reads.Asked,
-  place-reads.Learnt,
-  trial-below t,
-  trial.Post,
-) (search-at t) search′.Post
-search-add-t27 t c = search needs
-
-search-returns-3 : (t : ℕ) → search-lts.Need-returns-3 (
-  place-reads.Asked,
-  place-reads.Learnt,
-  trial-below t,
-  trial.Post,
-) (search-at t) search′.Post
+search-returns-3 : (t : ℕ) → search-lts.Need-returns-3 (search-claims t) (search-at t) search′.Post
 search-returns-3 t c = search-hit (c .before .before .before .before .before .before .before .before .before .pre .1 .0) (c .before .before .before .before .before .before .before .before .before .pre .1 .1 .0) (c .before .before .before .before .before .before .before .before .before .args .items) (c .before .before .before .place .result) _ _ (omega (arith, c .before .before .before .before .before .if1 .left)) refl (omega (arith, c .before .before .before .before .if2 .left)) (c .before .before .before .place .ensures) (c .before .if3 .taken) refl
 
-search-add-t20 : (t : ℕ) → search-lts.Need-add-t20 (
-  place-reads.Asked,
-  place-reads.Learnt,
-  trial-below t,
-  trial.Post,
-) (search-at t) search′.Post
-search-add-t20 t c = search needs
-
-search-trial-requires : (t : ℕ) → search-lts.Need-trial-requires (
-  place-reads.Asked,
-  place-reads.Learnt,
-  trial-below t,
-  trial.Post,
-) (search-at t) search′.Post
+search-trial-requires : (t : ℕ) → search-lts.Need-trial-requires (search-claims t) (search-at t) search′.Post
 search-trial-requires t c κs =
     let q = c .before .before .before .before .before .before .before .before .before .before .before .before .pre .1 in
     (omega (arith, c .before .before .before .before .before .before .before .before .before .before .before .before .pre .0), (q .0, (q .1 .0, (omega (arith, c .before .before .before .before .before .before .before .before .if1 .left), (omega (arith, c .before .before .before .before .before .before .before .if2 .left), c .before .before .before .before .before .before .place .ensures)))))
 
-search-same-length : (t : ℕ) → search-lts.Need-same-length (
-  place-reads.Asked,
-  place-reads.Learnt,
-  trial-below t,
-  trial.Post,
-) (search-at t) search′.Post
+search-same-length : (t : ℕ) → search-lts.Need-same-length (search-claims t) (search-at t) search′.Post
 search-same-length t c = c .before .before .before .before .trial .ensures .grown .long
 
-search-same-length-2 : (t : ℕ) → search-lts.Need-same-length-2 (
-  place-reads.Asked,
-  place-reads.Learnt,
-  trial-below t,
-  trial.Post,
-) (search-at t) search′.Post
+search-same-length-2 : (t : ℕ) → search-lts.Need-same-length-2 (search-claims t) (search-at t) search′.Post
 search-same-length-2 t c = c .before .before .before .before .trial .ensures .same
 
-search-returns-4 : (t : ℕ) → search-lts.Need-returns-4 (
-  place-reads.Asked,
-  place-reads.Learnt,
-  trial-below t,
-  trial.Post,
-) (search-at t) search′.Post
+search-returns-4 : (t : ℕ) → search-lts.Need-returns-4 (search-claims t) (search-at t) search′.Post
 search-returns-4 t c = search-tried (c .before .before .before .before .before .before .before .before .before .before .before .before .before .before .before .before .before .pre .1 .0) (c .before .before .before .before .before .before .before .before .before .before .before .before .before .before .before .before .before .pre .1 .1 .0) (c .before .before .before .before .before .before .before .before .before .before .before .before .before .before .before .before .before .args .items) (c .before .before .before .before .before .before .before .before .before .before .before .place .result) _ refl (omega (arith, c .before .before .before .before .before .before .before .before .before .before .before .before .if2 .left)) (c .before .before .before .before .before .before .before .before .before .before .before .place .ensures) (c .before .before .before .before .before .before .before .before .before .if3 .left) (c .before .before .before .before .trial .ensures)
 
 abbrev trial-Inv-loop : trial-lts.InvT-loop
@@ -222,7 +130,9 @@ abbrev trial-μ-loop : trial-lts.MeasureT-loop
 trial-μ-loop packs first after t₀ heads₀ next₀ memo₀ places at items limit low p₀ run₀ t heads next memo p run =
     p
 
-trial-lowest-requires : (t : ℕ) → trial-lts.Need-lowest-requires (
+-- what the calls in trial ask and ensure, where trial's measure is t
+abbrev trial-claims : ℕ → trial-lts.Claims
+trial-claims t = (
   lowest-reads.Asked,
   lowest-reads.Learnt,
   wide-reads.Asked,
@@ -235,235 +145,55 @@ trial-lowest-requires : (t : ℕ) → trial-lts.Need-lowest-requires (
   search′.Post,
   unique-reads.Asked,
   unique-reads.Learnt,
-) (trial-at t) trial.Post trial-Inv-loop trial-μ-loop
+)
+
+trial-lowest-requires : (t : ℕ) → trial-lts.Need-lowest-requires (trial-claims t) (trial-at t) trial.Post trial-Inv-loop trial-μ-loop
 trial-lowest-requires t c κs = c .before .before .before .pre .1 .1 .1 .1 .0
 
-trial-wide-requires : (t : ℕ) → trial-lts.Need-wide-requires (
-  lowest-reads.Asked,
-  lowest-reads.Learnt,
-  wide-reads.Asked,
-  wide-reads.Learnt,
-  inside-reads.Asked,
-  inside-reads.Learnt,
-  without-reads.Asked,
-  without-reads.Learnt,
-  search-below t,
-  search′.Post,
-  unique-reads.Asked,
-  unique-reads.Learnt,
-) (trial-at t) trial.Post trial-Inv-loop trial-μ-loop
+trial-wide-requires : (t : ℕ) → trial-lts.Need-wide-requires (trial-claims t) (trial-at t) trial.Post trial-Inv-loop trial-μ-loop
 trial-wide-requires t c κs = search needs
 
-trial-mul-p : (t : ℕ) → trial-lts.Need-mul-p (
-  lowest-reads.Asked,
-  lowest-reads.Learnt,
-  wide-reads.Asked,
-  wide-reads.Learnt,
-  inside-reads.Asked,
-  inside-reads.Learnt,
-  without-reads.Asked,
-  without-reads.Learnt,
-  search-below t,
-  search′.Post,
-  unique-reads.Asked,
-  unique-reads.Learnt,
-) (trial-at t) trial.Post trial-Inv-loop trial-μ-loop
+trial-mul-p : (t : ℕ) → trial-lts.Need-mul-p (trial-claims t) (trial-at t) trial.Post trial-Inv-loop trial-μ-loop
 trial-mul-p t c = search needs
 
-trial-element-copy-out-p : (t : ℕ) → trial-lts.Need-element-copy-out-p (
-  lowest-reads.Asked,
-  lowest-reads.Learnt,
-  wide-reads.Asked,
-  wide-reads.Learnt,
-  inside-reads.Asked,
-  inside-reads.Learnt,
-  without-reads.Asked,
-  without-reads.Learnt,
-  search-below t,
-  search′.Post,
-  unique-reads.Asked,
-  unique-reads.Learnt,
-) (trial-at t) trial.Post trial-Inv-loop trial-μ-loop
+trial-element-copy-out-p : (t : ℕ) → trial-lts.Need-element-copy-out-p (trial-claims t) (trial-at t) trial.Post trial-Inv-loop trial-μ-loop
 trial-element-copy-out-p t c = omega (arith, c .wide .ensures, c .before .lowest .ensures, lowest-lt 64 (c .before .before .before .before .before .args .items) (c .before .before .before .before .before .pre .1 .1 .1 .1 .0) (c .before .before .before .before .before .fits .items .fits))
 
-trial-loop-holds : (t : ℕ) → trial-lts.Need-loop-holds (
-  lowest-reads.Asked,
-  lowest-reads.Learnt,
-  wide-reads.Asked,
-  wide-reads.Learnt,
-  inside-reads.Asked,
-  inside-reads.Learnt,
-  without-reads.Asked,
-  without-reads.Learnt,
-  search-below t,
-  search′.Post,
-  unique-reads.Asked,
-  unique-reads.Learnt,
-) (trial-at t) trial.Post trial-Inv-loop trial-μ-loop
+trial-loop-holds : (t : ℕ) → trial-lts.Need-loop-holds (trial-claims t) (trial-at t) trial.Post trial-Inv-loop trial-μ-loop
 trial-loop-holds t c =
     let q = c .before .before .before .before .before .before .pre .1 in
     rw (c .before .wide .ensures, c .before .before .lowest .ensures) (turn-start (q .0) (c .before .before .before .before .before .before .args .items) (c .before .before .before .before .before .before .fits .items .fits) (q .1 .1 .1 .0) (q .1 .0) (q .1 .1 .0), (at-first (q .0) (c .before .before .before .before .before .before .args .items) (c .before .before .before .before .before .before .fits .items .fits) (q .1 .1 .1 .0), refl))
 
-trial-sub-label : (t : ℕ) → trial-lts.Need-sub-label (
-  lowest-reads.Asked,
-  lowest-reads.Learnt,
-  wide-reads.Asked,
-  wide-reads.Learnt,
-  inside-reads.Asked,
-  inside-reads.Learnt,
-  without-reads.Asked,
-  without-reads.Learnt,
-  search-below t,
-  search′.Post,
-  unique-reads.Asked,
-  unique-reads.Learnt,
-) (trial-at t) trial.Post trial-Inv-loop trial-μ-loop
+trial-sub-label : (t : ℕ) → trial-lts.Need-sub-label (trial-claims t) (trial-at t) trial.Post trial-Inv-loop trial-μ-loop
 trial-sub-label t c = search needs
 
-trial-wide-requires-2 : (t : ℕ) → trial-lts.Need-wide-requires-2 (
-  lowest-reads.Asked,
-  lowest-reads.Learnt,
-  wide-reads.Asked,
-  wide-reads.Learnt,
-  inside-reads.Asked,
-  inside-reads.Learnt,
-  without-reads.Asked,
-  without-reads.Learnt,
-  search-below t,
-  search′.Post,
-  unique-reads.Asked,
-  unique-reads.Learnt,
-) (trial-at t) trial.Post trial-Inv-loop trial-μ-loop
+trial-wide-requires-2 : (t : ℕ) → trial-lts.Need-wide-requires-2 (trial-claims t) (trial-at t) trial.Post trial-Inv-loop trial-μ-loop
 trial-wide-requires-2 t c κs = search needs
 
-trial-mul-pack : (t : ℕ) → trial-lts.Need-mul-pack (
-  lowest-reads.Asked,
-  lowest-reads.Learnt,
-  wide-reads.Asked,
-  wide-reads.Learnt,
-  inside-reads.Asked,
-  inside-reads.Learnt,
-  without-reads.Asked,
-  without-reads.Learnt,
-  search-below t,
-  search′.Post,
-  unique-reads.Asked,
-  unique-reads.Learnt,
-) (trial-at t) trial.Post trial-Inv-loop trial-μ-loop
+trial-mul-pack : (t : ℕ) → trial-lts.Need-mul-pack (trial-claims t) (trial-at t) trial.Post trial-Inv-loop trial-μ-loop
 trial-mul-pack t c = search needs
 
-trial-shared-slice-read-pack : (t : ℕ) → trial-lts.Need-shared-slice-read-pack (
-  lowest-reads.Asked,
-  lowest-reads.Learnt,
-  wide-reads.Asked,
-  wide-reads.Learnt,
-  inside-reads.Asked,
-  inside-reads.Learnt,
-  without-reads.Asked,
-  without-reads.Learnt,
-  search-below t,
-  search′.Post,
-  unique-reads.Asked,
-  unique-reads.Learnt,
-) (trial-at t) trial.Post trial-Inv-loop trial-μ-loop
+trial-shared-slice-read-pack : (t : ℕ) → trial-lts.Need-shared-slice-read-pack (trial-claims t) (trial-at t) trial.Post trial-Inv-loop trial-μ-loop
 trial-shared-slice-read-pack t c = omega (arith, c .before .wide2 .ensures, c .before .before .before .loop .inv .1 .0 .inside, c .before .before .loop-test .taken)
 
-trial-add-later : (t : ℕ) → trial-lts.Need-add-later (
-  lowest-reads.Asked,
-  lowest-reads.Learnt,
-  wide-reads.Asked,
-  wide-reads.Learnt,
-  inside-reads.Asked,
-  inside-reads.Learnt,
-  without-reads.Asked,
-  without-reads.Learnt,
-  search-below t,
-  search′.Post,
-  unique-reads.Asked,
-  unique-reads.Learnt,
-) (trial-at t) trial.Post trial-Inv-loop trial-μ-loop
+trial-add-later : (t : ℕ) → trial-lts.Need-add-later (trial-claims t) (trial-at t) trial.Post trial-Inv-loop trial-μ-loop
 trial-add-later t c = search needs
 
-trial-mul-later : (t : ℕ) → trial-lts.Need-mul-later (
-  lowest-reads.Asked,
-  lowest-reads.Learnt,
-  wide-reads.Asked,
-  wide-reads.Learnt,
-  inside-reads.Asked,
-  inside-reads.Learnt,
-  without-reads.Asked,
-  without-reads.Learnt,
-  search-below t,
-  search′.Post,
-  unique-reads.Asked,
-  unique-reads.Learnt,
-) (trial-at t) trial.Post trial-Inv-loop trial-μ-loop
+trial-mul-later : (t : ℕ) → trial-lts.Need-mul-later (trial-claims t) (trial-at t) trial.Post trial-Inv-loop trial-μ-loop
 trial-mul-later t c = search needs
 
-trial-element-copy-out-later : (t : ℕ) → trial-lts.Need-element-copy-out-later (
-  lowest-reads.Asked,
-  lowest-reads.Learnt,
-  wide-reads.Asked,
-  wide-reads.Learnt,
-  inside-reads.Asked,
-  inside-reads.Learnt,
-  without-reads.Asked,
-  without-reads.Learnt,
-  search-below t,
-  search′.Post,
-  unique-reads.Asked,
-  unique-reads.Learnt,
-) (trial-at t) trial.Post trial-Inv-loop trial-μ-loop
+trial-element-copy-out-later : (t : ℕ) → trial-lts.Need-element-copy-out-later (trial-claims t) (trial-at t) trial.Post trial-Inv-loop trial-μ-loop
 trial-element-copy-out-later t c = omega (arith, c .before .wide2 .ensures, c .before .before .before .loop .inv .1 .0 .inside, c .before .before .loop-test .taken, c .before .before .before .before .before .before .before .before .before .before .pre .1 .0 .few)
 
-trial-inside-requires : (t : ℕ) → trial-lts.Need-inside-requires (
-  lowest-reads.Asked,
-  lowest-reads.Learnt,
-  wide-reads.Asked,
-  wide-reads.Learnt,
-  inside-reads.Asked,
-  inside-reads.Learnt,
-  without-reads.Asked,
-  without-reads.Learnt,
-  search-below t,
-  search′.Post,
-  unique-reads.Asked,
-  unique-reads.Learnt,
-) (trial-at t) trial.Post trial-Inv-loop trial-μ-loop
+trial-inside-requires : (t : ℕ) → trial-lts.Need-inside-requires (trial-claims t) (trial-at t) trial.Post trial-Inv-loop trial-μ-loop
 trial-inside-requires t c κs = search needs
 
-trial-loop-less : (t : ℕ) → trial-lts.Need-loop-less (
-  lowest-reads.Asked,
-  lowest-reads.Learnt,
-  wide-reads.Asked,
-  wide-reads.Learnt,
-  inside-reads.Asked,
-  inside-reads.Learnt,
-  without-reads.Asked,
-  without-reads.Learnt,
-  search-below t,
-  search′.Post,
-  unique-reads.Asked,
-  unique-reads.Learnt,
-) (trial-at t) trial.Post trial-Inv-loop trial-μ-loop
+trial-loop-less : (t : ℕ) → trial-lts.Need-loop-less (trial-claims t) (trial-at t) trial.Post trial-Inv-loop trial-μ-loop
 trial-loop-less t c =
     let q = c .before .before .before .before .before .before .before .before .before .before .before .before .before .pre .1 in
     at-falls (q .0) (c .before .before .before .before .before .before .before .before .before .before .before .before .before .args .items) (c .before .before .before .before .before .before .before .before .before .before .before .before .before .fits .items .fits) (q .1 .1 .1 .0) (c .before .before .before .before .before .before .loop .p) (c .before .before .before .before .wide2 .result) (omega (arith, c .before .before .before .before .wide2 .ensures, c .before .before .before .before .before .loop-test .taken)) (c .before .before .before .before .before .before .loop .inv .1 .0)
 
-trial-loop-again : (t : ℕ) → trial-lts.Need-loop-again (
-  lowest-reads.Asked,
-  lowest-reads.Learnt,
-  wide-reads.Asked,
-  wide-reads.Learnt,
-  inside-reads.Asked,
-  inside-reads.Learnt,
-  without-reads.Asked,
-  without-reads.Learnt,
-  search-below t,
-  search′.Post,
-  unique-reads.Asked,
-  unique-reads.Learnt,
-) (trial-at t) trial.Post trial-Inv-loop trial-μ-loop
+trial-loop-again : (t : ℕ) → trial-lts.Need-loop-again (trial-claims t) (trial-at t) trial.Post trial-Inv-loop trial-μ-loop
 trial-loop-again t c =
     let q = c .before .before .before .before .before .before .before .before .before .before .before .before .before .pre .1 in
     let e : c .before .before .before .before .before .before .loop .p ≡ c .before .before .before .before .wide2 .result + 1 = omega (arith, c .before .before .before .before .wide2 .ensures, c .before .before .before .before .before .loop-test .taken) in (
@@ -471,36 +201,10 @@ trial-loop-again t c =
       (at-later (q .0) (c .before .before .before .before .before .before .before .before .before .before .before .before .before .args .items) (c .before .before .before .before .before .before .before .before .before .before .before .before .before .fits .items .fits) (q .1 .1 .1 .0) (c .before .before .before .before .before .before .loop .p) (c .before .before .before .before .wide2 .result) e (c .before .before .before .before .before .before .loop .inv .1 .0), c .before .before .before .before .before .before .loop .inv .1 .1),
     )
 
-trial-without-requires : (t : ℕ) → trial-lts.Need-without-requires (
-  lowest-reads.Asked,
-  lowest-reads.Learnt,
-  wide-reads.Asked,
-  wide-reads.Learnt,
-  inside-reads.Asked,
-  inside-reads.Learnt,
-  without-reads.Asked,
-  without-reads.Learnt,
-  search-below t,
-  search′.Post,
-  unique-reads.Asked,
-  unique-reads.Learnt,
-) (trial-at t) trial.Post trial-Inv-loop trial-μ-loop
+trial-without-requires : (t : ℕ) → trial-lts.Need-without-requires (trial-claims t) (trial-at t) trial.Post trial-Inv-loop trial-μ-loop
 trial-without-requires t c κs = search needs
 
-trial-search-requires : (t : ℕ) → trial-lts.Need-search-requires (
-  lowest-reads.Asked,
-  lowest-reads.Learnt,
-  wide-reads.Asked,
-  wide-reads.Learnt,
-  inside-reads.Asked,
-  inside-reads.Learnt,
-  without-reads.Asked,
-  without-reads.Learnt,
-  search-below t,
-  search′.Post,
-  unique-reads.Asked,
-  unique-reads.Learnt,
-) (trial-at t) trial.Post trial-Inv-loop trial-μ-loop
+trial-search-requires : (t : ℕ) → trial-lts.Need-search-requires (trial-claims t) (trial-at t) trial.Post trial-Inv-loop trial-μ-loop
 trial-search-requires t c κs =
     let q = c .before .before .before .before .before .before .before .before .before .before .before .before .before .before .before .before .before .before .pre .1 in
     let u = c .before .before .before .before .before .before .before .before .before .before .before .loop .inv .0 in
@@ -510,381 +214,108 @@ trial-search-requires t c κs =
       (q .0, (record { sound = u .grown .sound; indexed = u .indexed; held = u .held }, u .within)),
     )
 
-trial-same-length : (t : ℕ) → trial-lts.Need-same-length (
-  lowest-reads.Asked,
-  lowest-reads.Learnt,
-  wide-reads.Asked,
-  wide-reads.Learnt,
-  inside-reads.Asked,
-  inside-reads.Learnt,
-  without-reads.Asked,
-  without-reads.Learnt,
-  search-below t,
-  search′.Post,
-  unique-reads.Asked,
-  unique-reads.Learnt,
-) (trial-at t) trial.Post trial-Inv-loop trial-μ-loop
+trial-same-length : (t : ℕ) → trial-lts.Need-same-length (trial-claims t) (trial-at t) trial.Post trial-Inv-loop trial-μ-loop
 trial-same-length t c = c .before .before .before .before .before .search .ensures .grown .long ∙ c .before .before .before .before .before .before .before .before .before .before .before .before .before .before .before .before .before .loop .inv .0 .grown .long
 
-trial-same-length-2 : (t : ℕ) → trial-lts.Need-same-length-2 (
-  lowest-reads.Asked,
-  lowest-reads.Learnt,
-  wide-reads.Asked,
-  wide-reads.Learnt,
-  inside-reads.Asked,
-  inside-reads.Learnt,
-  without-reads.Asked,
-  without-reads.Learnt,
-  search-below t,
-  search′.Post,
-  unique-reads.Asked,
-  unique-reads.Learnt,
-) (trial-at t) trial.Post trial-Inv-loop trial-μ-loop
+trial-same-length-2 : (t : ℕ) → trial-lts.Need-same-length-2 (trial-claims t) (trial-at t) trial.Post trial-Inv-loop trial-μ-loop
 trial-same-length-2 t c = c .before .before .before .before .before .search .ensures .same ∙ c .before .before .before .before .before .before .before .before .before .before .before .before .before .before .before .before .before .loop .inv .0 .same
 
-trial-returns : (t : ℕ) → trial-lts.Need-returns (
-  lowest-reads.Asked,
-  lowest-reads.Learnt,
-  wide-reads.Asked,
-  wide-reads.Learnt,
-  inside-reads.Asked,
-  inside-reads.Learnt,
-  without-reads.Asked,
-  without-reads.Learnt,
-  search-below t,
-  search′.Post,
-  unique-reads.Asked,
-  unique-reads.Learnt,
-) (trial-at t) trial.Post trial-Inv-loop trial-μ-loop
+trial-returns : (t : ℕ) → trial-lts.Need-returns (trial-claims t) (trial-at t) trial.Post trial-Inv-loop trial-μ-loop
 trial-returns t c =
     let q = c .before .before .before .before .before .before .before .before .before .before .before .before .before .before .before .before .before .before .before .before .before .before .before .before .pre .1 in
     let e : c .before .before .before .before .before .before .before .before .before .before .before .before .before .before .before .before .before .loop .p ≡ c .before .before .before .before .before .before .before .before .before .before .before .before .before .before .before .wide2 .result + 1 = omega (arith, c .before .before .before .before .before .before .before .before .before .before .before .before .before .before .before .wide2 .ensures, c .before .before .before .before .before .before .before .before .before .before .before .before .before .before .before .before .loop-test .taken) in
     turn-over (q .0) (c .before .before .before .before .before .before .before .before .before .before .before .before .before .before .before .before .before .before .before .before .before .before .before .before .args .items) (c .before .before .before .before .before .before .before .before .before .before .before .before .before .before .before .before .before .before .before .before .before .before .before .before .fits .items .fits) (q .1 .1 .1 .0) (c .before .before .before .before .before .before .before .before .before .before .before .before .before .before .before .before .before .loop .p) (c .before .before .before .before .before .before .before .before .before .before .before .before .before .before .before .wide2 .result) (c .before .before .before .before .before .before .before .before .before .before .without .result) e (c .before .before .before .before .before .before .before .before .before .before .before .before .before .before .before .before .before .loop .inv .1 .0) (sym (c .before .before .before .before .before .before .before .before .before .before .before .before .inside .ensures) ∙ not-false (c .before .before .before .before .before .before .before .before .before .before .before .before .inside .result) (c .before .before .before .before .before .before .before .before .before .before .before .if1 .left)) (c .before .before .before .before .before .before .before .before .before .before .without .ensures) (c .if2 .taken) (c .before .before .before .before .before .before .before .before .before .before .before .before .before .before .before .before .before .loop .inv .0) (c .before .before .before .before .before .search .ensures)
 
-trial-loop-less-2 : (t : ℕ) → trial-lts.Need-loop-less-2 (
-  lowest-reads.Asked,
-  lowest-reads.Learnt,
-  wide-reads.Asked,
-  wide-reads.Learnt,
-  inside-reads.Asked,
-  inside-reads.Learnt,
-  without-reads.Asked,
-  without-reads.Learnt,
-  search-below t,
-  search′.Post,
-  unique-reads.Asked,
-  unique-reads.Learnt,
-) (trial-at t) trial.Post trial-Inv-loop trial-μ-loop
+trial-loop-less-2 : (t : ℕ) → trial-lts.Need-loop-less-2 (trial-claims t) (trial-at t) trial.Post trial-Inv-loop trial-μ-loop
 trial-loop-less-2 t c =
     let q = c .before .before .before .before .before .before .before .before .before .before .before .before .before .before .before .before .before .before .before .before .before .before .before .before .before .pre .1 in
     at-falls (q .0) (c .before .before .before .before .before .before .before .before .before .before .before .before .before .before .before .before .before .before .before .before .before .before .before .before .before .args .items) (c .before .before .before .before .before .before .before .before .before .before .before .before .before .before .before .before .before .before .before .before .before .before .before .before .before .fits .items .fits) (q .1 .1 .1 .0) (c .before .before .before .before .before .before .before .before .before .before .before .before .before .before .before .before .before .before .loop .p) (c .before .before .before .before .before .before .before .before .before .before .before .before .before .before .before .before .wide2 .result) (omega (arith, c .before .before .before .before .before .before .before .before .before .before .before .before .before .before .before .before .wide2 .ensures, c .before .before .before .before .before .before .before .before .before .before .before .before .before .before .before .before .before .loop-test .taken)) (c .before .before .before .before .before .before .before .before .before .before .before .before .before .before .before .before .before .before .loop .inv .1 .0)
 
-trial-loop-again-2 : (t : ℕ) → trial-lts.Need-loop-again-2 (
-  lowest-reads.Asked,
-  lowest-reads.Learnt,
-  wide-reads.Asked,
-  wide-reads.Learnt,
-  inside-reads.Asked,
-  inside-reads.Learnt,
-  without-reads.Asked,
-  without-reads.Learnt,
-  search-below t,
-  search′.Post,
-  unique-reads.Asked,
-  unique-reads.Learnt,
-) (trial-at t) trial.Post trial-Inv-loop trial-μ-loop
+trial-loop-again-2 : (t : ℕ) → trial-lts.Need-loop-again-2 (trial-claims t) (trial-at t) trial.Post trial-Inv-loop trial-μ-loop
 trial-loop-again-2 t c =
     let q = c .before .before .before .before .before .before .before .before .before .before .before .before .before .before .before .before .before .before .before .before .before .before .before .before .before .pre .1 in
     let e : c .before .before .before .before .before .before .before .before .before .before .before .before .before .before .before .before .before .before .loop .p ≡ c .before .before .before .before .before .before .before .before .before .before .before .before .before .before .before .before .wide2 .result + 1 = omega (arith, c .before .before .before .before .before .before .before .before .before .before .before .before .before .before .before .before .wide2 .ensures, c .before .before .before .before .before .before .before .before .before .before .before .before .before .before .before .before .before .loop-test .taken) in (
       turn-later (q .0) (c .before .before .before .before .before .before .before .before .before .before .before .before .before .before .before .before .before .before .before .before .before .before .before .before .before .args .items) (c .before .before .before .before .before .before .before .before .before .before .before .before .before .before .before .before .before .before .before .before .before .before .before .before .before .fits .items .fits) (q .1 .1 .1 .0) (c .before .before .before .before .before .before .before .before .before .before .before .before .before .before .before .before .before .before .loop .p) (c .before .before .before .before .before .before .before .before .before .before .before .before .before .before .before .before .wide2 .result) e (c .before .before .before .before .before .before .before .before .before .before .before .before .before .before .before .before .before .before .loop .inv .1 .0)
           (turn-none (q .0) (c .before .before .before .before .before .before .before .before .before .before .before .before .before .before .before .before .before .before .before .before .before .before .before .before .before .args .items) (c .before .before .before .before .before .before .before .before .before .before .before .before .before .before .before .before .before .before .before .before .before .before .before .before .before .fits .items .fits) (q .1 .1 .1 .0) (c .before .before .before .before .before .before .before .before .before .before .before .before .before .before .before .before .before .before .loop .p) (c .before .before .before .before .before .before .before .before .before .before .before .before .before .before .before .before .wide2 .result) (c .before .before .before .before .before .before .before .before .before .before .before .without .result) e (c .before .before .before .before .before .before .before .before .before .before .before .before .before .before .before .before .before .before .loop .inv .1 .0) (sym (c .before .before .before .before .before .before .before .before .before .before .before .before .before .inside .ensures) ∙ not-false (c .before .before .before .before .before .before .before .before .before .before .before .before .before .inside .result) (c .before .before .before .before .before .before .before .before .before .before .before .before .if1 .left)) (c .before .before .before .before .before .before .before .before .before .before .before .without .ensures) (c .before .if2 .left) (c .before .before .before .before .before .before .before .before .before .before .before .before .before .before .before .before .before .before .loop .inv .0) (c .before .before .before .before .before .before .search .ensures) (c .if3 .taken)),
-      (at-later (q .0) (c .before .before .before .before .before .before .before .before .before .before .before .before .before .before .before .before .before .before .before .before .before .before .before .before .before .args .items) (c .before .before .before .before .before .before .before .before .before .before .before .before .before .before .before .before .before .before .before .before .before .before .before .before .before .fits .items .fits) (q .1 .1 .1 .0) (c .before .before .before .before .before .before .before .before .before .before .before .before .before .before .before .before .before .before .loop .p) (c .before .before .before .before .before .before .before .before .before .before .before .before .before .before .before .before .wide2 .result) e (c .before .before .before .before .before .before .before .before .before .before .before .before .before .before .before .before .before .before .loop .inv .1 .0), refl),
+      (at-later (q .0) (c .before .before .before .before .before .before .before .before .before .before .before .before .before .before .before .before .before .before .before .before .before .before .before .before .before .args .items) (c .before .before .before .before .before .before .before .before .before .before .before .before .before .before .before .before .before .before .before .before .before .before .before .before .before .fits .items .fits) (q .1 .1 .1 .0) (c .before .before .before .before .before .before .before .before .before .before .before .before .before .before .before .before .before .before .loop .p) (c .before .before .before .before .before .before .before .before .before .before .before .before .before .before .before .before .wide2 .result) e (c .before .before .before .before .before .before .before .before .before .before .before .before .before .before .before .before .before .before .loop .inv .1 .0), c .before .before .before .before .before .before .before .before .before .before .before .before .before .before .before .before .before .before .loop .inv .1 .1),
     )
 
-trial-loop-less-3 : (t : ℕ) → trial-lts.Need-loop-less-3 (
-  lowest-reads.Asked,
-  lowest-reads.Learnt,
-  wide-reads.Asked,
-  wide-reads.Learnt,
-  inside-reads.Asked,
-  inside-reads.Learnt,
-  without-reads.Asked,
-  without-reads.Learnt,
-  search-below t,
-  search′.Post,
-  unique-reads.Asked,
-  unique-reads.Learnt,
-) (trial-at t) trial.Post trial-Inv-loop trial-μ-loop
+trial-loop-less-3 : (t : ℕ) → trial-lts.Need-loop-less-3 (trial-claims t) (trial-at t) trial.Post trial-Inv-loop trial-μ-loop
 trial-loop-less-3 t c =
     let q = c .before .before .before .before .before .before .before .before .before .before .before .before .before .before .before .before .before .before .before .before .before .before .before .before .before .before .pre .1 in
     at-falls (q .0) (c .before .before .before .before .before .before .before .before .before .before .before .before .before .before .before .before .before .before .before .before .before .before .before .before .before .before .args .items) (c .before .before .before .before .before .before .before .before .before .before .before .before .before .before .before .before .before .before .before .before .before .before .before .before .before .before .fits .items .fits) (q .1 .1 .1 .0) (c .before .before .before .before .before .before .before .before .before .before .before .before .before .before .before .before .before .before .before .loop .p) (c .before .before .before .before .before .before .before .before .before .before .before .before .before .before .before .before .before .wide2 .result) (omega (arith, c .before .before .before .before .before .before .before .before .before .before .before .before .before .before .before .before .before .wide2 .ensures, c .before .before .before .before .before .before .before .before .before .before .before .before .before .before .before .before .before .before .loop-test .taken)) (c .before .before .before .before .before .before .before .before .before .before .before .before .before .before .before .before .before .before .before .loop .inv .1 .0)
 
-trial-loop-again-3 : (t : ℕ) → trial-lts.Need-loop-again-3 (
-  lowest-reads.Asked,
-  lowest-reads.Learnt,
-  wide-reads.Asked,
-  wide-reads.Learnt,
-  inside-reads.Asked,
-  inside-reads.Learnt,
-  without-reads.Asked,
-  without-reads.Learnt,
-  search-below t,
-  search′.Post,
-  unique-reads.Asked,
-  unique-reads.Learnt,
-) (trial-at t) trial.Post trial-Inv-loop trial-μ-loop
+trial-loop-again-3 : (t : ℕ) → trial-lts.Need-loop-again-3 (trial-claims t) (trial-at t) trial.Post trial-Inv-loop trial-μ-loop
 trial-loop-again-3 t c =
     let q = c .before .before .before .before .before .before .before .before .before .before .before .before .before .before .before .before .before .before .before .before .before .before .before .before .before .before .pre .1 in
     let e : c .before .before .before .before .before .before .before .before .before .before .before .before .before .before .before .before .before .before .before .loop .p ≡ c .before .before .before .before .before .before .before .before .before .before .before .before .before .before .before .before .before .wide2 .result + 1 = omega (arith, c .before .before .before .before .before .before .before .before .before .before .before .before .before .before .before .before .before .wide2 .ensures, c .before .before .before .before .before .before .before .before .before .before .before .before .before .before .before .before .before .before .loop-test .taken) in (
       turn-later (q .0) (c .before .before .before .before .before .before .before .before .before .before .before .before .before .before .before .before .before .before .before .before .before .before .before .before .before .before .args .items) (c .before .before .before .before .before .before .before .before .before .before .before .before .before .before .before .before .before .before .before .before .before .before .before .before .before .before .fits .items .fits) (q .1 .1 .1 .0) (c .before .before .before .before .before .before .before .before .before .before .before .before .before .before .before .before .before .before .before .loop .p) (c .before .before .before .before .before .before .before .before .before .before .before .before .before .before .before .before .before .wide2 .result) e (c .before .before .before .before .before .before .before .before .before .before .before .before .before .before .before .before .before .before .before .loop .inv .1 .0)
           (turn-idle (q .0) (c .before .before .before .before .before .before .before .before .before .before .before .before .before .before .before .before .before .before .before .before .before .before .before .before .before .before .args .items) (c .before .before .before .before .before .before .before .before .before .before .before .before .before .before .before .before .before .before .before .before .before .before .before .before .before .before .fits .items .fits) (q .1 .1 .1 .0) (c .before .before .before .before .before .before .before .before .before .before .before .before .before .before .before .before .before .before .before .loop .p) (c .before .before .before .before .before .before .before .before .before .before .before .before .before .before .before .before .before .wide2 .result) (c .before .before .before .before .before .before .before .before .before .before .before .before .without .result) e (c .before .before .before .before .before .before .before .before .before .before .before .before .before .before .before .before .before .before .before .loop .inv .1 .0) (sym (c .before .before .before .before .before .before .before .before .before .before .before .before .before .before .inside .ensures) ∙ not-false (c .before .before .before .before .before .before .before .before .before .before .before .before .before .before .inside .result) (c .before .before .before .before .before .before .before .before .before .before .before .before .before .if1 .left)) (c .before .before .before .before .before .before .before .before .before .before .before .before .without .ensures) (c .before .before .if2 .left) (c .before .before .before .before .before .before .before .before .before .before .before .before .before .before .before .before .before .before .before .loop .inv .0) (c .before .before .before .before .before .before .before .search .ensures) (c .if4 .taken)),
-      (at-later (q .0) (c .before .before .before .before .before .before .before .before .before .before .before .before .before .before .before .before .before .before .before .before .before .before .before .before .before .before .args .items) (c .before .before .before .before .before .before .before .before .before .before .before .before .before .before .before .before .before .before .before .before .before .before .before .before .before .before .fits .items .fits) (q .1 .1 .1 .0) (c .before .before .before .before .before .before .before .before .before .before .before .before .before .before .before .before .before .before .before .loop .p) (c .before .before .before .before .before .before .before .before .before .before .before .before .before .before .before .before .before .wide2 .result) e (c .before .before .before .before .before .before .before .before .before .before .before .before .before .before .before .before .before .before .before .loop .inv .1 .0), refl),
+      (at-later (q .0) (c .before .before .before .before .before .before .before .before .before .before .before .before .before .before .before .before .before .before .before .before .before .before .before .before .before .before .args .items) (c .before .before .before .before .before .before .before .before .before .before .before .before .before .before .before .before .before .before .before .before .before .before .before .before .before .before .fits .items .fits) (q .1 .1 .1 .0) (c .before .before .before .before .before .before .before .before .before .before .before .before .before .before .before .before .before .before .before .loop .p) (c .before .before .before .before .before .before .before .before .before .before .before .before .before .before .before .before .before .wide2 .result) e (c .before .before .before .before .before .before .before .before .before .before .before .before .before .before .before .before .before .before .before .loop .inv .1 .0), c .before .before .before .before .before .before .before .before .before .before .before .before .before .before .before .before .before .before .before .loop .inv .1 .1),
     )
 
-trial-unique-requires : (t : ℕ) → trial-lts.Need-unique-requires (
-  lowest-reads.Asked,
-  lowest-reads.Learnt,
-  wide-reads.Asked,
-  wide-reads.Learnt,
-  inside-reads.Asked,
-  inside-reads.Learnt,
-  without-reads.Asked,
-  without-reads.Learnt,
-  search-below t,
-  search′.Post,
-  unique-reads.Asked,
-  unique-reads.Learnt,
-) (trial-at t) trial.Post trial-Inv-loop trial-μ-loop
+trial-unique-requires : (t : ℕ) → trial-lts.Need-unique-requires (trial-claims t) (trial-at t) trial.Post trial-Inv-loop trial-μ-loop
 trial-unique-requires t c κs = c .before .before .before .before .before .before .before .before .before .before .search .ensures .indexed
 
-trial-loop-less-4 : (t : ℕ) → trial-lts.Need-loop-less-4 (
-  lowest-reads.Asked,
-  lowest-reads.Learnt,
-  wide-reads.Asked,
-  wide-reads.Learnt,
-  inside-reads.Asked,
-  inside-reads.Learnt,
-  without-reads.Asked,
-  without-reads.Learnt,
-  search-below t,
-  search′.Post,
-  unique-reads.Asked,
-  unique-reads.Learnt,
-) (trial-at t) trial.Post trial-Inv-loop trial-μ-loop
+trial-loop-less-4 : (t : ℕ) → trial-lts.Need-loop-less-4 (trial-claims t) (trial-at t) trial.Post trial-Inv-loop trial-μ-loop
 trial-loop-less-4 t c =
     let q = c .before .before .before .before .before .before .before .before .before .before .before .before .before .before .before .before .before .before .before .before .before .before .before .before .before .before .before .before .before .before .before .before .pre .1 in
     at-falls (q .0) (c .before .before .before .before .before .before .before .before .before .before .before .before .before .before .before .before .before .before .before .before .before .before .before .before .before .before .before .before .before .before .before .before .args .items) (c .before .before .before .before .before .before .before .before .before .before .before .before .before .before .before .before .before .before .before .before .before .before .before .before .before .before .before .before .before .before .before .before .fits .items .fits) (q .1 .1 .1 .0) (c .before .before .before .before .before .before .before .before .before .before .before .before .before .before .before .before .before .before .before .before .before .before .before .before .before .loop .p) (c .before .before .before .before .before .before .before .before .before .before .before .before .before .before .before .before .before .before .before .before .before .before .before .wide2 .result) (omega (arith, c .before .before .before .before .before .before .before .before .before .before .before .before .before .before .before .before .before .before .before .before .before .before .before .wide2 .ensures, c .before .before .before .before .before .before .before .before .before .before .before .before .before .before .before .before .before .before .before .before .before .before .before .before .loop-test .taken)) (c .before .before .before .before .before .before .before .before .before .before .before .before .before .before .before .before .before .before .before .before .before .before .before .before .before .loop .inv .1 .0)
 
-trial-loop-again-4 : (t : ℕ) → trial-lts.Need-loop-again-4 (
-  lowest-reads.Asked,
-  lowest-reads.Learnt,
-  wide-reads.Asked,
-  wide-reads.Learnt,
-  inside-reads.Asked,
-  inside-reads.Learnt,
-  without-reads.Asked,
-  without-reads.Learnt,
-  search-below t,
-  search′.Post,
-  unique-reads.Asked,
-  unique-reads.Learnt,
-) (trial-at t) trial.Post trial-Inv-loop trial-μ-loop
+trial-loop-again-4 : (t : ℕ) → trial-lts.Need-loop-again-4 (trial-claims t) (trial-at t) trial.Post trial-Inv-loop trial-μ-loop
 trial-loop-again-4 t c =
     let q = c .before .before .before .before .before .before .before .before .before .before .before .before .before .before .before .before .before .before .before .before .before .before .before .before .before .before .before .before .before .before .before .before .pre .1 in
     let e : c .before .before .before .before .before .before .before .before .before .before .before .before .before .before .before .before .before .before .before .before .before .before .before .before .before .loop .p ≡ c .before .before .before .before .before .before .before .before .before .before .before .before .before .before .before .before .before .before .before .before .before .before .before .wide2 .result + 1 = omega (arith, c .before .before .before .before .before .before .before .before .before .before .before .before .before .before .before .before .before .before .before .before .before .before .before .wide2 .ensures, c .before .before .before .before .before .before .before .before .before .before .before .before .before .before .before .before .before .before .before .before .before .before .before .before .loop-test .taken) in (
       turn-later (q .0) (c .before .before .before .before .before .before .before .before .before .before .before .before .before .before .before .before .before .before .before .before .before .before .before .before .before .before .before .before .before .before .before .before .args .items) (c .before .before .before .before .before .before .before .before .before .before .before .before .before .before .before .before .before .before .before .before .before .before .before .before .before .before .before .before .before .before .before .before .fits .items .fits) (q .1 .1 .1 .0) (c .before .before .before .before .before .before .before .before .before .before .before .before .before .before .before .before .before .before .before .before .before .before .before .before .before .loop .p) (c .before .before .before .before .before .before .before .before .before .before .before .before .before .before .before .before .before .before .before .before .before .before .before .wide2 .result) e (c .before .before .before .before .before .before .before .before .before .before .before .before .before .before .before .before .before .before .before .before .before .before .before .before .before .loop .inv .1 .0)
           (turn-made (q .0) (c .before .before .before .before .before .before .before .before .before .before .before .before .before .before .before .before .before .before .before .before .before .before .before .before .before .before .before .before .before .before .before .before .args .items) (c .before .before .before .before .before .before .before .before .before .before .before .before .before .before .before .before .before .before .before .before .before .before .before .before .before .before .before .before .before .before .before .before .fits .items .fits) (q .1 .1 .1 .0) (c .before .before .before .before .before .before .before .before .before .before .before .before .before .before .before .before .before .before .before .before .before .before .before .before .before .loop .p) (c .before .before .before .before .before .before .before .before .before .before .before .before .before .before .before .before .before .before .before .before .before .before .before .wide2 .result) (c .before .before .before .before .before .before .before .before .before .before .before .before .before .before .before .before .before .before .without .result) e (c .before .before .before .before .before .before .before .before .before .before .before .before .before .before .before .before .before .before .before .before .before .before .before .before .before .loop .inv .1 .0) (sym (c .before .before .before .before .before .before .before .before .before .before .before .before .before .before .before .before .before .before .before .before .inside .ensures) ∙ not-false (c .before .before .before .before .before .before .before .before .before .before .before .before .before .before .before .before .before .before .before .before .inside .result) (c .before .before .before .before .before .before .before .before .before .before .before .before .before .before .before .before .before .before .before .if1 .left)) (c .before .before .before .before .before .before .before .before .before .before .before .before .before .before .before .before .before .before .without .ensures) (c .before .before .before .before .before .before .before .before .if2 .left) (c .before .before .before .before .before .before .before .before .before .before .before .before .before .before .before .before .before .before .before .before .before .before .before .before .before .loop .inv .0) (c .before .before .before .before .before .before .before .before .before .before .before .before .before .search .ensures) (c .before .before .before .before .before .before .if4 .left) (omega (arith, c .before .before .before .before .before .before .before .if3 .left)) _ _ (sym (c .before .before .before .before .before .before .before .before .before .before .before .before .before .before .before .before .before .before .before .before .before .before .before .wide2 .ensures)) (c .before .before .unique .ensures)),
-      (at-later (q .0) (c .before .before .before .before .before .before .before .before .before .before .before .before .before .before .before .before .before .before .before .before .before .before .before .before .before .before .before .before .before .before .before .before .args .items) (c .before .before .before .before .before .before .before .before .before .before .before .before .before .before .before .before .before .before .before .before .before .before .before .before .before .before .before .before .before .before .before .before .fits .items .fits) (q .1 .1 .1 .0) (c .before .before .before .before .before .before .before .before .before .before .before .before .before .before .before .before .before .before .before .before .before .before .before .before .before .loop .p) (c .before .before .before .before .before .before .before .before .before .before .before .before .before .before .before .before .before .before .before .before .before .before .before .wide2 .result) e (c .before .before .before .before .before .before .before .before .before .before .before .before .before .before .before .before .before .before .before .before .before .before .before .before .before .loop .inv .1 .0), refl),
+      (at-later (q .0) (c .before .before .before .before .before .before .before .before .before .before .before .before .before .before .before .before .before .before .before .before .before .before .before .before .before .before .before .before .before .before .before .before .args .items) (c .before .before .before .before .before .before .before .before .before .before .before .before .before .before .before .before .before .before .before .before .before .before .before .before .before .before .before .before .before .before .before .before .fits .items .fits) (q .1 .1 .1 .0) (c .before .before .before .before .before .before .before .before .before .before .before .before .before .before .before .before .before .before .before .before .before .before .before .before .before .loop .p) (c .before .before .before .before .before .before .before .before .before .before .before .before .before .before .before .before .before .before .before .before .before .before .before .wide2 .result) e (c .before .before .before .before .before .before .before .before .before .before .before .before .before .before .before .before .before .before .before .before .before .before .before .before .before .loop .inv .1 .0), c .before .before .before .before .before .before .before .before .before .before .before .before .before .before .before .before .before .before .before .before .before .before .before .before .before .loop .inv .1 .1),
     )
 
-trial-mul-memo : (t : ℕ) → trial-lts.Need-mul-memo (
-  lowest-reads.Asked,
-  lowest-reads.Learnt,
-  wide-reads.Asked,
-  wide-reads.Learnt,
-  inside-reads.Asked,
-  inside-reads.Learnt,
-  without-reads.Asked,
-  without-reads.Learnt,
-  search-below t,
-  search′.Post,
-  unique-reads.Asked,
-  unique-reads.Learnt,
-) (trial-at t) trial.Post trial-Inv-loop trial-μ-loop
+trial-mul-memo : (t : ℕ) → trial-lts.Need-mul-memo (trial-claims t) (trial-at t) trial.Post trial-Inv-loop trial-μ-loop
 trial-mul-memo t c =
     let q = c .before .before .before .before .before .before .before .before .pre .1 .1 .0 .held in
     omega (arith, c .before .before .before .before .before .before .before .before .pre .1 .1 .1 .1 .1, mod-lt (c .before .before .before .before .before .before .before .before .args .items) (q .some), q .long, c .before .before .before .before .before .before .before .before .good .1 .1 .1 .1 .1 .1 .0 .1)
 
-trial-mul-memo-2 : (t : ℕ) → trial-lts.Need-mul-memo-2 (
-  lowest-reads.Asked,
-  lowest-reads.Learnt,
-  wide-reads.Asked,
-  wide-reads.Learnt,
-  inside-reads.Asked,
-  inside-reads.Learnt,
-  without-reads.Asked,
-  without-reads.Learnt,
-  search-below t,
-  search′.Post,
-  unique-reads.Asked,
-  unique-reads.Learnt,
-) (trial-at t) trial.Post trial-Inv-loop trial-μ-loop
+trial-mul-memo-2 : (t : ℕ) → trial-lts.Need-mul-memo-2 (trial-claims t) (trial-at t) trial.Post trial-Inv-loop trial-μ-loop
 trial-mul-memo-2 t c =
     let q = c .before .before .before .before .before .before .before .before .pre .1 .1 .0 .held in
     omega (arith, c .before .before .before .before .before .before .before .before .pre .1 .1 .1 .1 .1, mod-lt (c .before .before .before .before .before .before .before .before .args .items) (q .some), q .long, c .before .before .before .before .before .before .before .before .good .1 .1 .1 .1 .1 .1 .0 .1)
 
-trial-slice-write-memo : (t : ℕ) → trial-lts.Need-slice-write-memo (
-  lowest-reads.Asked,
-  lowest-reads.Learnt,
-  wide-reads.Asked,
-  wide-reads.Learnt,
-  inside-reads.Asked,
-  inside-reads.Learnt,
-  without-reads.Asked,
-  without-reads.Learnt,
-  search-below t,
-  search′.Post,
-  unique-reads.Asked,
-  unique-reads.Learnt,
-) (trial-at t) trial.Post trial-Inv-loop trial-μ-loop
+trial-slice-write-memo : (t : ℕ) → trial-lts.Need-slice-write-memo (trial-claims t) (trial-at t) trial.Post trial-Inv-loop trial-μ-loop
 trial-slice-write-memo t c =
     let h = c .before .loop .inv .0 .held in
     omega (arith, h .long, c .before .before .before .before .before .before .before .before .pre .1 .1 .1 .1 .1, mod-lt (c .before .before .before .before .before .before .before .before .args .items) (h .some))
 
-trial-cast-memo : (t : ℕ) → trial-lts.Need-cast-memo (
-  lowest-reads.Asked,
-  lowest-reads.Learnt,
-  wide-reads.Asked,
-  wide-reads.Learnt,
-  inside-reads.Asked,
-  inside-reads.Learnt,
-  without-reads.Asked,
-  without-reads.Learnt,
-  search-below t,
-  search′.Post,
-  unique-reads.Asked,
-  unique-reads.Learnt,
-) (trial-at t) trial.Post trial-Inv-loop trial-μ-loop
+trial-cast-memo : (t : ℕ) → trial-lts.Need-cast-memo (trial-claims t) (trial-at t) trial.Post trial-Inv-loop trial-μ-loop
 trial-cast-memo t c = search needs
 
-trial-mul-memo-3 : (t : ℕ) → trial-lts.Need-mul-memo-3 (
-  lowest-reads.Asked,
-  lowest-reads.Learnt,
-  wide-reads.Asked,
-  wide-reads.Learnt,
-  inside-reads.Asked,
-  inside-reads.Learnt,
-  without-reads.Asked,
-  without-reads.Learnt,
-  search-below t,
-  search′.Post,
-  unique-reads.Asked,
-  unique-reads.Learnt,
-) (trial-at t) trial.Post trial-Inv-loop trial-μ-loop
+trial-mul-memo-3 : (t : ℕ) → trial-lts.Need-mul-memo-3 (trial-claims t) (trial-at t) trial.Post trial-Inv-loop trial-μ-loop
 trial-mul-memo-3 t c =
     let q = c .before .before .before .before .before .before .before .before .before .pre .1 .1 .0 .held in
     omega (arith, c .before .before .before .before .before .before .before .before .before .pre .1 .1 .1 .1 .1, mod-lt (c .before .before .before .before .before .before .before .before .before .args .items) (q .some), q .long, c .before .before .before .before .before .before .before .before .before .good .1 .1 .1 .1 .1 .1 .0 .1)
 
-trial-add-memo : (t : ℕ) → trial-lts.Need-add-memo (
-  lowest-reads.Asked,
-  lowest-reads.Learnt,
-  wide-reads.Asked,
-  wide-reads.Learnt,
-  inside-reads.Asked,
-  inside-reads.Learnt,
-  without-reads.Asked,
-  without-reads.Learnt,
-  search-below t,
-  search′.Post,
-  unique-reads.Asked,
-  unique-reads.Learnt,
-) (trial-at t) trial.Post trial-Inv-loop trial-μ-loop
+trial-add-memo : (t : ℕ) → trial-lts.Need-add-memo (trial-claims t) (trial-at t) trial.Post trial-Inv-loop trial-μ-loop
 trial-add-memo t c =
     let q = c .before .before .before .before .before .before .before .before .before .pre .1 .1 .0 .held in
     omega (arith, c .before .before .before .before .before .before .before .before .before .pre .1 .1 .1 .1 .1, mod-lt (c .before .before .before .before .before .before .before .before .before .args .items) (q .some), q .long, c .before .before .before .before .before .before .before .before .before .good .1 .1 .1 .1 .1 .1 .0 .1)
 
-trial-mul-memo-4 : (t : ℕ) → trial-lts.Need-mul-memo-4 (
-  lowest-reads.Asked,
-  lowest-reads.Learnt,
-  wide-reads.Asked,
-  wide-reads.Learnt,
-  inside-reads.Asked,
-  inside-reads.Learnt,
-  without-reads.Asked,
-  without-reads.Learnt,
-  search-below t,
-  search′.Post,
-  unique-reads.Asked,
-  unique-reads.Learnt,
-) (trial-at t) trial.Post trial-Inv-loop trial-μ-loop
+trial-mul-memo-4 : (t : ℕ) → trial-lts.Need-mul-memo-4 (trial-claims t) (trial-at t) trial.Post trial-Inv-loop trial-μ-loop
 trial-mul-memo-4 t c =
     let q = c .before .before .before .before .before .before .before .before .before .pre .1 .1 .0 .held in
     omega (arith, c .before .before .before .before .before .before .before .before .before .pre .1 .1 .1 .1 .1, mod-lt (c .before .before .before .before .before .before .before .before .before .args .items) (q .some), q .long, c .before .before .before .before .before .before .before .before .before .good .1 .1 .1 .1 .1 .1 .0 .1)
 
-trial-slice-write-memo-2 : (t : ℕ) → trial-lts.Need-slice-write-memo-2 (
-  lowest-reads.Asked,
-  lowest-reads.Learnt,
-  wide-reads.Asked,
-  wide-reads.Learnt,
-  inside-reads.Asked,
-  inside-reads.Learnt,
-  without-reads.Asked,
-  without-reads.Learnt,
-  search-below t,
-  search′.Post,
-  unique-reads.Asked,
-  unique-reads.Learnt,
-) (trial-at t) trial.Post trial-Inv-loop trial-μ-loop
+trial-slice-write-memo-2 : (t : ℕ) → trial-lts.Need-slice-write-memo-2 (trial-claims t) (trial-at t) trial.Post trial-Inv-loop trial-μ-loop
 trial-slice-write-memo-2 t c =
     let h = c .before .before .loop .inv .0 .held in
-    omega (arith, h .long, c .before .before .before .before .before .before .before .before .before .pre .1 .1 .1 .1 .1, mod-lt (c .before .before .before .before .before .before .before .before .before .args .items) (h .some), length-set (c .before .before .loop .memo) (2 * c .before .before .before .before .before .before .before .before .before .args .at) (c .before .before .before .before .before .before .before .before .before .args .items))
+    simp length-set (omega (arith, h .long, c .before .before .before .before .before .before .before .before .before .pre .1 .1 .1 .1 .1, mod-lt (c .before .before .before .before .before .before .before .before .before .args .items) (h .some)))
 
-trial-same-length-3 : (t : ℕ) → trial-lts.Need-same-length-3 (
-  lowest-reads.Asked,
-  lowest-reads.Learnt,
-  wide-reads.Asked,
-  wide-reads.Learnt,
-  inside-reads.Asked,
-  inside-reads.Learnt,
-  without-reads.Asked,
-  without-reads.Learnt,
-  search-below t,
-  search′.Post,
-  unique-reads.Asked,
-  unique-reads.Learnt,
-) (trial-at t) trial.Post trial-Inv-loop trial-μ-loop
+trial-same-length-3 : (t : ℕ) → trial-lts.Need-same-length-3 (trial-claims t) (trial-at t) trial.Post trial-Inv-loop trial-μ-loop
 trial-same-length-3 t c = c .before .before .loop .inv .0 .grown .long
 
-trial-same-length-4 : (t : ℕ) → trial-lts.Need-same-length-4 (
-  lowest-reads.Asked,
-  lowest-reads.Learnt,
-  wide-reads.Asked,
-  wide-reads.Learnt,
-  inside-reads.Asked,
-  inside-reads.Learnt,
-  without-reads.Asked,
-  without-reads.Learnt,
-  search-below t,
-  search′.Post,
-  unique-reads.Asked,
-  unique-reads.Learnt,
-) (trial-at t) trial.Post trial-Inv-loop trial-μ-loop
-trial-same-length-4 t c = length-set (set (c .before .before .loop .memo) (2 * c .before .before .before .before .before .before .before .before .before .args .at) (c .before .before .before .before .before .before .before .before .before .args .items)) (2 * c .before .before .before .before .before .before .before .before .before .args .at + 1) (c .before .before .loop .run .answer) ∙ length-set (c .before .before .loop .memo) (2 * c .before .before .before .before .before .before .before .before .before .args .at) (c .before .before .before .before .before .before .before .before .before .args .items) ∙ c .before .before .loop .inv .0 .same
+trial-same-length-4 : (t : ℕ) → trial-lts.Need-same-length-4 (trial-claims t) (trial-at t) trial.Post trial-Inv-loop trial-μ-loop
+trial-same-length-4 t c = simp length-set (c .before .before .loop .inv .0 .same)
 
-trial-returns-2 : (t : ℕ) → trial-lts.Need-returns-2 (
-  lowest-reads.Asked,
-  lowest-reads.Learnt,
-  wide-reads.Asked,
-  wide-reads.Learnt,
-  inside-reads.Asked,
-  inside-reads.Learnt,
-  without-reads.Asked,
-  without-reads.Learnt,
-  search-below t,
-  search′.Post,
-  unique-reads.Asked,
-  unique-reads.Learnt,
-) (trial-at t) trial.Post trial-Inv-loop trial-μ-loop
+trial-returns-2 : (t : ℕ) → trial-lts.Need-returns-2 (trial-claims t) (trial-at t) trial.Post trial-Inv-loop trial-μ-loop
 trial-returns-2 t c =
     let q = c .before .before .before .before .before .before .before .before .before .pre .1 in
     turn-done (q .0) (c .before .before .before .before .before .before .before .before .before .args .items) (c .before .before .before .before .before .before .before .before .before .fits .items .fits) (q .1 .1 .1 .0) (c .before .before .loop .p) (c .before .before .before .before .before .before .before .before .before .args .at) (c .before .before .loop .inv .1 .1) (omega (arith, c .before .loop-test .left)) (q .1 .1 .1 .1) (c .before .before .loop .inv .0)
@@ -899,7 +330,7 @@ pub +search+trial-spec : {M : Type 1} → statement M
     (search-at t)
     search′.Post
     (search-returns t)
-    (search-add-t16 t)
+    (search-add-entered t)
     (search-returns-2 t)
     (search-place-requires t)
     (search-mul-if3 t)
@@ -910,9 +341,7 @@ pub +search+trial-spec : {M : Type 1} → statement M
     (search-mul-t23 t)
     (search-slice-read-t25 t)
     (search-cast-t26 t)
-    (search-add-t27 t)
     (search-returns-3 t)
-    (search-add-t20 t)
     (search-trial-requires t)
     (search-same-length t)
     (search-same-length-2 t)
