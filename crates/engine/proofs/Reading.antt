@@ -1,5 +1,5 @@
 -- The calls that read an answer: what `query`'s functions ask, and what their answers make of the calls' refusals. Assumes nothing.
-use mathlib.Core.Path.{_≡_, refl, sym, ap, ap₂, _∙_}
+use mathlib.Core.Path.{_≡_, sym, ap, ap₂, _∙_}
 use mathlib.Core.Bool.{Bool, true, false, not, _||_}
 use mathlib.Core.List.{List, [], _∷_}
 use Prim.Native.Nat.{ℕ, _+_, _*_, _≤_, _<_}
@@ -30,8 +30,8 @@ use Rattle.statement.specs.declared.Placed.{Placed}
 use Rattle.statement.specs.declared.Placed.the-variants.{Refused as PlaceRefused}
 use Rattle.statement.specs.declared.Priced.{Priced}
 use Rattle.statement.specs.declared.Priced.the-variants.{Refused as PriceRefused}
-use Rattle.statement.specs.Replies.{Reply, refused, gives, reply, countReply, pickReply, placeReply, cheapestReply}
-use Rattle.statement.specs.Refusals.{firstOf, oversize, stray, unpriced, unsound, unknownAnswer, notTimetable, shortWork, uncountable, pastEnd, absent, shortPage, countRefusal, pickRefusal, placeRefusal, cheapestRefusal}
+use Rattle.statement.specs.Replies.{gives, reply, countReply, pickReply, placeReply, cheapestReply}
+use Rattle.statement.specs.Refusals.{firstOf, oversize, stray, unpriced, unsound, unknownAnswer, notTimetable, uncountable, pastEnd, absent, shortPage, countRefusal, pickRefusal, placeRefusal, cheapestRefusal}
 use Rattle.statement.specs.Postconditions.{CountPost, PickPost, PlacePost, CheapestPost}
 use Rattle.statement.proofs.FirstOf.{pass, hit, none, passed, front, unsaid, said, above}
 use Rattle.statement.proofs.TestLaws.{reply-refused, reply-gives, page-left, page-written, all-priced, not-priced, answer-known, answer-unknown, enough, too-few, countable, too-many, not-past, something, is-nothing, page-fits, page-short}
