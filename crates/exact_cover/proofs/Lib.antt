@@ -11,5 +11,4 @@ pub mod Walks
 pub mod Loops
 pub mod Partial
 pub mod Trial
-mod Uses
 mod Examples
