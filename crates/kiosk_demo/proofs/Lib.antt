@@ -1,0 +1,2 @@
+-- Laws of a local list that is lent.
+pub mod Listing

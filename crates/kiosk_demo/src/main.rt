@@ -1,0 +1,162 @@
+// The kiosk's two calls on lists of triples, good and damaged: Figure 1 of document 000, whose answer is number 5 and holds two timetables.
+ghost use lib.ListN.{length};
+ghost use Rattle.statement.specs.Kiosk.{KioskCheckPost, KioskCountPost};
+ghost use Rattle.kiosk.specs.Triples.{nodesIn};
+use kiosk::Node;
+use statement::Counted;
+use statement::Soundness;
+
+fn node(label: u32, lo: u32, hi: u32) -> Node {
+    Node {
+        label: label,
+        lo: lo,
+        hi: hi,
+    }
+}
+
+// A list of six triples is lent to the soundness check.
+fn check_list(m: u32, packages: &[u64], n: u32, list: [Node; 6]) -> Soundness
+    ensures { λ r. ⌜ KioskCheckPost (now (packages .entry)) m n (nodesIn list) r ⌝ }
+{
+    kiosk::check(m, packages, n, &list)
+}
+
+// And to count.
+fn count_list(
+    m: u32,
+    packages: &[u64],
+    n: u32,
+    list: [Node; 6],
+    answer: u32,
+    work: &mut [u64],
+) -> Counted
+    ensures { λ r. ⌜ KioskCountPost (now (packages .entry)) m n (nodesIn list) answer (length (now (work .entry))) r ⌝ }
+{
+    kiosk::count(m, packages, n, &list, answer, work)
+}
+
+fn narrow(n: u8) -> u64 {
+    n as u64
+}
+
+fn say_refused(n: u8) {
+    io::write_all(1, b"refused ");
+    io::print_decimal(1, narrow(n));
+    io::write_all(1, b"\n");
+}
+
+fn say_soundness(s: Soundness) {
+    match s {
+        Soundness::Sound => {
+            io::write_all(1, b"sound\n");
+        }
+        Soundness::Refused(n) => {
+            say_refused(n);
+        }
+    }
+}
+
+fn say_counted(c: Counted) {
+    match c {
+        Counted::Count(n) => {
+            io::print_decimal(1, n);
+            io::write_all(1, b"\n");
+        }
+        Counted::Refused(n) => {
+            say_refused(n);
+        }
+    }
+}
+
+// The packages of Figure 1.
+fn figure1() -> [u64; 5] {
+    [0b010111, 0b000011, 0b101000, 0b101100, 0b010100]
+}
+
+// The two calls on a list, with m items and n nodes.
+fn say(name: &[u8], m: u32, n: u32, list: [Node; 6], answer: u32) {
+    let packages = figure1();
+    let mut work = [0u64; 6];
+    io::write_all(1, name);
+    io::write_all(1, b": check ");
+    let s = check_list(m, &packages, n, list);
+    say_soundness(s);
+    io::write_all(1, name);
+    io::write_all(1, b": count ");
+    let c = count_list(m, &packages, n, list, answer, &mut work);
+    say_counted(c);
+}
+
+// Number 2 holds {2} and number 3 {4, 2}: the first two triples of every list but one.
+fn list(third: Node, fourth: Node, fifth: Node, sixth: Node) -> [Node; 6] {
+    [node(2, 0, 1), node(4, 0, 2), third, fourth, fifth, sixth]
+}
+
+// Number 4 holds {1, 4, 2}, and number 5 that and {0, 2}.
+fn figure(fifth: Node, sixth: Node) -> [Node; 6] {
+    list(node(1, 0, 3), node(0, 4, 2), fifth, sixth)
+}
+
+fn good() {
+    let zero = node(0, 0, 0);
+    let four = figure(zero, zero);
+    say(b"answer 5", 6, 4, four, 5);
+    say(b"answer 4", 6, 4, four, 4);
+    say(b"answer 1", 6, 4, four, 1);
+    say(b"answer 0", 6, 4, four, 0);
+    say(b"answer 6", 6, 4, four, 6);
+    let six = figure(node(1, 0, 2), node(0, 0, 1));
+    say(b"six nodes", 6, 6, six, 5);
+    say(b"short work", 6, 6, six, 6);
+    say(b"no node", 6, 0, [zero, zero, zero, zero, zero, zero], 1);
+}
+
+// The number of nodes is not the list's.
+fn misnumbered() {
+    let zero = node(0, 0, 0);
+    let four = figure(zero, zero);
+    say(b"triple past the number", 6, 3, four, 4);
+    say(
+        b"label past the number",
+        6,
+        4,
+        figure(zero, node(1, 0, 0)),
+        5,
+    );
+    say(b"lo past the number", 6, 4, figure(zero, node(0, 1, 0)), 5);
+    say(b"hi past the number", 6, 4, figure(zero, node(0, 0, 1)), 5);
+    say(b"number of zeros", 6, 5, four, 5);
+    say(b"number above the length", 6, 7, four, 5);
+    say(b"number above 65534", 6, 65535, four, 5);
+    say(b"greatest number", 6, 4294967295, four, 5);
+}
+
+fn damaged() {
+    let zero = node(0, 0, 0);
+    let third = node(1, 0, 3);
+    let fourth = node(0, 4, 2);
+    let four = figure(zero, zero);
+    say(
+        b"lo and hi exchanged",
+        6,
+        4,
+        list(node(1, 3, 0), fourth, zero, zero),
+        5,
+    );
+    say(b"triple twice", 6, 5, list(third, fourth, third, zero), 5);
+    say(
+        b"unknown label",
+        6,
+        4,
+        list(third, node(5, 4, 2), zero, zero),
+        5,
+    );
+    say(b"stray", 5, 4, four, 5);
+    say(b"oversize", 65, 4, four, 5);
+}
+
+fn main() {
+    good();
+    misnumbered();
+    damaged();
+}
