@@ -1,0 +1,2 @@
+-- What the entries of the C interface cite.
+pub mod Structs

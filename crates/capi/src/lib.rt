@@ -1,0 +1,357 @@
+// The public calls for C, as exported functions on numbers, slices and structs by value: include/mogedorn.h describes them. Each has the contract of the
+// engine's call, of the answer that its struct stands for (specs/Structs), and none has a `requires`, since nothing checks a C caller.
+ghost use lib.ListN.{length};
+ghost use Rattle.statement.specs.Replies.{soundnessReply, countReply, pickReply, placeReply, cheapestReply};
+ghost use Rattle.statement.specs.Postconditions.{CheckPost, CountPost, PickPost, PlacePost, CheapestPost, CoverPost, EitherPost, BothPost, OnlyPost, WithPost, WithoutPost};
+ghost use Rattle.bids.specs.Contract.{readReply, ReadPost};
+ghost use Rattle.capi.specs.Structs.{soundnessOf, engineReport, reportOf, countedOf, pickedOf, placedOf, pricedOf, readingOf, BlankReport, BlankNumber, BlankPick, BlankTimetable, BlankBids, Says, Shows};
+use bids::Reading;
+use statement::Counted;
+use statement::Outcome;
+use statement::Picked;
+use statement::Placed;
+use statement::Priced;
+use statement::Soundness;
+
+// What the calls that make an answer return. In each struct a refusal of 0 means that the call answered.
+#[repr(C)]
+pub struct Report {
+    pub refusal: u32,
+    pub answer: u32,
+    pub steps: u32,
+    pub made: u32,
+}
+
+// What count and place return.
+#[repr(C)]
+pub struct Number {
+    pub refusal: u32,
+    pub value: u64,
+}
+
+// What pick and cheapest return: how many packages they wrote, and from cheapest their cost.
+#[repr(C)]
+pub struct Timetable {
+    pub refusal: u32,
+    pub cost: u32,
+    pub packages: u64,
+}
+
+// What the reader of bids files returns: S, T and N.
+#[repr(C)]
+pub struct Bids {
+    pub refusal: u32,
+    pub schools: u32,
+    pub slots: u32,
+    pub packages: u64,
+}
+
+// The border: no enum crosses it.
+
+fn outcome(o: Outcome, steps: u32, made: u32) -> Report
+    ensures { λ r. ⌜ Shows (engineReport o steps made) r ⌝ }
+{
+    match o {
+        Outcome::Answer(a) => Report {
+            refusal: 0,
+            answer: a,
+            steps,
+            made,
+        },
+        Outcome::Refused(n) => Report {
+            refusal: n as u32,
+            answer: 0,
+            steps,
+            made,
+        },
+    }
+}
+
+fn shown(r: statement::Report) -> Report
+    ensures { λ s. ⌜ Shows r s ⌝ }
+{
+    let o = r.outcome;
+    outcome(o, r.steps, r.made)
+}
+
+fn soundness(s: Soundness) -> u32
+    ensures { λ r. ⌜ Says (soundnessReply s) (soundnessReply (soundnessOf r)) ⌝ }
+{
+    match s {
+        Soundness::Sound => 0,
+        Soundness::Refused(n) => n as u32,
+    }
+}
+
+fn counted(c: Counted) -> Number
+    ensures { λ r. ⌜ Says (countReply c) (countReply (countedOf r)) ⌝ }
+    ensures { λ r. ⌜ BlankNumber r ⌝ }
+{
+    match c {
+        Counted::Count(n) => Number {
+            refusal: 0,
+            value: n,
+        },
+        Counted::Refused(n) => Number {
+            refusal: n as u32,
+            value: 0,
+        },
+    }
+}
+
+fn picked(p: Picked) -> Timetable
+    ensures { λ r. ⌜ Says (pickReply p) (pickReply (pickedOf r)) ⌝ }
+    ensures { λ r. ⌜ BlankPick r ⌝ }
+{
+    match p {
+        Picked::Packages(n) => Timetable {
+            refusal: 0,
+            cost: 0,
+            packages: n as u64,
+        },
+        Picked::Refused(n) => Timetable {
+            refusal: n as u32,
+            cost: 0,
+            packages: 0,
+        },
+    }
+}
+
+fn placed(p: Placed) -> Number
+    ensures { λ r. ⌜ Says (placeReply p) (placeReply (placedOf r)) ⌝ }
+    ensures { λ r. ⌜ BlankNumber r ⌝ }
+{
+    match p {
+        Placed::Place(k) => Number {
+            refusal: 0,
+            value: k,
+        },
+        Placed::Refused(n) => Number {
+            refusal: n as u32,
+            value: 0,
+        },
+    }
+}
+
+fn priced(p: Priced) -> Timetable
+    ensures { λ r. ⌜ Says (cheapestReply p) (cheapestReply (pricedOf r)) ⌝ }
+    ensures { λ r. ⌜ BlankTimetable r ⌝ }
+{
+    match p {
+        Priced::Cheapest { packages, cost } => Timetable {
+            refusal: 0,
+            cost,
+            packages: packages as u64,
+        },
+        Priced::Refused(n) => Timetable {
+            refusal: n as u32,
+            cost: 0,
+            packages: 0,
+        },
+    }
+}
+
+fn reading(b: Reading) -> Bids
+    ensures { λ r. ⌜ Says (readReply b) (readReply (readingOf r)) ⌝ }
+    ensures { λ r. ⌜ BlankBids r ⌝ }
+{
+    match b {
+        Reading::Accepted {
+            schools,
+            slots,
+            packages,
+        } => Bids {
+            refusal: 0,
+            schools,
+            slots,
+            packages: packages as u64,
+        },
+        Reading::Refused(n) => Bids {
+            refusal: n as u32,
+            schools: 0,
+            slots: 0,
+            packages: 0,
+        },
+    }
+}
+
+// The entries.
+
+#[no_mangle]
+pub extern "C" fn mogedorn_check(m: u32, packages: &[u64], t: &[u32]) -> u32
+    ensures { λ r. ⌜ CheckPost (now (packages .entry)) m (now (t .entry)) (soundnessOf r) ⌝ }
+{
+    let s = engine::check(m, packages, t);
+    soundness(s)
+}
+
+#[no_mangle]
+pub extern "C" fn mogedorn_count(
+    m: u32,
+    packages: &[u64],
+    t: &[u32],
+    answer: u32,
+    work: &mut [u64],
+) -> Number
+    ensures { λ r. ⌜ CountPost (now (packages .entry)) m (now (t .entry)) answer (length (now (work .entry))) (countedOf r) ⌝ }
+    ensures { λ r. ⌜ BlankNumber r ⌝ }
+{
+    let c = engine::count(m, packages, t, answer, work);
+    counted(c)
+}
+
+#[no_mangle]
+pub extern "C" fn mogedorn_pick(
+    m: u32,
+    packages: &[u64],
+    t: &[u32],
+    answer: u32,
+    k: u64,
+    work: &mut [u64],
+    page: &mut [u16],
+) -> Timetable
+    ensures { λ r. ⌜ PickPost (now (packages .entry)) m (now (t .entry)) answer k (length (now (work .entry))) (now (page .entry)) (pickedOf r) (now (page .exit)) ⌝ }
+    ensures { λ r. ⌜ BlankPick r ⌝ }
+{
+    let p = engine::pick(m, packages, t, answer, k, work, page);
+    picked(p)
+}
+
+#[no_mangle]
+pub extern "C" fn mogedorn_place(
+    m: u32,
+    packages: &[u64],
+    t: &[u32],
+    answer: u32,
+    list: &[u16],
+    work: &mut [u64],
+) -> Number
+    ensures { λ r. ⌜ PlacePost (now (packages .entry)) m (now (t .entry)) answer (now (list .entry)) (length (now (work .entry))) (placedOf r) ⌝ }
+    ensures { λ r. ⌜ BlankNumber r ⌝ }
+{
+    let p = engine::place(m, packages, t, answer, list, work);
+    placed(p)
+}
+
+#[no_mangle]
+pub extern "C" fn mogedorn_cheapest(
+    m: u32,
+    packages: &[u64],
+    costs: &[u16],
+    t: &[u32],
+    answer: u32,
+    work: &mut [u64],
+    page: &mut [u16],
+) -> Timetable
+    ensures { λ r. ⌜ CheapestPost (now (packages .entry)) m (now (costs .entry)) (now (t .entry)) answer (length (now (work .entry))) (now (page .entry)) (pricedOf r) (now (page .exit)) ⌝ }
+    ensures { λ r. ⌜ BlankTimetable r ⌝ }
+{
+    let p = engine::cheapest(m, packages, costs, t, answer, work, page);
+    priced(p)
+}
+
+#[no_mangle]
+pub extern "C" fn mogedorn_cover(
+    m: u32,
+    packages: &[u64],
+    t: &mut [u32],
+    d: u64,
+    limit: u32,
+    work: &mut [u64],
+) -> Report
+    ensures { λ r. ⌜ CoverPost (now (packages .entry)) m (now (t .entry)) d limit (length (now (work .entry))) (reportOf r) (now (t .exit)) ⌝ }
+    ensures { λ r. ⌜ BlankReport r ⌝ }
+{
+    let r = engine::cover(m, packages, t, d, limit, work);
+    shown(r)
+}
+
+#[no_mangle]
+pub extern "C" fn mogedorn_either(
+    m: u32,
+    packages: &[u64],
+    t: &mut [u32],
+    a: u32,
+    b: u32,
+    work: &mut [u64],
+) -> Report
+    ensures { λ r. ⌜ EitherPost (now (packages .entry)) m (now (t .entry)) a b (length (now (work .entry))) (reportOf r) (now (t .exit)) ⌝ }
+    ensures { λ r. ⌜ BlankReport r ⌝ }
+{
+    let r = engine::either(m, packages, t, a, b, work);
+    shown(r)
+}
+
+#[no_mangle]
+pub extern "C" fn mogedorn_both(
+    m: u32,
+    packages: &[u64],
+    t: &mut [u32],
+    a: u32,
+    b: u32,
+    work: &mut [u64],
+) -> Report
+    ensures { λ r. ⌜ BothPost (now (packages .entry)) m (now (t .entry)) a b (length (now (work .entry))) (reportOf r) (now (t .exit)) ⌝ }
+    ensures { λ r. ⌜ BlankReport r ⌝ }
+{
+    let r = engine::both(m, packages, t, a, b, work);
+    shown(r)
+}
+
+#[no_mangle]
+pub extern "C" fn mogedorn_only(
+    m: u32,
+    packages: &[u64],
+    t: &mut [u32],
+    a: u32,
+    b: u32,
+    work: &mut [u64],
+) -> Report
+    ensures { λ r. ⌜ OnlyPost (now (packages .entry)) m (now (t .entry)) a b (length (now (work .entry))) (reportOf r) (now (t .exit)) ⌝ }
+    ensures { λ r. ⌜ BlankReport r ⌝ }
+{
+    let r = engine::only(m, packages, t, a, b, work);
+    shown(r)
+}
+
+#[no_mangle]
+pub extern "C" fn mogedorn_with(
+    m: u32,
+    packages: &[u64],
+    t: &mut [u32],
+    a: u32,
+    p: u32,
+    work: &mut [u64],
+) -> Report
+    ensures { λ r. ⌜ WithPost (now (packages .entry)) m (now (t .entry)) a p (length (now (work .entry))) (reportOf r) (now (t .exit)) ⌝ }
+    ensures { λ r. ⌜ BlankReport r ⌝ }
+{
+    let r = engine::with(m, packages, t, a, p, work);
+    shown(r)
+}
+
+#[no_mangle]
+pub extern "C" fn mogedorn_without(
+    m: u32,
+    packages: &[u64],
+    t: &mut [u32],
+    a: u32,
+    p: u32,
+    work: &mut [u64],
+) -> Report
+    ensures { λ r. ⌜ WithoutPost (now (packages .entry)) m (now (t .entry)) a p (length (now (work .entry))) (reportOf r) (now (t .exit)) ⌝ }
+    ensures { λ r. ⌜ BlankReport r ⌝ }
+{
+    let r = engine::without(m, packages, t, a, p, work);
+    shown(r)
+}
+
+// Reads a bids file: the packages' item sets and costs to the start of the buffers.
+#[no_mangle]
+pub extern "C" fn mogedorn_read_bids(file: &[u8], packages: &mut [u64], costs: &mut [u16]) -> Bids
+    ensures { λ r. ⌜ ReadPost (now (file .entry)) (readingOf r) (now (packages .entry)) (now (packages .exit)) (now (costs .entry)) (now (costs .exit)) ⌝ }
+    ensures { λ r. ⌜ BlankBids r ⌝ }
+{
+    let b = bids::read(file, packages, costs);
+    reading(b)
+}
