@@ -10,6 +10,7 @@ use lib.Dec.{ltb}
 use lib.ListN.{length, getD, set, length-set, replicate, length-replicate}
 use lib.Seq.{getD-set-same, getD-set-other}
 use borrow.Author.Tests.{lt-ltb, le-ltb}
+use Rattle.base.specs.Words.{Cleared}
 use Rattle.itemset.specs.Items.{lowest}
 use Rattle.base.proofs.Bools.{never}
 use Rattle.zdd.specs.Table.{count, capacity, nodesOf, family, Sound}
@@ -21,7 +22,7 @@ use Rattle.exact_cover.specs.Steps.{Walk, search, steps}
 use Rattle.buckets.specs.Chain.{Index}
 use Rattle.table.specs.State.{Grown, Indexed, Rolled}
 use Rattle.buckets.proofs.ChainLaws as chain
-use Rattle.compile.specs.State.{lowOf, Packs, Held, Ready, Is, Done, Blank, Cleared, Answered, Covered}
+use Rattle.compile.specs.State.{lowOf, Packs, Held, Ready, Is, Done, Blank, Answered, Covered}
 
 -- ---- the package index
 
@@ -73,26 +74,6 @@ pub blank : (m n : ℕ) → m ≡ 65 → n ≡ 513 → Blank (replicate m 0) (re
 blank m n d e = record { first-long = length-replicate m 0 ∙ d; after-long = length-replicate n 0 ∙ e; zero = zeros m }
 
 -- ---- the memo
-
-pub record Wiped (memo : List ℕ) (j : ℕ) (memo′ : List ℕ) : Type 0 where
-  pub same : length memo′ ≡ length memo
-  pub zero : (i : ℕ) → i < j → getD memo′ i 0 ≡ 0
-
-pub wiped-start : (memo : List ℕ) → Wiped memo 0 memo
-wiped-start memo = record { same = refl; zero = λ i h. absurd (omega arith) }
-
-pub wiped-more : {memo memo′ : List ℕ} (j : ℕ) → j < length memo′ → Wiped memo j memo′ → Wiped memo (j + 1) (set memo′ j 0)
-wiped-more {memo} {memo′} j lt w = record {
-  same = length-set memo′ j 0 ∙ w .same;
-  zero = λ i h. at i h (ℕ-discrete i j);
-}
-  where
-    at : (i : ℕ) → i < j + 1 → Dec (i ≡ j) → getD (set memo′ j 0) i 0 ≡ 0
-    at i h (yes e) = ap (λ (k : ℕ). getD (set memo′ j 0) k 0) e ∙ getD-set-same memo′ j 0 0 lt
-    at i h (no f) = getD-set-other memo′ j i 0 0 f ∙ w .zero i (omega arith)
-
-pub wiped-all : {memo memo′ : List ℕ} (j : ℕ) → length memo′ ≤ j → Wiped memo j memo′ → Cleared memo memo′
-wiped-all {memo} {memo′} j le w = record { same = w .same; zero = λ i h. w .zero i (omega (arith, w .same)) }
 
 module _ {memo memo′ : List ℕ} {P : ℕ} (c : Cleared memo memo′) (e : P ≡ length memo / 2) where
   pub cleared-held : (S t : List ℕ) (b : Bool) → 2 ≤ length memo → Held S P t memo′ b

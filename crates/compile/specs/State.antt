@@ -80,10 +80,6 @@ pub record Blank (first after : List ℕ) : Type 0 where
   pub after-long : length after ≡ 513
   pub zero : (h : ℕ) → getD first h 0 ≡ 0
 
-pub record Cleared (memo memo′ : List ℕ) : Type 0 where
-  pub same : length memo′ ≡ length memo
-  pub zero : (j : ℕ) → j < length memo → getD memo′ j 0 ≡ 0
-
 -- the answer a, after n steps and with m nodes made
 pub record Answered (S : List ℕ) (P A : ℕ) (t t′ heads′ next′ : List ℕ) (a n m : ℕ) : Type 0 where
   pub grown : Grown (keysOf S) t t′

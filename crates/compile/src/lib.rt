@@ -10,7 +10,7 @@ ghost use mathlib.Core.Path.{_≡_};
 ghost use mathlib.Core.Bool.{true, false};
 ghost use Prim.Native.Nat.{ℕ, suc, _+_, _-_, _*_, _/_, _%_, _<_, _≤_};
 ghost use lib.ListN.{length, getD, set};
-ghost use Rattle.compile.specs.State.{Packs, Ready, Searched, Tried, Blank, Cleared, Unkeyed, Covered};
+ghost use Rattle.compile.specs.State.{Packs, Ready, Searched, Tried, Blank, Unkeyed, Covered};
 ghost use Rattle.zdd.specs.Table.{Sound};
 ghost use Rattle.exact_cover.specs.Cover.{Rows, keysOf};
 ghost use Rattle.table.specs.State.{Indexed};
@@ -244,17 +244,6 @@ fn begin(
     )
 }
 
-// Every word of the memo becomes 0: old contents are never believed.
-fn clear(memo: &mut [u64])
-    ensures { λ _. ⌜ Cleared (now (memo .entry)) (now (memo .exit)) ⌝ }
-{
-    let mut j: usize = 0;
-    while j < memo.len() {
-        memo[j] = 0;
-        j += 1;
-    }
-}
-
 // What cover answers: over where the steps exceed the limit, else full where the nodes outnumber the free places; else the answer, the steps and the
 // nodes made.
 pub struct Answer {
@@ -285,7 +274,7 @@ pub fn cover(
     let mut first = [0u32; 65];
     let mut after = [0u32; 513];
     enlist(packs, &mut first, &mut after);
-    clear(memo);
+    base::clear(memo);
     let n = t[0];
     let r = begin(
         packs,

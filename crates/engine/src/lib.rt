@@ -311,7 +311,7 @@ fn pair(m: u32, packages: &[u64], t: &mut [u32], a: u32, b: u32, work: &mut [u64
         return statement::declined(8);
     }
     let last = packages.len();
-    let k = family::combination(t, &keys[..last], &mut heads, &mut next, op, a, b);
+    let k = family::combination(t, &keys[..last], &mut heads, &mut next, work, op, a, b);
     report(t, n, k)
 }
 

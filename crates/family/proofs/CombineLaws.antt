@@ -1,25 +1,25 @@
 -- Union, intersection and difference: the end cases, the parts of two numbers, the recursion, and what is remembered. Assumes nothing.
 use mathlib.Core.Path.{_≡_, refl, sym, ap, ap₂, subst, subst⁻¹, _∙_}
 use mathlib.Core.Logic.{_⊎_, inl, inr}
-use mathlib.Core.Bool.{Bool, true, false}
-use mathlib.Core.List.{List, [], _∷_, _++_}
+use mathlib.Core.Bool.{Bool, true, false, _&&_, _||_}
+use mathlib.Core.List.{List, []}
 use Prim.Native.Nat.{ℕ, zero, suc, _+_, _-_, _*_, _/_, _%_, _<_, _≤_}
 use native.Mathlib.Nat.{eq-or-lt-of-le}
 use native.Mathlib.Omega.{arith}
 use native.Mathlib.Decide.{decLt, ℕ-discrete}
 use lib.ListN.{length, getD, set, length-set}
 use lib.Seq.{getD-set-same, getD-set-other}
-use Rattle.zdd.specs.Table.{Node, node, blank, Family, join, count, capacity, nodesOf, family, key, Over, Fine, Nodes, Sound, Keys}
+use Rattle.zdd.specs.Table.{Node, blank, Family, elem, sets, count, nodesOf, family, key, Fine, Sound, Keys}
 use Rattle.zdd.proofs.Grow.{family-zero}
 use Rattle.zdd.proofs.Words.{length-nodes, at-word}
 use Rattle.zdd.proofs.TableLaws.{over-of-key}
-use Rattle.zdd.proofs.Listing.{Listed, family-listed}
+use Rattle.zdd.proofs.Listing.{Listed, family-listed, filter-same}
 use Rattle.zdd.specs.Work.{Split}
-use Rattle.zdd.specs.Operations.{combine, minus}
+use Rattle.zdd.specs.Operations.{combine}
 use Rattle.zdd.proofs.Operations.{union-nil, nil-union, union-self, inter-nil, nil-inter, inter-self, differ-nil, nil-differ, differ-self}
 use Rattle.zdd.proofs.Parts.{split-same, split-left, split-right}
-use Rattle.family.specs.Gives.{Ready, Gives, Child, Noded, Answers}
-use Rattle.family.specs.Memo.{opOf, combined, Stored, Two, Pair, Ended, Ends, Top, Cut}
+use Rattle.family.specs.Gives.{Ready, Gives, Noded, Answers}
+use Rattle.family.specs.Memo.{opOf, combined, Packed, Stored, Two, Pair, Ended, Ends, Top, Cut}
 use Rattle.family.proofs.GivesLaws.{gives-there, gives-answers, gives-keeps, gives-more, gives-eq, step-none-hi, step-none-lo, step-child, step-node}
 use Rattle.family.proofs.RestrictLaws.{word-node, word-label, word-fine}
 
@@ -27,6 +27,61 @@ pub off : (op : ℕ) → opOf op false false ≡ false
 off zero = refl
 off (suc zero) = refl
 off (suc (suc n)) = refl
+
+-- ---- the order of the two
+
+or-turns : (a b : Bool) → (a || b) ≡ (b || a)
+or-turns true true = refl
+or-turns true false = refl
+or-turns false true = refl
+or-turns false false = refl
+
+and-turns : (a b : Bool) → (a && b) ≡ (b && a)
+and-turns true true = refl
+and-turns true false = refl
+and-turns false true = refl
+and-turns false false = refl
+
+op-turns : (op : ℕ) → op < 2 → (a b : Bool) → opOf op a b ≡ opOf op b a
+op-turns zero h = or-turns
+op-turns (suc zero) h = and-turns
+op-turns (suc (suc n)) h = absurd (omega arith)
+
+turned : (op : ℕ) → op < 2 → (K : List ℕ) (F G : Family) → combined op K F G ≡ combined op K G F
+unfolding combine
+turned op h K F G =
+    filter-same (λ t. opOf op (elem t F) (elem t G)) (λ t. opOf op (elem t G) (elem t F)) (sets K) (λ t m. op-turns op h (elem t F) (elem t G))
+
+pub packed-straight : (op f g : ℕ) {k : ℕ} → k ≡ f * 65536 + g → Packed op f g k
+packed-straight op f g e = record { first = f; second = g; is = e; order = inl (refl, refl) }
+
+pub packed-turned : (op f g : ℕ) {k : ℕ} → op < 2 → k ≡ g * 65536 + f → Packed op f g k
+packed-turned op f g h e = record { first = g; second = f; is = e; order = inr (h, (refl, refl)) }
+
+module _ {op f g k : ℕ} (p : Packed op f g k) where
+  pub packed-same : (φ : ℕ → Family) (K : List ℕ) → combined op K (φ (p .first)) (φ (p .second)) ≡ combined op K (φ f) (φ g)
+  packed-same φ K = go (p .order)
+    where
+      go : ((p .first ≡ f) × (p .second ≡ g)) ⊎ ((op < 2) × ((p .first ≡ g) × (p .second ≡ f))) → combined op K (φ (p .first)) (φ (p .second)) ≡ combined op K (φ f) (φ g)
+      go (inl e) = ap₂ (combined op K) (ap φ (e .0)) (ap φ (e .1))
+      go (inr e) = ap₂ (combined op K) (ap φ (e .1 .0)) (ap φ (e .1 .1)) ∙ turned op (e .0) K (φ g) (φ f)
+
+  pub packed-known : (n : ℕ) → f < n → g < n → (p .first < n) × (p .second < n)
+  packed-known n l m = go (p .order)
+    where
+      go : ((p .first ≡ f) × (p .second ≡ g)) ⊎ ((op < 2) × ((p .first ≡ g) × (p .second ≡ f))) → (p .first < n) × (p .second < n)
+      go (inl e) = (omega (arith, e .0), omega (arith, e .1))
+      go (inr e) = (omega (arith, e .1 .0), omega (arith, e .1 .1))
+
+  pub packed-some : 0 < f → 0 < g → 0 < p .first
+  packed-some l m = go (p .order)
+    where
+      go : ((p .first ≡ f) × (p .second ≡ g)) ⊎ ((op < 2) × ((p .first ≡ g) × (p .second ≡ f))) → 0 < p .first
+      go (inl e) = omega (arith, e .0)
+      go (inr e) = omega (arith, e .1 .0)
+
+  pub packed-small : f < 65536 → g < 65536 → k < 4294967296
+  packed-small l m = let w = packed-known 65536 l m in omega (arith, p .is, w .0, w .1)
 
 -- ---- the end cases
 
@@ -105,8 +160,12 @@ module _ (op : ℕ) (memo : List ℕ) (f g : ℕ) where
   pub ends-both-differ : f ≡ g → 2 ≤ op → Ends op memo f g 0
   ends-both-differ z e K ns q m = answered q op 0 (end-both-differ q op z e)
 
-  pub ends-known : (at : ℕ) → getD memo at 0 / 65536 ≡ f * 65536 + g → 0 < f → Ends op memo f g (getD memo at 0 % 65536)
-  ends-known at e z K ns q m = answered q op (getD memo at 0 % 65536) (m .each at f g e z (omega (arith, q .right, q .few)) .1 .1)
+  pub ends-known : (at : ℕ) {k : ℕ} (p : Packed op f g k) → getD memo at 0 / 65536 ≡ k → 0 < f → 0 < g → Ends op memo f g (getD memo at 0 % 65536)
+  ends-known at p e z y K ns q m =
+      let s = packed-known p 65536 (omega (arith, q .left, q .few)) (omega (arith, q .right, q .few)) in
+      answered q op (getD memo at 0 % 65536)
+      (subst (λ (F : Family). Answers ns (getD memo at 0 % 65536) F) (packed-same p (family ns) K)
+      (m .each at (p .first) (p .second) (e ∙ p .is) (packed-some p z y) (s .1) .1 .1))
 
   pub ends-open : Two f g → Ends op memo f g 65537
   ends-open w K ns q m = record { small = omega arith; answer = λ h. absurd (omega arith); two = λ e. w }
@@ -252,13 +311,13 @@ module _ {K t : List ℕ} (s : Sound K t) (k : Keys K) (f g : ℕ) (wf : f < cou
 
 -- ---- what is remembered
 
-pub stored-fresh : (op : ℕ) (K : List ℕ) (ns : List Node) (memo : List ℕ) → length memo ≡ 65536 → ((i : ℕ) → getD memo i 0 ≡ 0) → Stored op K ns memo
-stored-fresh op K ns memo l z = record { long = l; each = λ i f g e h w. absurd (omega (arith, z i)) }
+pub stored-fresh : (op : ℕ) (K : List ℕ) (ns : List Node) (memo : List ℕ) → 0 < length memo → ((i : ℕ) → getD memo i 0 ≡ 0) → Stored op K ns memo
+stored-fresh op K ns memo l z = record { some = l; each = λ i f g e h w. absurd (omega (arith, z i)) }
 
 pub stored-grown : {op : ℕ} {K t t′ heads′ next′ memo : List ℕ} {r : ℕ} {F : Family} → Gives K t t′ heads′ next′ r F → r < 65536
     → Stored op K (nodesOf t) memo → Stored op K (nodesOf t′) memo
 stored-grown {op} {K} {t} {t′} {heads′} {next′} {memo} g h m = record {
-  long = m .long;
+  some = m .some;
   each = λ i x y e z w.
       let a = m .each i x y e z w in (
         omega (arith, a .0, gives-more g h),
@@ -274,16 +333,16 @@ stored-grown {op} {K} {t} {t′} {heads′} {next′} {memo} g h m = record {
       );
 }
 
-pub stored-stored : {op : ℕ} {K memo : List ℕ} {ns : List Node} (at f g r v : ℕ) → at < 65536 → v ≡ (f * 65536 + g) * 65536 + r → r < 65536 → g < 65536
+pub stored-stored : {op : ℕ} {K memo : List ℕ} {ns : List Node} (at f g r v : ℕ) → at < length memo → v ≡ (f * 65536 + g) * 65536 + r → r < 65536 → g < 65536
     → f < suc (suc (length ns)) → g < suc (suc (length ns))
     → Answers ns r (combined op K (family ns f) (family ns g)) → Stored op K ns memo → Stored op K ns (set memo at v)
 stored-stored {op} {K} {memo} {ns} at f g r v la ev lr lg wf wg a m = record {
-  long = length-set memo at v ∙ m .long;
+  some = omega (arith, length-set memo at v);
   each = λ i x y e z w. each i (ℕ-discrete i at) x y e z w;
 }
   where
     same : (i : ℕ) → i ≡ at → getD (set memo at v) i 0 ≡ v
-    same i e = ap (λ (j : ℕ). getD (set memo at v) j 0) e ∙ getD-set-same memo at v 0 (omega (arith, m .long))
+    same i e = ap (λ (j : ℕ). getD (set memo at v) j 0) e ∙ getD-set-same memo at v 0 la
 
     hit : (u x y : ℕ) → u ≡ v → u / 65536 ≡ x * 65536 + y → y < 65536
         → (x < suc (suc (length ns))) × ((y < suc (suc (length ns))) × Answers ns (u % 65536) (combined op K (family ns x) (family ns y)))
@@ -369,16 +428,19 @@ module _ (op : ℕ) {K t heads next : List ℕ} {f g : ℕ} (y : Ready K t heads
         pub last-none : {memo0 : List ℕ} → r ≡ 65536 → Gives K t t′ heads′ next′ 65536 (combined op K (family (nodesOf t) f) (family (nodesOf t) g)) × (65536 < 65536 → Stored op K (nodesOf t′) memo0)
         last-none e = (subst (λ (x : ℕ). Gives K t t′ heads′ next′ x (combined op K (family (nodesOf t) f) (family (nodesOf t) g))) e whole, λ z. absurd (omega arith))
 
-        pub last-stored : {memo0 : List ℕ} (at v : ℕ) → at < 65536 → v ≡ (f * 65536 + g) * 65536 + r → Stored op K (nodesOf t0) memo0
+        pub last-stored : {memo0 : List ℕ} (at v : ℕ) {k : ℕ} (e : Packed op f g k) → at < length memo0 → v ≡ k * 65536 + r → Stored op K (nodesOf t0) memo0
             → Gives K t t′ heads′ next′ r (combined op K (family (nodesOf t) f) (family (nodesOf t) g)) × (r < 65536 → Stored op K (nodesOf t′) (set memo0 at v))
-        last-stored {memo0} at v la ev m = (whole, λ z. kept z)
+        last-stored {memo0} at v {k} e la ev m = (whole, λ z. kept z)
           where
             kept : r < 65536 → Stored op K (nodesOf t′) (set memo0 at v)
             kept z =
                 let wf : f < suc (suc (length (nodesOf t))) = omega (arith, w .0, length-nodes t) in
                 let wg : g < suc (suc (length (nodesOf t))) = omega (arith, w .1, length-nodes t) in
-                let a : Answers (nodesOf t′) r (combined op K (family (nodesOf t) f) (family (nodesOf t) g)) = gives-answers whole z in
+                let x = packed-known e (suc (suc (length (nodesOf t)))) wf wg in
+                let a : Answers (nodesOf t′) r (combined op K (family (nodesOf t) (e .first)) (family (nodesOf t) (e .second))) =
+                subst⁻¹ (λ (F : Family). Answers (nodesOf t′) r F) (packed-same e (family (nodesOf t)) K) (gives-answers whole z) in
                 let m′ : Stored op K (nodesOf t′) memo0 = stored-grown (n K (step-child split-o q1 w1 p0 (c .label-known) w0)) z m in
-                stored-stored at f g r v la ev z (omega (arith, w .1, y .sound .few)) (omega (arith, wf, gives-more whole z)) (omega (arith, wg, gives-more whole z))
-                (subst⁻¹ (λ (F : Family). Answers (nodesOf t′) r (combined op K F (family (nodesOf t′) g))) (gives-keeps whole z f wf)
-                (subst⁻¹ (λ (F : Family). Answers (nodesOf t′) r (combined op K (family (nodesOf t) f) F)) (gives-keeps whole z g wg) a)) m′
+                stored-stored at (e .first) (e .second) r v la (omega (arith, e .is)) z (omega (arith, x .1, y .sound .few, length-nodes t))
+                (omega (arith, x .0, gives-more whole z)) (omega (arith, x .1, gives-more whole z))
+                (subst⁻¹ (λ (F : Family). Answers (nodesOf t′) r (combined op K F (family (nodesOf t′) (e .second)))) (gives-keeps whole z (e .first) (x .0))
+                (subst⁻¹ (λ (F : Family). Answers (nodesOf t′) r (combined op K (family (nodesOf t) (e .first)) F)) (gives-keeps whole z (e .second) (x .1)) a)) m′

@@ -2,6 +2,7 @@
 use mathlib.Core.Path.{_≡_}
 use mathlib.Core.Bool.{Bool, true, false, _&&_, _||_}
 use mathlib.Core.List.{List, []}
+use mathlib.Core.Logic.{_⊎_}
 use Prim.Native.Nat.{ℕ, zero, suc, _+_, _-_, _*_, _/_, _%_, _<_, _≤_}
 use lib.ListN.{length, getD}
 use Rattle.zdd.specs.Table.{Node, node, blank, Family, join, count, capacity, nodesOf, family, Fine, Nodes, Sound, Keys}
@@ -39,9 +40,16 @@ opOf (suc (suc n)) = minus
 abbrev pub combined : ℕ → List ℕ → Family → Family → Family
 combined op K F G = combine (opOf op) K F G
 
+-- two numbers in one, in either order where it does not matter
+pub record Packed (op f g k : ℕ) : Type 0 where
+  pub first : ℕ
+  pub second : ℕ
+  pub is : k ≡ first * 65536 + second
+  pub order : ((first ≡ f) × (second ≡ g)) ⊎ ((op < 2) × ((first ≡ g) × (second ≡ f)))
+
 -- a word of the memory is (f × 65536 + g) × 65536 + r, with f not 0: r is the number of f's and g's combination
 pub record Stored (op : ℕ) (K : List ℕ) (ns : List Node) (memo : List ℕ) : Type 0 where
-  pub long : length memo ≡ 65536
+  pub some : 0 < length memo
   pub each : (i f g : ℕ) → getD memo i 0 / 65536 ≡ f * 65536 + g → 0 < f → g < 65536
       → (f < suc (suc (length ns))) × ((g < suc (suc (length ns))) × Answers ns (getD memo i 0 % 65536) (combined op K (family ns f) (family ns g)))
 

@@ -5,7 +5,7 @@ ghost use lib.ListN.{length, getD, set};
 ghost use Rattle.zdd.specs.Table.{node, blank, count, nodesOf, family, Sound, Keys};
 ghost use Rattle.table.specs.State.{Indexed};
 ghost use Rattle.family.specs.Gives.{Ready, Gives, Makes, Noded, Answers};
-ghost use Rattle.family.specs.Memo.{restricted, Kept, Soon, combined, Stored, Ends, Two, Top, Cut};
+ghost use Rattle.family.specs.Memo.{restricted, Kept, Soon, combined, Packed, Stored, Ends, Two, Top, Cut};
 
 // The number of the node with these three words, found or made: lo where hi is 0; 65536 where there is no room.
 fn make(
@@ -118,23 +118,30 @@ fn full(x: u32) -> u64
     x as u64
 }
 
-// The place of f and g in the memory.
-fn place(f: u32, g: u32) -> usize
-    ensures { λ r. ⌜ r < 65536 ⌝ }
+// f and g in one number, the lesser first where their order does not matter: in union (op 0) and intersection (1).
+fn pack(op: u8, f: u32, g: u32) -> u64
+    ensures { λ r. ⌜ Packed op f g r ⌝ }
 {
-    (((f as u64) * 40503 + (g as u64) * 69069) % 65536) as usize
+    if op < 2 {
+        if g < f {
+            return full(g) * 65536 + full(f);
+        }
+    }
+    full(f) * 65536 + full(g)
 }
 
-// f and g in one number.
-fn pack(f: u32, g: u32) -> u64
-    ensures { λ r. ⌜ r ≡ f * 65536 + g ⌝ }
+// The place of a packed pair in a memory of so many places, best a power of two.
+fn place(pair: u64, places: usize) -> usize
+    requires { ⌜ (pair < 4294967296) × (0 < places) ⌝ }
+    ensures { λ r. ⌜ r < places ⌝ }
 {
-    (f as u64) * 65536 + (g as u64)
+    (((pair * 4021839121) >> 20) as usize) & (places - 1)
 }
 
 // The number of f's and g's combination where it is plain or remembered at the place; 65537 where it is to be made.
-fn ended(memo: &[u64; 65536], at: usize, op: u8, f: u32, g: u32) -> u32
-    requires { ⌜ at < 65536 ⌝ }
+fn ended(memo: &[u64], at: usize, pair: u64, op: u8, f: u32, g: u32) -> u32
+    requires { ⌜ at < length (now memo) ⌝ }
+    requires { ⌜ Packed op f g pair ⌝ }
     ensures { λ r. ⌜ Ends op (now (memo .entry)) f g r ⌝ }
 {
     if f == 0 {
@@ -156,8 +163,7 @@ fn ended(memo: &[u64; 65536], at: usize, op: u8, f: u32, g: u32) -> u32
         return 0;
     }
     let e = memo[at];
-    let both = pack(f, g);
-    if e / 65536 == both {
+    if e / 65536 == pair {
         return (e % 65536) as u32;
     }
     65537
@@ -234,7 +240,7 @@ fn combine(
     keys: &[u32],
     heads: &mut [u32; 65536],
     next: &mut [u32; 65536],
-    memo: &mut [u64; 65536],
+    memo: &mut [u64],
     op: u8,
     f: u32,
     g: u32,
@@ -245,8 +251,9 @@ fn combine(
     ensures { λ r. ⌜ Gives (now (keys .entry)) (now (t .entry)) (now (t .exit)) (now (heads .exit)) (now (next .exit)) r (combined op (now (keys .entry)) (family (nodesOf (now (t .entry))) f) (family (nodesOf (now (t .entry))) g)) ⌝ }
     ensures { λ r. ⌜ (r < 65536 → Stored op (now (keys .entry)) (nodesOf (now (t .exit))) (now (memo .exit))) ⌝ }
 {
-    let at = place(f, g);
-    let known = ended(memo, at, op, f, g);
+    let pair = pack(op, f, g);
+    let at = place(pair, memo.len());
+    let known = ended(memo, at, pair, op, f, g);
     if known != 65537 {
         return known;
     }
@@ -263,7 +270,7 @@ fn combine(
     if r == 65536 {
         return 65536;
     }
-    memo[at] = pack(f, g) * 65536 + full(r);
+    memo[at] = pair * 65536 + full(r);
     r
 }
 
@@ -291,12 +298,68 @@ pub fn restriction(
     r
 }
 
+// How many of so many lent words are the memory: the greatest power of two.
+fn places(words: usize) -> usize
+    requires { ⌜ 65536 ≤ words ⌝ }
+    ensures { λ r. ⌜ (0 < r) × (r ≤ words) ⌝ }
+{
+    let mut r: usize = 65536;
+    while r <= words - r {
+        r = r * 2;
+    }
+    r
+}
+
+// `combine` with a memory that may hold anything before.
+fn afresh(
+    t: &mut [u32],
+    keys: &[u32],
+    heads: &mut [u32; 65536],
+    next: &mut [u32; 65536],
+    memo: &mut [u64],
+    op: u8,
+    f: u32,
+    g: u32,
+) -> u32
+    requires { ⌜ Ready (now keys) (now t) (now heads) (now next) ⌝ }
+    requires { ⌜ 0 < length (now memo) ⌝ }
+    requires { ⌜ (f < count (now t) + 2) × (g < count (now t) + 2) ⌝ }
+    ensures { λ r. ⌜ Gives (now (keys .entry)) (now (t .entry)) (now (t .exit)) (now (heads .exit)) (now (next .exit)) r (combined op (now (keys .entry)) (family (nodesOf (now (t .entry))) f) (family (nodesOf (now (t .entry))) g)) ⌝ }
+{
+    base::clear(memo);
+    combine(t, keys, heads, next, memo, op, f, g)
+}
+
+// `combine` with the lent words as its memory where they are many, and a local array where they are few.
+fn remembering(
+    t: &mut [u32],
+    keys: &[u32],
+    heads: &mut [u32; 65536],
+    next: &mut [u32; 65536],
+    work: &mut [u64],
+    op: u8,
+    f: u32,
+    g: u32,
+) -> u32
+    requires { ⌜ Ready (now keys) (now t) (now heads) (now next) ⌝ }
+    requires { ⌜ (f < count (now t) + 2) × (g < count (now t) + 2) ⌝ }
+    ensures { λ r. ⌜ Gives (now (keys .entry)) (now (t .entry)) (now (t .exit)) (now (heads .exit)) (now (next .exit)) r (combined op (now (keys .entry)) (family (nodesOf (now (t .entry))) f) (family (nodesOf (now (t .entry))) g)) ⌝ }
+{
+    if work.len() < 65536 {
+        let mut memo = [0u64; 65536];
+        return combine(t, keys, heads, next, &mut memo, op, f, g);
+    }
+    let size = places(work.len());
+    afresh(t, keys, heads, next, &mut work[..size], op, f, g)
+}
+
 // The number of f's and g's union (op 0), intersection (1) or difference (2). Where there is no room it is 65536, and the table is as before.
 pub fn combination(
     t: &mut [u32],
     keys: &[u32],
     heads: &mut [u32; 65536],
     next: &mut [u32; 65536],
+    work: &mut [u64],
     op: u8,
     f: u32,
     g: u32,
@@ -306,8 +369,7 @@ pub fn combination(
     ensures { λ r. ⌜ Makes (now (keys .entry)) (now (t .entry)) (now (t .exit)) (now (heads .exit)) (now (next .exit)) r (combined op (now (keys .entry)) (family (nodesOf (now (t .entry))) f) (family (nodesOf (now (t .entry))) g)) ⌝ }
 {
     let n = t[0];
-    let mut memo = [0u64; 65536];
-    let r = combine(t, keys, heads, next, &mut memo, op, f, g);
+    let r = remembering(t, keys, heads, next, work, op, f, g);
     if r == 65536 {
         table::rollback(t, n);
         return 65536;

@@ -72,17 +72,20 @@ slice-aggregate-combination : tie.Need-slice-aggregate-combination
 slice-aggregate-combination c = sym (keys-taken (c .before .before .before .before .before .before .before .before .admit .ensures .ready (c .before .before .before .before .before .before .if1 .left)))
 
 combination-requires : tie.Need-combination-requires
-combination-requires c κs = (ready (c .before .before .before .before .before .before .before .before .before .before .admit .ensures .ready (c .before .before .before .before .before .before .before .before .if1 .left)), (omega (arith, c .before .before .before .before .before .before .if2 .left), omega (arith, c .before .before .before .before .before .if3 .left)))
+combination-requires c κs = (ready (c .before .before .before .before .before .before .before .before .before .before .before .admit .ensures .ready (c .before .before .before .before .before .before .before .before .before .if1 .left)), (omega (arith, c .before .before .before .before .before .before .before .if2 .left), omega (arith, c .before .before .before .before .before .before .if3 .left)))
 
 report-requires : tie.Need-report-requires
-report-requires c κs = (makes-words (c .before .before .before .combination .ensures) (omega (arith, c .before .before .before .before .before .before .before .before .before .before .before .before .before .before .admit .ensures .ready (c .before .before .before .before .before .before .before .before .before .before .before .before .if1 .left) .sound .room)), makes-more (c .before .before .before .combination .ensures))
+report-requires c κs = (makes-words (c .before .before .before .before .before .combination .ensures) (omega (arith, c .before .before .before .before .before .before .before .before .before .before .before .before .before .before .before .before .before .admit .ensures .ready (c .before .before .before .before .before .before .before .before .before .before .before .before .before .before .before .if1 .left) .sound .room)), makes-more (c .before .before .before .before .before .combination .ensures))
 
 same-length-5 : tie.Need-same-length-5
 same-length-5 c = search needs
 
+same-length-6 : tie.Need-same-length-6
+same-length-6 c = search needs
+
 returns-5 : tie.Need-returns-5
 unfolding pairRefusal
-returns-5 c = reported-makes (rw (c .before .before .before .before .before .before .before .before .before .before .before .before .before .before .before .admit .ensures .ready (c .before .before .before .before .before .before .before .before .before .before .before .before .before .if1 .left) .keyed .are) at (c .before .before .before .before .combination .ensures)) (c .report .ensures) (first-passed _ (c .before .before .before .before .before .before .before .before .before .before .before .before .before .before .before .admit .ensures .ready (c .before .before .before .before .before .before .before .before .before .before .before .before .before .if1 .left)) ∙ pass 5 _ (both-known _ _ _ (omega (arith, c .before .before .before .before .before .before .before .before .before .before .before .if2 .left)) (omega (arith, c .before .before .before .before .before .before .before .before .before .before .if3 .left))) ∙ pass 8 _ (enough _ _ (omega (arith, c .before .before .before .before .before .before .before .before .before .if4 .left))))
+returns-5 c = reported-makes (rw (c .before .before .before .before .before .before .before .before .before .before .before .before .before .before .before .before .before .before .admit .ensures .ready (c .before .before .before .before .before .before .before .before .before .before .before .before .before .before .before .before .if1 .left) .keyed .are) at (c .before .before .before .before .before .before .combination .ensures)) (c .report .ensures) (first-passed _ (c .before .before .before .before .before .before .before .before .before .before .before .before .before .before .before .before .before .before .admit .ensures .ready (c .before .before .before .before .before .before .before .before .before .before .before .before .before .before .before .before .if1 .left)) ∙ pass 5 _ (both-known _ _ _ (omega (arith, c .before .before .before .before .before .before .before .before .before .before .before .before .before .before .if2 .left)) (omega (arith, c .before .before .before .before .before .before .before .before .before .before .before .before .before .if3 .left))) ∙ pass 8 _ (enough _ _ (omega (arith, c .before .before .before .before .before .before .before .before .before .before .before .before .if4 .left))))
 
 pub pair-spec : {M : Type 1} → statement M
 pair-spec =
@@ -110,4 +113,5 @@ pair-spec =
     combination-requires
     report-requires
     same-length-5
+    same-length-6
     returns-5)

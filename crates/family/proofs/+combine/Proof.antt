@@ -1,7 +1,8 @@
+use lib.ListN.{length-set}
 use Prim.Native.Nat.{_+_}
 use mathlib.Core.Path.{_∙_}
 use native.Mathlib.Omega.{arith}
-use Rattle.family.proofs.CombineLaws.{ended-gives, ends-two, hi-known, hi-none, hi-ready, lo-known, lo-none, last-none, last-stored}
+use Rattle.family.proofs.CombineLaws.{packed-small, ended-gives, ends-two, hi-known, hi-none, hi-ready, lo-known, lo-none, last-none, last-stored}
 use borrow.Author.Needs.{needs}
 use Prim.Native.Nat.{ℕ, _<_}
 use borrow.Fn.Kinds.{In}
@@ -27,7 +28,11 @@ combine-at t = and 5 combine-kinds.ps (is 5 combine-kinds.ps μ-combine t) combi
 abbrev combine-below : ℕ → In 5 combine-kinds.ps
 combine-below t = and 5 combine-kinds.ps (falls 5 combine-kinds.ps _<_ μ-combine t) combine.Pre
 
-combine-place-requires : (t : ℕ) → combine-lts.Need-place-requires (
+-- what the calls in combine ask and ensure, where combine's measure is t
+abbrev combine-claims : ℕ → combine-lts.Claims
+combine-claims t = (
+  pack-reads.Asked,
+  pack-reads.Learnt,
   place-reads.Asked,
   place-reads.Learnt,
   ended-reads.Asked,
@@ -38,375 +43,92 @@ combine-place-requires : (t : ℕ) → combine-lts.Need-place-requires (
   combine.Post,
   make-reads.Asked,
   make-reads.Learnt,
-  pack-reads.Asked,
-  pack-reads.Learnt,
   full-reads.Asked,
   full-reads.Learnt,
-) (combine-at t) combine.Post
-combine-place-requires t c κs = search needs
+)
 
-combine-ended-requires : (t : ℕ) → combine-lts.Need-ended-requires (
-  place-reads.Asked,
-  place-reads.Learnt,
-  ended-reads.Asked,
-  ended-reads.Learnt,
-  cut-reads.Asked,
-  cut-reads.Learnt,
-  combine-below t,
-  combine.Post,
-  make-reads.Asked,
-  make-reads.Learnt,
-  pack-reads.Asked,
-  pack-reads.Learnt,
-  full-reads.Asked,
-  full-reads.Learnt,
-) (combine-at t) combine.Post
-combine-ended-requires t c κs = c .before .place .ensures
-
-combine-returns : (t : ℕ) → combine-lts.Need-returns (
-  place-reads.Asked,
-  place-reads.Learnt,
-  ended-reads.Asked,
-  ended-reads.Learnt,
-  cut-reads.Asked,
-  cut-reads.Learnt,
-  combine-below t,
-  combine.Post,
-  make-reads.Asked,
-  make-reads.Learnt,
-  pack-reads.Asked,
-  pack-reads.Learnt,
-  full-reads.Asked,
-  full-reads.Learnt,
-) (combine-at t) combine.Post
-combine-returns t c = ended-gives (c .before .before .before .before .before .before .pre .1 .0) (c .before .before .before .before .before .before .pre .1 .1 .0) (c .before .before .before .before .before .before .pre .1 .1 .1) (c .before .ended .ensures) (λ e. omega (arith, c .if1 .taken))
-
-combine-cut-requires : (t : ℕ) → combine-lts.Need-cut-requires (
-  place-reads.Asked,
-  place-reads.Learnt,
-  ended-reads.Asked,
-  ended-reads.Learnt,
-  cut-reads.Asked,
-  cut-reads.Learnt,
-  combine-below t,
-  combine.Post,
-  make-reads.Asked,
-  make-reads.Learnt,
-  pack-reads.Asked,
-  pack-reads.Learnt,
-  full-reads.Asked,
-  full-reads.Learnt,
-) (combine-at t) combine.Post
-combine-cut-requires t c κs = ((c .before .before .before .before .before .before .before .pre .1 .0) .sound, ((c .before .before .before .before .before .before .before .pre .1 .0) .keys, ((c .before .before .before .before .before .before .before .pre .1 .1 .1), ends-two (c .before .before .before .before .before .before .before .pre .1 .0) (c .before .before .before .before .before .before .before .pre .1 .1 .0) (c .before .before .before .before .before .before .before .pre .1 .1 .1) (c .before .before .ended .ensures) (c .before .if1 .left))))
-
-combine-combine-requires : (t : ℕ) → combine-lts.Need-combine-requires (
-  place-reads.Asked,
-  place-reads.Learnt,
-  ended-reads.Asked,
-  ended-reads.Learnt,
-  cut-reads.Asked,
-  cut-reads.Learnt,
-  combine-below t,
-  combine.Post,
-  make-reads.Asked,
-  make-reads.Learnt,
-  pack-reads.Asked,
-  pack-reads.Learnt,
-  full-reads.Asked,
-  full-reads.Learnt,
-) (combine-at t) combine.Post
-combine-combine-requires t c κs = (omega (arith, c .before .before .before .before .before .before .before .before .before .before .before .before .pre .0, (c .before .before .before .before .cut .ensures) .falls1), ((c .before .before .before .before .before .before .before .before .before .before .before .before .pre .1 .0), ((c .before .before .before .before .before .before .before .before .before .before .before .before .pre .1 .1 .0), hi-known (c .before .before .before .before .before .before .before .before .before .before .before .before .pre .1 .0) (c .before .before .before .before .cut .ensures))))
-
-combine-same-length : (t : ℕ) → combine-lts.Need-same-length (
-  place-reads.Asked,
-  place-reads.Learnt,
-  ended-reads.Asked,
-  ended-reads.Learnt,
-  cut-reads.Asked,
-  cut-reads.Learnt,
-  combine-below t,
-  combine.Post,
-  make-reads.Asked,
-  make-reads.Learnt,
-  pack-reads.Asked,
-  pack-reads.Learnt,
-  full-reads.Asked,
-  full-reads.Learnt,
-) (combine-at t) combine.Post
-combine-same-length t c = (c .before .before .before .combine .ensures .0) .long
-
-combine-returns-2 : (t : ℕ) → combine-lts.Need-returns-2 (
-  place-reads.Asked,
-  place-reads.Learnt,
-  ended-reads.Asked,
-  ended-reads.Learnt,
-  cut-reads.Asked,
-  cut-reads.Learnt,
-  combine-below t,
-  combine.Post,
-  make-reads.Asked,
-  make-reads.Learnt,
-  pack-reads.Asked,
-  pack-reads.Learnt,
-  full-reads.Asked,
-  full-reads.Learnt,
-) (combine-at t) combine.Post
-combine-returns-2 t c = hi-none (c .before .before .before .before .before .before .before .before .before .before .before .before .before .before .before .before .args .op) (c .before .before .before .before .before .before .before .before .before .before .before .before .before .before .before .before .pre .1 .0) (c .before .before .before .before .before .before .before .before .before .before .before .before .before .before .before .before .pre .1 .1 .1) (c .before .before .before .before .before .before .before .before .cut .ensures) (c .before .before .before .combine .ensures .0) (c .if2 .taken)
-
-combine-combine-requires-2 : (t : ℕ) → combine-lts.Need-combine-requires-2 (
-  place-reads.Asked,
-  place-reads.Learnt,
-  ended-reads.Asked,
-  ended-reads.Learnt,
-  cut-reads.Asked,
-  cut-reads.Learnt,
-  combine-below t,
-  combine.Post,
-  make-reads.Asked,
-  make-reads.Learnt,
-  pack-reads.Asked,
-  pack-reads.Learnt,
-  full-reads.Asked,
-  full-reads.Learnt,
-) (combine-at t) combine.Post
-combine-combine-requires-2 t c κs = (omega (arith, c .before .before .before .before .before .before .before .before .before .before .before .before .before .before .before .before .before .before .before .before .pre .0, (c .before .before .before .before .before .before .before .before .before .before .before .before .cut .ensures) .falls0), (hi-ready (c .before .before .before .before .before .before .before .before .before .before .before .before .before .before .before .before .before .before .before .before .args .op) (c .before .before .before .before .before .before .before .before .before .before .before .before .before .before .before .before .before .before .before .before .pre .1 .0) (c .before .before .before .before .before .before .before .before .before .before .before .before .before .before .before .before .before .before .before .before .pre .1 .1 .1) (c .before .before .before .before .before .before .before .before .before .before .before .before .cut .ensures) (c .before .before .before .before .before .before .before .combine .ensures .0), (c .before .before .before .before .before .before .before .combine .ensures .1 (omega (arith, c .before .before .before .before .before .before .before .combine .ensures .0 .small, c .before .before .before .before .if2 .left)), lo-known (c .before .before .before .before .before .before .before .before .before .before .before .before .before .before .before .before .before .before .before .before .args .op) (c .before .before .before .before .before .before .before .before .before .before .before .before .before .before .before .before .before .before .before .before .pre .1 .0) (c .before .before .before .before .before .before .before .before .before .before .before .before .before .before .before .before .before .before .before .before .pre .1 .1 .1) (c .before .before .before .before .before .before .before .before .before .before .before .before .cut .ensures) (c .before .before .before .before .before .before .before .combine .ensures .0) (omega (arith, c .before .before .before .before .before .before .before .combine .ensures .0 .small, c .before .before .before .before .if2 .left)))))
-
-combine-same-length-2 : (t : ℕ) → combine-lts.Need-same-length-2 (
-  place-reads.Asked,
-  place-reads.Learnt,
-  ended-reads.Asked,
-  ended-reads.Learnt,
-  cut-reads.Asked,
-  cut-reads.Learnt,
-  combine-below t,
-  combine.Post,
-  make-reads.Asked,
-  make-reads.Learnt,
-  pack-reads.Asked,
-  pack-reads.Learnt,
-  full-reads.Asked,
-  full-reads.Learnt,
-) (combine-at t) combine.Post
-combine-same-length-2 t c = (c .before .before .before .combine2 .ensures .0) .long ∙ (c .before .before .before .before .before .before .before .before .before .before .before .combine .ensures .0) .long
-
-combine-returns-3 : (t : ℕ) → combine-lts.Need-returns-3 (
-  place-reads.Asked,
-  place-reads.Learnt,
-  ended-reads.Asked,
-  ended-reads.Learnt,
-  cut-reads.Asked,
-  cut-reads.Learnt,
-  combine-below t,
-  combine.Post,
-  make-reads.Asked,
-  make-reads.Learnt,
-  pack-reads.Asked,
-  pack-reads.Learnt,
-  full-reads.Asked,
-  full-reads.Learnt,
-) (combine-at t) combine.Post
-combine-returns-3 t c = lo-none (c .before .before .before .before .before .before .before .before .before .before .before .before .before .before .before .before .before .before .before .before .before .before .before .before .args .op) (c .before .before .before .before .before .before .before .before .before .before .before .before .before .before .before .before .before .before .before .before .before .before .before .before .pre .1 .0) (c .before .before .before .before .before .before .before .before .before .before .before .before .before .before .before .before .before .before .before .before .before .before .before .before .pre .1 .1 .1) (c .before .before .before .before .before .before .before .before .before .before .before .before .before .before .before .before .cut .ensures) (c .before .before .before .before .before .before .before .before .before .before .before .combine .ensures .0) (omega (arith, c .before .before .before .before .before .before .before .before .before .before .before .combine .ensures .0 .small, c .before .before .before .before .before .before .before .before .if2 .left)) (c .before .before .before .combine2 .ensures .0) (c .if3 .taken)
-
-combine-make-requires : (t : ℕ) → combine-lts.Need-make-requires (
-  place-reads.Asked,
-  place-reads.Learnt,
-  ended-reads.Asked,
-  ended-reads.Learnt,
-  cut-reads.Asked,
-  cut-reads.Learnt,
-  combine-below t,
-  combine.Post,
-  make-reads.Asked,
-  make-reads.Learnt,
-  pack-reads.Asked,
-  pack-reads.Learnt,
-  full-reads.Asked,
-  full-reads.Learnt,
-) (combine-at t) combine.Post
-combine-make-requires t c κs = (c .before .before .before .before .before .before .combine2 .ensures .0) .indexed
-
-combine-same-length-3 : (t : ℕ) → combine-lts.Need-same-length-3 (
-  place-reads.Asked,
-  place-reads.Learnt,
-  ended-reads.Asked,
-  ended-reads.Learnt,
-  cut-reads.Asked,
-  cut-reads.Learnt,
-  combine-below t,
-  combine.Post,
-  make-reads.Asked,
-  make-reads.Learnt,
-  pack-reads.Asked,
-  pack-reads.Learnt,
-  full-reads.Asked,
-  full-reads.Learnt,
-) (combine-at t) combine.Post
-combine-same-length-3 t c = search needs
-
-combine-returns-4 : (t : ℕ) → combine-lts.Need-returns-4 (
-  place-reads.Asked,
-  place-reads.Learnt,
-  ended-reads.Asked,
-  ended-reads.Learnt,
-  cut-reads.Asked,
-  cut-reads.Learnt,
-  combine-below t,
-  combine.Post,
-  make-reads.Asked,
-  make-reads.Learnt,
-  pack-reads.Asked,
-  pack-reads.Learnt,
-  full-reads.Asked,
-  full-reads.Learnt,
-) (combine-at t) combine.Post
-combine-returns-4 t c = last-none (c .before .before .before .before .before .before .before .before .before .before .before .before .before .before .before .before .before .before .before .before .before .before .before .before .before .before .before .before .before .before .before .args .op) (c .before .before .before .before .before .before .before .before .before .before .before .before .before .before .before .before .before .before .before .before .before .before .before .before .before .before .before .before .before .before .before .pre .1 .0) (c .before .before .before .before .before .before .before .before .before .before .before .before .before .before .before .before .before .before .before .before .before .before .before .before .before .before .before .before .before .before .before .pre .1 .1 .1) (c .before .before .before .before .before .before .before .before .before .before .before .before .before .before .before .before .before .before .before .before .before .before .before .cut .ensures) (c .before .before .before .before .before .before .before .before .before .before .before .before .before .before .before .before .before .before .combine .ensures .0) (omega (arith, c .before .before .before .before .before .before .before .before .before .before .before .before .before .before .before .before .before .before .combine .ensures .0 .small, c .before .before .before .before .before .before .before .before .before .before .before .before .before .before .before .if2 .left)) (c .before .before .before .before .before .before .before .before .before .before .combine2 .ensures .0) (omega (arith, c .before .before .before .before .before .before .before .before .before .before .combine2 .ensures .0 .small, c .before .before .before .before .before .before .before .if3 .left)) (c .before .before .before .make .ensures) (c .if4 .taken)
-
-combine-pack-requires : (t : ℕ) → combine-lts.Need-pack-requires (
-  place-reads.Asked,
-  place-reads.Learnt,
-  ended-reads.Asked,
-  ended-reads.Learnt,
-  cut-reads.Asked,
-  cut-reads.Learnt,
-  combine-below t,
-  combine.Post,
-  make-reads.Asked,
-  make-reads.Learnt,
-  pack-reads.Asked,
-  pack-reads.Learnt,
-  full-reads.Asked,
-  full-reads.Learnt,
-) (combine-at t) combine.Post
+combine-pack-requires : (t : ℕ) → combine-lts.Need-pack-requires (combine-claims t) (combine-at t) combine.Post
 combine-pack-requires t c κs = search needs
 
-combine-mul-memo : (t : ℕ) → combine-lts.Need-mul-memo (
-  place-reads.Asked,
-  place-reads.Learnt,
-  ended-reads.Asked,
-  ended-reads.Learnt,
-  cut-reads.Asked,
-  cut-reads.Learnt,
-  combine-below t,
-  combine.Post,
-  make-reads.Asked,
-  make-reads.Learnt,
-  pack-reads.Asked,
-  pack-reads.Learnt,
-  full-reads.Asked,
-  full-reads.Learnt,
-) (combine-at t) combine.Post
-combine-mul-memo t c = omega (arith, c .pack .ensures, (c .before .before .before .before .before .before .before .before .before .before .before .before .before .before .before .before .before .before .before .before .before .before .before .before .before .before .before .before .before .before .before .before .pre .1 .1 .1) .0, (c .before .before .before .before .before .before .before .before .before .before .before .before .before .before .before .before .before .before .before .before .before .before .before .before .before .before .before .before .before .before .before .before .pre .1 .1 .1) .1, (c .before .before .before .before .before .before .before .before .before .before .before .before .before .before .before .before .before .before .before .before .before .before .before .before .before .before .before .before .before .before .before .before .pre .1 .0) .sound .few)
+combine-place-requires : (t : ℕ) → combine-lts.Need-place-requires (combine-claims t) (combine-at t) combine.Post
+combine-place-requires t c κs = (packed-small (c .pack .ensures) (omega (arith, (c .before .before .before .before .pre .1 .1 .1) .0, (c .before .before .before .before .pre .1 .1 .1) .1, (c .before .before .before .before .pre .1 .0) .sound .few)) (omega (arith, (c .before .before .before .before .pre .1 .1 .1) .0, (c .before .before .before .before .pre .1 .1 .1) .1, (c .before .before .before .before .pre .1 .0) .sound .few)), (c .before .before .before .before .pre .1 .1 .0) .some)
 
-combine-full-requires : (t : ℕ) → combine-lts.Need-full-requires (
-  place-reads.Asked,
-  place-reads.Learnt,
-  ended-reads.Asked,
-  ended-reads.Learnt,
-  cut-reads.Asked,
-  cut-reads.Learnt,
-  combine-below t,
-  combine.Post,
-  make-reads.Asked,
-  make-reads.Learnt,
-  pack-reads.Asked,
-  pack-reads.Learnt,
-  full-reads.Asked,
-  full-reads.Learnt,
-) (combine-at t) combine.Post
-combine-full-requires t c κs = search needs
+combine-ended-requires : (t : ℕ) → combine-lts.Need-ended-requires (combine-claims t) (combine-at t) combine.Post
+combine-ended-requires t c κs = (c .before .place .ensures, c .before .before .pack .ensures)
 
-combine-add-memo : (t : ℕ) → combine-lts.Need-add-memo (
-  place-reads.Asked,
-  place-reads.Learnt,
-  ended-reads.Asked,
-  ended-reads.Learnt,
-  cut-reads.Asked,
-  cut-reads.Learnt,
-  combine-below t,
-  combine.Post,
-  make-reads.Asked,
-  make-reads.Learnt,
-  pack-reads.Asked,
-  pack-reads.Learnt,
-  full-reads.Asked,
-  full-reads.Learnt,
-) (combine-at t) combine.Post
-combine-add-memo t c = omega (arith, c .before .pack .ensures, c .full .ensures, (c .before .before .before .before .before .before .before .before .before .before .before .before .before .before .before .before .before .before .before .before .before .before .before .before .before .before .before .before .before .before .before .before .before .pre .1 .1 .1) .0, (c .before .before .before .before .before .before .before .before .before .before .before .before .before .before .before .before .before .before .before .before .before .before .before .before .before .before .before .before .before .before .before .before .before .pre .1 .1 .1) .1, (c .before .before .before .before .before .before .before .before .before .before .before .before .before .before .before .before .before .before .before .before .before .before .before .before .before .before .before .before .before .before .before .before .before .pre .1 .0) .sound .few)
+combine-same-length : (t : ℕ) → combine-lts.Need-same-length (combine-claims t) (combine-at t) combine.Post
+combine-same-length t c = search needs
 
-combine-mul-memo-2 : (t : ℕ) → combine-lts.Need-mul-memo-2 (
-  place-reads.Asked,
-  place-reads.Learnt,
-  ended-reads.Asked,
-  ended-reads.Learnt,
-  cut-reads.Asked,
-  cut-reads.Learnt,
-  combine-below t,
-  combine.Post,
-  make-reads.Asked,
-  make-reads.Learnt,
-  pack-reads.Asked,
-  pack-reads.Learnt,
-  full-reads.Asked,
-  full-reads.Learnt,
-) (combine-at t) combine.Post
-combine-mul-memo-2 t c = omega (arith, c .before .before .before .before .before .before .before .before .before .before .before .before .before .before .before .before .before .before .before .before .before .before .before .before .before .before .before .before .before .before .place .ensures)
+combine-returns : (t : ℕ) → combine-lts.Need-returns (combine-claims t) (combine-at t) combine.Post
+combine-returns t c = ended-gives (c .before .before .before .before .before .before .before .before .pre .1 .0) (c .before .before .before .before .before .before .before .before .pre .1 .1 .0) (c .before .before .before .before .before .before .before .before .pre .1 .1 .1) (c .before .ended .ensures) (λ e. omega (arith, c .if1 .taken))
 
-combine-element-write-memo : (t : ℕ) → combine-lts.Need-element-write-memo (
-  place-reads.Asked,
-  place-reads.Learnt,
-  ended-reads.Asked,
-  ended-reads.Learnt,
-  cut-reads.Asked,
-  cut-reads.Learnt,
-  combine-below t,
-  combine.Post,
-  make-reads.Asked,
-  make-reads.Learnt,
-  pack-reads.Asked,
-  pack-reads.Learnt,
-  full-reads.Asked,
-  full-reads.Learnt,
-) (combine-at t) combine.Post
-combine-element-write-memo t c = omega (arith, c .before .before .before .before .before .before .before .before .before .before .before .before .before .before .before .before .before .before .before .before .before .before .before .before .before .before .before .before .before .before .place .ensures)
+combine-cut-requires : (t : ℕ) → combine-lts.Need-cut-requires (combine-claims t) (combine-at t) combine.Post
+combine-cut-requires t c κs = ((c .before .before .before .before .before .before .before .before .before .pre .1 .0) .sound, ((c .before .before .before .before .before .before .before .before .before .pre .1 .0) .keys, ((c .before .before .before .before .before .before .before .before .before .pre .1 .1 .1), ends-two (c .before .before .before .before .before .before .before .before .before .pre .1 .0) (c .before .before .before .before .before .before .before .before .before .pre .1 .1 .0) (c .before .before .before .before .before .before .before .before .before .pre .1 .1 .1) (c .before .before .ended .ensures) (c .before .if1 .left))))
 
-combine-same-length-4 : (t : ℕ) → combine-lts.Need-same-length-4 (
-  place-reads.Asked,
-  place-reads.Learnt,
-  ended-reads.Asked,
-  ended-reads.Learnt,
-  cut-reads.Asked,
-  cut-reads.Learnt,
-  combine-below t,
-  combine.Post,
-  make-reads.Asked,
-  make-reads.Learnt,
-  pack-reads.Asked,
-  pack-reads.Learnt,
-  full-reads.Asked,
-  full-reads.Learnt,
-) (combine-at t) combine.Post
+combine-combine-requires : (t : ℕ) → combine-lts.Need-combine-requires (combine-claims t) (combine-at t) combine.Post
+combine-combine-requires t c κs = (omega (arith, c .before .before .before .before .before .before .before .before .before .before .before .before .before .before .pre .0, (c .before .before .before .before .cut .ensures) .falls1), ((c .before .before .before .before .before .before .before .before .before .before .before .before .before .before .pre .1 .0), ((c .before .before .before .before .before .before .before .before .before .before .before .before .before .before .pre .1 .1 .0), hi-known (c .before .before .before .before .before .before .before .before .before .before .before .before .before .before .pre .1 .0) (c .before .before .before .before .cut .ensures))))
+
+combine-same-length-2 : (t : ℕ) → combine-lts.Need-same-length-2 (combine-claims t) (combine-at t) combine.Post
+combine-same-length-2 t c = search needs
+
+combine-same-length-3 : (t : ℕ) → combine-lts.Need-same-length-3 (combine-claims t) (combine-at t) combine.Post
+combine-same-length-3 t c = search needs
+
+combine-returns-2 : (t : ℕ) → combine-lts.Need-returns-2 (combine-claims t) (combine-at t) combine.Post
+combine-returns-2 t c = hi-none (c .before .before .before .before .before .before .before .before .before .before .before .before .before .before .before .before .before .before .before .before .args .op) (c .before .before .before .before .before .before .before .before .before .before .before .before .before .before .before .before .before .before .before .before .pre .1 .0) (c .before .before .before .before .before .before .before .before .before .before .before .before .before .before .before .before .before .before .before .before .pre .1 .1 .1) (c .before .before .before .before .before .before .before .before .before .before .cut .ensures) (c .before .before .before .before .before .combine .ensures .0) (c .if2 .taken)
+
+combine-combine-requires-2 : (t : ℕ) → combine-lts.Need-combine-requires-2 (combine-claims t) (combine-at t) combine.Post
+combine-combine-requires-2 t c κs = (omega (arith, c .before .before .before .before .before .before .before .before .before .before .before .before .before .before .before .before .before .before .before .before .before .before .before .before .pre .0, (c .before .before .before .before .before .before .before .before .before .before .before .before .before .before .cut .ensures) .falls0), (hi-ready (c .before .before .before .before .before .before .before .before .before .before .before .before .before .before .before .before .before .before .before .before .before .before .before .before .args .op) (c .before .before .before .before .before .before .before .before .before .before .before .before .before .before .before .before .before .before .before .before .before .before .before .before .pre .1 .0) (c .before .before .before .before .before .before .before .before .before .before .before .before .before .before .before .before .before .before .before .before .before .before .before .before .pre .1 .1 .1) (c .before .before .before .before .before .before .before .before .before .before .before .before .before .before .cut .ensures) (c .before .before .before .before .before .before .before .before .before .combine .ensures .0), (c .before .before .before .before .before .before .before .before .before .combine .ensures .1 (omega (arith, c .before .before .before .before .before .before .before .before .before .combine .ensures .0 .small, c .before .before .before .before .if2 .left)), lo-known (c .before .before .before .before .before .before .before .before .before .before .before .before .before .before .before .before .before .before .before .before .before .before .before .before .args .op) (c .before .before .before .before .before .before .before .before .before .before .before .before .before .before .before .before .before .before .before .before .before .before .before .before .pre .1 .0) (c .before .before .before .before .before .before .before .before .before .before .before .before .before .before .before .before .before .before .before .before .before .before .before .before .pre .1 .1 .1) (c .before .before .before .before .before .before .before .before .before .before .before .before .before .before .cut .ensures) (c .before .before .before .before .before .before .before .before .before .combine .ensures .0) (omega (arith, c .before .before .before .before .before .before .before .before .before .combine .ensures .0 .small, c .before .before .before .before .if2 .left)))))
+
+combine-same-length-4 : (t : ℕ) → combine-lts.Need-same-length-4 (combine-claims t) (combine-at t) combine.Post
 combine-same-length-4 t c = search needs
 
-combine-returns-5 : (t : ℕ) → combine-lts.Need-returns-5 (
-  place-reads.Asked,
-  place-reads.Learnt,
-  ended-reads.Asked,
-  ended-reads.Learnt,
-  cut-reads.Asked,
-  cut-reads.Learnt,
-  combine-below t,
-  combine.Post,
-  make-reads.Asked,
-  make-reads.Learnt,
-  pack-reads.Asked,
-  pack-reads.Learnt,
-  full-reads.Asked,
-  full-reads.Learnt,
-) (combine-at t) combine.Post
-combine-returns-5 t c = last-stored (c .before .before .before .before .before .before .before .before .before .before .before .before .before .before .before .before .before .before .before .before .before .before .before .before .before .before .before .before .before .before .before .before .before .args .op) (c .before .before .before .before .before .before .before .before .before .before .before .before .before .before .before .before .before .before .before .before .before .before .before .before .before .before .before .before .before .before .before .before .before .pre .1 .0) (c .before .before .before .before .before .before .before .before .before .before .before .before .before .before .before .before .before .before .before .before .before .before .before .before .before .before .before .before .before .before .before .before .before .pre .1 .1 .1) (c .before .before .before .before .before .before .before .before .before .before .before .before .before .before .before .before .before .before .before .before .before .before .before .before .before .cut .ensures) (c .before .before .before .before .before .before .before .before .before .before .before .before .before .before .before .before .before .before .before .before .combine .ensures .0) (omega (arith, c .before .before .before .before .before .before .before .before .before .before .before .before .before .before .before .before .before .before .before .before .combine .ensures .0 .small, c .before .before .before .before .before .before .before .before .before .before .before .before .before .before .before .before .before .if2 .left)) (c .before .before .before .before .before .before .before .before .before .before .before .before .combine2 .ensures .0) (omega (arith, c .before .before .before .before .before .before .before .before .before .before .before .before .combine2 .ensures .0 .small, c .before .before .before .before .before .before .before .before .before .if3 .left)) (c .before .before .before .before .before .make .ensures) _ _ (c .before .before .before .before .before .before .before .before .before .before .before .before .before .before .before .before .before .before .before .before .before .before .before .before .before .before .before .before .before .before .place .ensures) (omega (arith, c .before .pack .ensures, c .full .ensures .0)) (c .before .before .before .before .before .before .before .before .before .before .before .before .combine2 .ensures .1 (omega (arith, c .before .before .before .before .before .before .before .before .before .before .before .before .combine2 .ensures .0 .small, c .before .before .before .before .before .before .before .before .before .if3 .left)))
+combine-same-length-5 : (t : ℕ) → combine-lts.Need-same-length-5 (combine-claims t) (combine-at t) combine.Post
+combine-same-length-5 t c = search needs
+
+combine-returns-3 : (t : ℕ) → combine-lts.Need-returns-3 (combine-claims t) (combine-at t) combine.Post
+combine-returns-3 t c = lo-none (c .before .before .before .before .before .before .before .before .before .before .before .before .before .before .before .before .before .before .before .before .before .before .before .before .before .before .before .before .before .before .args .op) (c .before .before .before .before .before .before .before .before .before .before .before .before .before .before .before .before .before .before .before .before .before .before .before .before .before .before .before .before .before .before .pre .1 .0) (c .before .before .before .before .before .before .before .before .before .before .before .before .before .before .before .before .before .before .before .before .before .before .before .before .before .before .before .before .before .before .pre .1 .1 .1) (c .before .before .before .before .before .before .before .before .before .before .before .before .before .before .before .before .before .before .before .before .cut .ensures) (c .before .before .before .before .before .before .before .before .before .before .before .before .before .before .before .combine .ensures .0) (omega (arith, c .before .before .before .before .before .before .before .before .before .before .before .before .before .before .before .combine .ensures .0 .small, c .before .before .before .before .before .before .before .before .before .before .if2 .left)) (c .before .before .before .before .before .combine2 .ensures .0) (c .if3 .taken)
+
+combine-make-requires : (t : ℕ) → combine-lts.Need-make-requires (combine-claims t) (combine-at t) combine.Post
+combine-make-requires t c κs = (c .before .before .before .before .before .before .before .before .combine2 .ensures .0) .indexed
+
+combine-same-length-6 : (t : ℕ) → combine-lts.Need-same-length-6 (combine-claims t) (combine-at t) combine.Post
+combine-same-length-6 t c = search needs
+
+combine-same-length-7 : (t : ℕ) → combine-lts.Need-same-length-7 (combine-claims t) (combine-at t) combine.Post
+combine-same-length-7 t c = search needs
+
+combine-returns-4 : (t : ℕ) → combine-lts.Need-returns-4 (combine-claims t) (combine-at t) combine.Post
+combine-returns-4 t c = last-none (c .before .before .before .before .before .before .before .before .before .before .before .before .before .before .before .before .before .before .before .before .before .before .before .before .before .before .before .before .before .before .before .before .before .before .before .before .before .args .op) (c .before .before .before .before .before .before .before .before .before .before .before .before .before .before .before .before .before .before .before .before .before .before .before .before .before .before .before .before .before .before .before .before .before .before .before .before .before .pre .1 .0) (c .before .before .before .before .before .before .before .before .before .before .before .before .before .before .before .before .before .before .before .before .before .before .before .before .before .before .before .before .before .before .before .before .before .before .before .before .before .pre .1 .1 .1) (c .before .before .before .before .before .before .before .before .before .before .before .before .before .before .before .before .before .before .before .before .before .before .before .before .before .before .before .cut .ensures) (c .before .before .before .before .before .before .before .before .before .before .before .before .before .before .before .before .before .before .before .before .before .before .combine .ensures .0) (omega (arith, c .before .before .before .before .before .before .before .before .before .before .before .before .before .before .before .before .before .before .before .before .before .before .combine .ensures .0 .small, c .before .before .before .before .before .before .before .before .before .before .before .before .before .before .before .before .before .if2 .left)) (c .before .before .before .before .before .before .before .before .before .before .before .before .combine2 .ensures .0) (omega (arith, c .before .before .before .before .before .before .before .before .before .before .before .before .combine2 .ensures .0 .small, c .before .before .before .before .before .before .before .if3 .left)) (c .before .before .before .make .ensures) (c .if4 .taken)
+
+combine-mul-memo : (t : ℕ) → combine-lts.Need-mul-memo (combine-claims t) (combine-at t) combine.Post
+combine-mul-memo t c = omega (arith, packed-small (c .before .before .before .before .before .before .before .before .before .before .before .before .before .before .before .before .before .before .before .before .before .before .before .before .before .before .before .before .before .before .before .before .before .pack .ensures) (omega (arith, (c .before .before .before .before .before .before .before .before .before .before .before .before .before .before .before .before .before .before .before .before .before .before .before .before .before .before .before .before .before .before .before .before .before .before .before .before .before .pre .1 .1 .1) .0, (c .before .before .before .before .before .before .before .before .before .before .before .before .before .before .before .before .before .before .before .before .before .before .before .before .before .before .before .before .before .before .before .before .before .before .before .before .before .pre .1 .1 .1) .1, (c .before .before .before .before .before .before .before .before .before .before .before .before .before .before .before .before .before .before .before .before .before .before .before .before .before .before .before .before .before .before .before .before .before .before .before .before .before .pre .1 .0) .sound .few)) (omega (arith, (c .before .before .before .before .before .before .before .before .before .before .before .before .before .before .before .before .before .before .before .before .before .before .before .before .before .before .before .before .before .before .before .before .before .before .before .before .before .pre .1 .1 .1) .0, (c .before .before .before .before .before .before .before .before .before .before .before .before .before .before .before .before .before .before .before .before .before .before .before .before .before .before .before .before .before .before .before .before .before .before .before .before .before .pre .1 .1 .1) .1, (c .before .before .before .before .before .before .before .before .before .before .before .before .before .before .before .before .before .before .before .before .before .before .before .before .before .before .before .before .before .before .before .before .before .before .before .before .before .pre .1 .0) .sound .few)))
+
+combine-full-requires : (t : ℕ) → combine-lts.Need-full-requires (combine-claims t) (combine-at t) combine.Post
+combine-full-requires t c κs = search needs
+
+combine-add-memo : (t : ℕ) → combine-lts.Need-add-memo (combine-claims t) (combine-at t) combine.Post
+combine-add-memo t c = omega (arith, c .full .ensures, packed-small (c .before .before .before .before .before .before .before .before .before .before .before .before .before .before .before .before .before .before .before .before .before .before .before .before .before .before .before .before .before .before .before .before .before .before .pack .ensures) (omega (arith, (c .before .before .before .before .before .before .before .before .before .before .before .before .before .before .before .before .before .before .before .before .before .before .before .before .before .before .before .before .before .before .before .before .before .before .before .before .before .before .pre .1 .1 .1) .0, (c .before .before .before .before .before .before .before .before .before .before .before .before .before .before .before .before .before .before .before .before .before .before .before .before .before .before .before .before .before .before .before .before .before .before .before .before .before .before .pre .1 .1 .1) .1, (c .before .before .before .before .before .before .before .before .before .before .before .before .before .before .before .before .before .before .before .before .before .before .before .before .before .before .before .before .before .before .before .before .before .before .before .before .before .before .pre .1 .0) .sound .few)) (omega (arith, (c .before .before .before .before .before .before .before .before .before .before .before .before .before .before .before .before .before .before .before .before .before .before .before .before .before .before .before .before .before .before .before .before .before .before .before .before .before .before .pre .1 .1 .1) .0, (c .before .before .before .before .before .before .before .before .before .before .before .before .before .before .before .before .before .before .before .before .before .before .before .before .before .before .before .before .before .before .before .before .before .before .before .before .before .before .pre .1 .1 .1) .1, (c .before .before .before .before .before .before .before .before .before .before .before .before .before .before .before .before .before .before .before .before .before .before .before .before .before .before .before .before .before .before .before .before .before .before .before .before .before .before .pre .1 .0) .sound .few)))
+
+combine-mul-memo-2 : (t : ℕ) → combine-lts.Need-mul-memo-2 (combine-claims t) (combine-at t) combine.Post
+combine-mul-memo-2 t c = omega (arith, c .before .before .before .before .before .before .before .before .before .before .before .before .before .before .before .before .before .before .before .before .before .before .before .before .before .before .before .before .before .before .before .before .before .place .ensures, c .before .before .before .before .before .before .before .before .before .before .before .before .before .before .before .before .before .before .before .before .before .before .before .before .before .before .before .before .before .before .before .before .before .before .before .before .before .before .good .1 .1 .1 .1 .0 .1)
+
+combine-slice-write-memo : (t : ℕ) → combine-lts.Need-slice-write-memo (combine-claims t) (combine-at t) combine.Post
+combine-slice-write-memo t c = omega (arith, c .before .before .before .before .before .before .before .before .before .before .before .before .before .before .before .before .before .before .before .before .before .before .before .before .before .before .before .before .before .before .before .before .before .place .ensures, c .before .before .before .before .before .before .before .before .before .before .before .before .before .before .before .before .before .before .before .before .memo .given, c .before .before .before .before .before .before .before .before .before .before .memo2 .given)
+
+combine-same-length-8 : (t : ℕ) → combine-lts.Need-same-length-8 (combine-claims t) (combine-at t) combine.Post
+combine-same-length-8 t c = search needs
+
+combine-same-length-9 : (t : ℕ) → combine-lts.Need-same-length-9 (combine-claims t) (combine-at t) combine.Post
+combine-same-length-9 t c = simp length-set (c .before .before .before .before .before .before .before .before .before .before .memo2 .given ∙ c .before .before .before .before .before .before .before .before .before .before .before .before .before .before .before .before .before .before .before .before .memo .given)
+
+combine-returns-5 : (t : ℕ) → combine-lts.Need-returns-5 (combine-claims t) (combine-at t) combine.Post
+combine-returns-5 t c = last-stored (c .before .before .before .before .before .before .before .before .before .before .before .before .before .before .before .before .before .before .before .before .before .before .before .before .before .before .before .before .before .before .before .before .before .before .before .before .before .before .args .op) (c .before .before .before .before .before .before .before .before .before .before .before .before .before .before .before .before .before .before .before .before .before .before .before .before .before .before .before .before .before .before .before .before .before .before .before .before .before .before .pre .1 .0) (c .before .before .before .before .before .before .before .before .before .before .before .before .before .before .before .before .before .before .before .before .before .before .before .before .before .before .before .before .before .before .before .before .before .before .before .before .before .before .pre .1 .1 .1) (c .before .before .before .before .before .before .before .before .before .before .before .before .before .before .before .before .before .before .before .before .before .before .before .before .before .before .before .before .cut .ensures) (c .before .before .before .before .before .before .before .before .before .before .before .before .before .before .before .before .before .before .before .before .before .before .before .combine .ensures .0) (omega (arith, c .before .before .before .before .before .before .before .before .before .before .before .before .before .before .before .before .before .before .before .before .before .before .before .combine .ensures .0 .small, c .before .before .before .before .before .before .before .before .before .before .before .before .before .before .before .before .before .before .if2 .left)) (c .before .before .before .before .before .before .before .before .before .before .before .before .before .combine2 .ensures .0) (omega (arith, c .before .before .before .before .before .before .before .before .before .before .before .before .before .combine2 .ensures .0 .small, c .before .before .before .before .before .before .before .before .if3 .left)) (c .before .before .before .before .make .ensures) _ _ (c .before .before .before .before .before .before .before .before .before .before .before .before .before .before .before .before .before .before .before .before .before .before .before .before .before .before .before .before .before .before .before .before .before .before .pack .ensures) (omega (arith, c .before .before .before .before .before .before .before .before .before .before .before .before .before .before .before .before .before .before .before .before .before .before .before .before .before .before .before .before .before .before .before .before .before .place .ensures, c .before .before .before .before .before .before .before .before .before .before .before .before .before .before .before .before .before .before .before .before .memo .given, c .before .before .before .before .before .before .before .before .before .before .memo2 .given)) (omega (arith, c .full .ensures .0)) (c .before .before .before .before .before .before .before .before .before .before .before .before .before .combine2 .ensures .1 (omega (arith, c .before .before .before .before .before .before .before .before .before .before .before .before .before .combine2 .ensures .0 .small, c .before .before .before .before .before .before .before .before .if3 .left)))
 
 pub +combine-spec : {M : Type 1} → statement M
 +combine-spec = close μ-combine λ t. combine-lts.spec (
+  pack-reads.Asked,
+  pack-reads.Learnt,
   place-reads.Asked,
   place-reads.Learnt,
   ended-reads.Asked,
@@ -417,31 +139,34 @@ pub +combine-spec : {M : Type 1} → statement M
   combine.Post,
   make-reads.Asked,
   make-reads.Learnt,
-  pack-reads.Asked,
-  pack-reads.Learnt,
   full-reads.Asked,
   full-reads.Learnt,
 )
     (combine-at t)
     combine.Post
+    (combine-pack-requires t)
     (combine-place-requires t)
     (combine-ended-requires t)
+    (combine-same-length t)
     (combine-returns t)
     (combine-cut-requires t)
     (combine-combine-requires t)
-    (combine-same-length t)
+    (combine-same-length-2 t)
+    (combine-same-length-3 t)
     (combine-returns-2 t)
     (combine-combine-requires-2 t)
-    (combine-same-length-2 t)
+    (combine-same-length-4 t)
+    (combine-same-length-5 t)
     (combine-returns-3 t)
     (combine-make-requires t)
-    (combine-same-length-3 t)
+    (combine-same-length-6 t)
+    (combine-same-length-7 t)
     (combine-returns-4 t)
-    (combine-pack-requires t)
     (combine-mul-memo t)
     (combine-full-requires t)
     (combine-add-memo t)
     (combine-mul-memo-2 t)
-    (combine-element-write-memo t)
-    (combine-same-length-4 t)
+    (combine-slice-write-memo t)
+    (combine-same-length-8 t)
+    (combine-same-length-9 t)
     (combine-returns-5 t)

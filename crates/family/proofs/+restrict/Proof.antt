@@ -25,7 +25,9 @@ abbrev restrict-below : ℕ → In 5 restrict-kinds.ps
 restrict-below t =
     and 5 restrict-kinds.ps (falls 5 restrict-kinds.ps _<_ μ-restrict t) restrict.Pre
 
-restrict-soon-requires : (t : ℕ) → restrict-lts.Need-soon-requires (
+-- what the calls in restrict ask and ensure, where restrict's measure is t
+abbrev restrict-claims : ℕ → restrict-lts.Claims
+restrict-claims t = (
   soon-reads.Asked,
   soon-reads.Learnt,
   wide-reads.Asked,
@@ -34,367 +36,99 @@ restrict-soon-requires : (t : ℕ) → restrict-lts.Need-soon-requires (
   make-reads.Learnt,
   restrict-below t,
   restrict.Post,
-) (restrict-at t) restrict.Post
+)
+
+restrict-soon-requires : (t : ℕ) → restrict-lts.Need-soon-requires (restrict-claims t) (restrict-at t) restrict.Post
 restrict-soon-requires t c κs = (c .before .before .before .before .pre .1 .0 .sound, (c .before .before .before .before .pre .1 .0 .keys, (c .before .before .before .before .pre .1 .1 .0, c .before .before .before .before .pre .1 .1 .1)))
 
-restrict-same-length : (t : ℕ) → restrict-lts.Need-same-length (
-  soon-reads.Asked,
-  soon-reads.Learnt,
-  wide-reads.Asked,
-  wide-reads.Learnt,
-  make-reads.Asked,
-  make-reads.Learnt,
-  restrict-below t,
-  restrict.Post,
-) (restrict-at t) restrict.Post
+restrict-same-length : (t : ℕ) → restrict-lts.Need-same-length (restrict-claims t) (restrict-at t) restrict.Post
 restrict-same-length t c = search needs
 
-restrict-returns : (t : ℕ) → restrict-lts.Need-returns (
-  soon-reads.Asked,
-  soon-reads.Learnt,
-  wide-reads.Asked,
-  wide-reads.Learnt,
-  make-reads.Asked,
-  make-reads.Learnt,
-  restrict-below t,
-  restrict.Post,
-) (restrict-at t) restrict.Post
+restrict-returns : (t : ℕ) → restrict-lts.Need-returns (restrict-claims t) (restrict-at t) restrict.Post
 restrict-returns t c = soon-gives (c .before .before .before .before .before .before .pre .1 .0) (c .before .before .before .before .before .before .pre .1 .1 .0) (c .before .soon .ensures) (λ e. omega (arith, c .if1 .taken))
 
-restrict-wide-requires : (t : ℕ) → restrict-lts.Need-wide-requires (
-  soon-reads.Asked,
-  soon-reads.Learnt,
-  wide-reads.Asked,
-  wide-reads.Learnt,
-  make-reads.Asked,
-  make-reads.Learnt,
-  restrict-below t,
-  restrict.Post,
-) (restrict-at t) restrict.Post
+restrict-wide-requires : (t : ℕ) → restrict-lts.Need-wide-requires (restrict-claims t) (restrict-at t) restrict.Post
 restrict-wide-requires t c κs = search needs
 
-restrict-mul-w : (t : ℕ) → restrict-lts.Need-mul-w (
-  soon-reads.Asked,
-  soon-reads.Learnt,
-  wide-reads.Asked,
-  wide-reads.Learnt,
-  make-reads.Asked,
-  make-reads.Learnt,
-  restrict-below t,
-  restrict.Post,
-) (restrict-at t) restrict.Post
+restrict-mul-w : (t : ℕ) → restrict-lts.Need-mul-w (restrict-claims t) (restrict-at t) restrict.Post
 restrict-mul-w t c = search needs
 
-restrict-sub-w : (t : ℕ) → restrict-lts.Need-sub-w (
-  soon-reads.Asked,
-  soon-reads.Learnt,
-  wide-reads.Asked,
-  wide-reads.Learnt,
-  make-reads.Asked,
-  make-reads.Learnt,
-  restrict-below t,
-  restrict.Post,
-) (restrict-at t) restrict.Post
+restrict-sub-w : (t : ℕ) → restrict-lts.Need-sub-w (restrict-claims t) (restrict-at t) restrict.Post
 restrict-sub-w t c = omega (arith, c .before .before .before .before .before .before .before .pre .1 .0 .sound .room, c .wide .ensures, c .before .before .before .before .before .before .before .pre .1 .1 .1 .0, c .before .before .soon .ensures .branch (c .before .if1 .left))
 
-restrict-mul-label : (t : ℕ) → restrict-lts.Need-mul-label (
-  soon-reads.Asked,
-  soon-reads.Learnt,
-  wide-reads.Asked,
-  wide-reads.Learnt,
-  make-reads.Asked,
-  make-reads.Learnt,
-  restrict-below t,
-  restrict.Post,
-) (restrict-at t) restrict.Post
+restrict-mul-label : (t : ℕ) → restrict-lts.Need-mul-label (restrict-claims t) (restrict-at t) restrict.Post
 restrict-mul-label t c = omega (arith, c .before .before .before .before .before .before .before .pre .1 .0 .sound .room, c .wide .ensures, c .before .before .before .before .before .before .before .pre .1 .1 .1 .0, c .before .before .soon .ensures .branch (c .before .if1 .left))
 
-restrict-slice-read-label : (t : ℕ) → restrict-lts.Need-slice-read-label (
-  soon-reads.Asked,
-  soon-reads.Learnt,
-  wide-reads.Asked,
-  wide-reads.Learnt,
-  make-reads.Asked,
-  make-reads.Learnt,
-  restrict-below t,
-  restrict.Post,
-) (restrict-at t) restrict.Post
+restrict-slice-read-label : (t : ℕ) → restrict-lts.Need-slice-read-label (restrict-claims t) (restrict-at t) restrict.Post
 restrict-slice-read-label t c = omega (arith, c .before .before .before .before .before .before .before .before .pre .1 .0 .sound .room, c .before .wide .ensures, c .before .before .before .before .before .before .before .before .pre .1 .1 .1 .0, c .before .before .before .soon .ensures .branch (c .before .before .if1 .left))
 
-restrict-add-lo : (t : ℕ) → restrict-lts.Need-add-lo (
-  soon-reads.Asked,
-  soon-reads.Learnt,
-  wide-reads.Asked,
-  wide-reads.Learnt,
-  make-reads.Asked,
-  make-reads.Learnt,
-  restrict-below t,
-  restrict.Post,
-) (restrict-at t) restrict.Post
+restrict-add-lo : (t : ℕ) → restrict-lts.Need-add-lo (restrict-claims t) (restrict-at t) restrict.Post
 restrict-add-lo t c = omega (arith, c .before .before .before .before .before .before .before .before .pre .1 .0 .sound .room, c .before .wide .ensures, c .before .before .before .before .before .before .before .before .pre .1 .1 .1 .0, c .before .before .before .soon .ensures .branch (c .before .before .if1 .left))
 
-restrict-mul-lo : (t : ℕ) → restrict-lts.Need-mul-lo (
-  soon-reads.Asked,
-  soon-reads.Learnt,
-  wide-reads.Asked,
-  wide-reads.Learnt,
-  make-reads.Asked,
-  make-reads.Learnt,
-  restrict-below t,
-  restrict.Post,
-) (restrict-at t) restrict.Post
+restrict-mul-lo : (t : ℕ) → restrict-lts.Need-mul-lo (restrict-claims t) (restrict-at t) restrict.Post
 restrict-mul-lo t c = omega (arith, c .before .before .before .before .before .before .before .before .pre .1 .0 .sound .room, c .before .wide .ensures, c .before .before .before .before .before .before .before .before .pre .1 .1 .1 .0, c .before .before .before .soon .ensures .branch (c .before .before .if1 .left))
 
-restrict-slice-read-lo : (t : ℕ) → restrict-lts.Need-slice-read-lo (
-  soon-reads.Asked,
-  soon-reads.Learnt,
-  wide-reads.Asked,
-  wide-reads.Learnt,
-  make-reads.Asked,
-  make-reads.Learnt,
-  restrict-below t,
-  restrict.Post,
-) (restrict-at t) restrict.Post
+restrict-slice-read-lo : (t : ℕ) → restrict-lts.Need-slice-read-lo (restrict-claims t) (restrict-at t) restrict.Post
 restrict-slice-read-lo t c = omega (arith, c .before .before .before .before .before .before .before .before .before .pre .1 .0 .sound .room, c .before .before .wide .ensures, c .before .before .before .before .before .before .before .before .before .pre .1 .1 .1 .0, c .before .before .before .before .soon .ensures .branch (c .before .before .before .if1 .left))
 
-restrict-add-hi : (t : ℕ) → restrict-lts.Need-add-hi (
-  soon-reads.Asked,
-  soon-reads.Learnt,
-  wide-reads.Asked,
-  wide-reads.Learnt,
-  make-reads.Asked,
-  make-reads.Learnt,
-  restrict-below t,
-  restrict.Post,
-) (restrict-at t) restrict.Post
+restrict-add-hi : (t : ℕ) → restrict-lts.Need-add-hi (restrict-claims t) (restrict-at t) restrict.Post
 restrict-add-hi t c = omega (arith, c .before .before .before .before .before .before .before .before .before .pre .1 .0 .sound .room, c .before .before .wide .ensures, c .before .before .before .before .before .before .before .before .before .pre .1 .1 .1 .0, c .before .before .before .before .soon .ensures .branch (c .before .before .before .if1 .left))
 
-restrict-mul-hi : (t : ℕ) → restrict-lts.Need-mul-hi (
-  soon-reads.Asked,
-  soon-reads.Learnt,
-  wide-reads.Asked,
-  wide-reads.Learnt,
-  make-reads.Asked,
-  make-reads.Learnt,
-  restrict-below t,
-  restrict.Post,
-) (restrict-at t) restrict.Post
+restrict-mul-hi : (t : ℕ) → restrict-lts.Need-mul-hi (restrict-claims t) (restrict-at t) restrict.Post
 restrict-mul-hi t c = omega (arith, c .before .before .before .before .before .before .before .before .before .pre .1 .0 .sound .room, c .before .before .wide .ensures, c .before .before .before .before .before .before .before .before .before .pre .1 .1 .1 .0, c .before .before .before .before .soon .ensures .branch (c .before .before .before .if1 .left))
 
-restrict-slice-read-hi : (t : ℕ) → restrict-lts.Need-slice-read-hi (
-  soon-reads.Asked,
-  soon-reads.Learnt,
-  wide-reads.Asked,
-  wide-reads.Learnt,
-  make-reads.Asked,
-  make-reads.Learnt,
-  restrict-below t,
-  restrict.Post,
-) (restrict-at t) restrict.Post
+restrict-slice-read-hi : (t : ℕ) → restrict-lts.Need-slice-read-hi (restrict-claims t) (restrict-at t) restrict.Post
 restrict-slice-read-hi t c = omega (arith, c .before .before .before .before .before .before .before .before .before .before .pre .1 .0 .sound .room, c .before .before .before .wide .ensures, c .before .before .before .before .before .before .before .before .before .before .pre .1 .1 .1 .0, c .before .before .before .before .before .soon .ensures .branch (c .before .before .before .before .if1 .left))
 
-restrict-make-requires : (t : ℕ) → restrict-lts.Need-make-requires (
-  soon-reads.Asked,
-  soon-reads.Learnt,
-  wide-reads.Asked,
-  wide-reads.Learnt,
-  make-reads.Asked,
-  make-reads.Learnt,
-  restrict-below t,
-  restrict.Post,
-) (restrict-at t) restrict.Post
+restrict-make-requires : (t : ℕ) → restrict-lts.Need-make-requires (restrict-claims t) (restrict-at t) restrict.Post
 restrict-make-requires t c κs = c .before .before .before .before .before .before .before .before .before .before .before .before .before .before .pre .1 .0 .indexed
 
-restrict-same-length-2 : (t : ℕ) → restrict-lts.Need-same-length-2 (
-  soon-reads.Asked,
-  soon-reads.Learnt,
-  wide-reads.Asked,
-  wide-reads.Learnt,
-  make-reads.Asked,
-  make-reads.Learnt,
-  restrict-below t,
-  restrict.Post,
-) (restrict-at t) restrict.Post
+restrict-same-length-2 : (t : ℕ) → restrict-lts.Need-same-length-2 (restrict-claims t) (restrict-at t) restrict.Post
 restrict-same-length-2 t c = search needs
 
-restrict-returns-2 : (t : ℕ) → restrict-lts.Need-returns-2 (
-  soon-reads.Asked,
-  soon-reads.Learnt,
-  wide-reads.Asked,
-  wide-reads.Learnt,
-  make-reads.Asked,
-  make-reads.Learnt,
-  restrict-below t,
-  restrict.Post,
-) (restrict-at t) restrict.Post
+restrict-returns-2 : (t : ℕ) → restrict-lts.Need-returns-2 (restrict-claims t) (restrict-at t) restrict.Post
 restrict-returns-2 t c = own-gives (open-of (3 * c .before .before .before .before .before .before .before .before .before .before .wide .result - 5) (c .before .before .before .before .before .before .before .before .before .before .before .before .before .before .before .before .before .pre .1 .0) (c .before .before .before .before .before .before .before .before .before .before .before .before .before .before .before .before .before .pre .1 .1 .0) (c .before .before .before .before .before .before .before .before .before .before .before .before .before .before .before .before .before .pre .1 .1 .1) (c .before .before .before .before .before .before .before .before .before .before .before .before .soon .ensures) (c .before .before .before .before .before .before .before .before .before .before .before .if1 .left) (omega (arith, c .before .before .before .before .before .before .before .before .before .before .wide .ensures))) (c .before .before .before .before .before .before .if2 .taken) (c .before .before .make .ensures)
 
-restrict-restrict-requires : (t : ℕ) → restrict-lts.Need-restrict-requires (
-  soon-reads.Asked,
-  soon-reads.Learnt,
-  wide-reads.Asked,
-  wide-reads.Learnt,
-  make-reads.Asked,
-  make-reads.Learnt,
-  restrict-below t,
-  restrict.Post,
-) (restrict-at t) restrict.Post
+restrict-restrict-requires : (t : ℕ) → restrict-lts.Need-restrict-requires (restrict-claims t) (restrict-at t) restrict.Post
 restrict-restrict-requires t c κs = (omega (arith, c .before .before .before .before .before .before .before .before .before .before .before .before .before .before .before .pre .0, hi-falls (open-of (3 * c .before .before .before .before .before .before .before .before .wide .result - 5) (c .before .before .before .before .before .before .before .before .before .before .before .before .before .before .before .pre .1 .0) (c .before .before .before .before .before .before .before .before .before .before .before .before .before .before .before .pre .1 .1 .0) (c .before .before .before .before .before .before .before .before .before .before .before .before .before .before .before .pre .1 .1 .1) (c .before .before .before .before .before .before .before .before .before .before .soon .ensures) (c .before .before .before .before .before .before .before .before .before .if1 .left) (omega (arith, c .before .before .before .before .before .before .before .before .wide .ensures)))), (c .before .before .before .before .before .before .before .before .before .before .before .before .before .before .before .pre .1 .0, (c .before .before .before .before .before .before .before .before .before .before .before .before .before .before .before .pre .1 .1 .0, (hi-below (open-of (3 * c .before .before .before .before .before .before .before .before .wide .result - 5) (c .before .before .before .before .before .before .before .before .before .before .before .before .before .before .before .pre .1 .0) (c .before .before .before .before .before .before .before .before .before .before .before .before .before .before .before .pre .1 .1 .0) (c .before .before .before .before .before .before .before .before .before .before .before .before .before .before .before .pre .1 .1 .1) (c .before .before .before .before .before .before .before .before .before .before .soon .ensures) (c .before .before .before .before .before .before .before .before .before .if1 .left) (omega (arith, c .before .before .before .before .before .before .before .before .wide .ensures))), c .before .before .before .before .before .before .before .before .before .before .before .before .before .before .before .pre .1 .1 .1 .1))))
 
-restrict-same-length-3 : (t : ℕ) → restrict-lts.Need-same-length-3 (
-  soon-reads.Asked,
-  soon-reads.Learnt,
-  wide-reads.Asked,
-  wide-reads.Learnt,
-  make-reads.Asked,
-  make-reads.Learnt,
-  restrict-below t,
-  restrict.Post,
-) (restrict-at t) restrict.Post
+restrict-same-length-3 : (t : ℕ) → restrict-lts.Need-same-length-3 (restrict-claims t) (restrict-at t) restrict.Post
 restrict-same-length-3 t c = (c .before .before .before .restrict .ensures .0) .long
 
-restrict-returns-3 : (t : ℕ) → restrict-lts.Need-returns-3 (
-  soon-reads.Asked,
-  soon-reads.Learnt,
-  wide-reads.Asked,
-  wide-reads.Learnt,
-  make-reads.Asked,
-  make-reads.Learnt,
-  restrict-below t,
-  restrict.Post,
-) (restrict-at t) restrict.Post
+restrict-returns-3 : (t : ℕ) → restrict-lts.Need-returns-3 (restrict-claims t) (restrict-at t) restrict.Post
 restrict-returns-3 t c = hi-none (open-of (3 * c .before .before .before .before .before .before .before .before .before .before .before .before .wide .result - 5) (c .before .before .before .before .before .before .before .before .before .before .before .before .before .before .before .before .before .before .before .pre .1 .0) (c .before .before .before .before .before .before .before .before .before .before .before .before .before .before .before .before .before .before .before .pre .1 .1 .0) (c .before .before .before .before .before .before .before .before .before .before .before .before .before .before .before .before .before .before .before .pre .1 .1 .1) (c .before .before .before .before .before .before .before .before .before .before .before .before .before .before .soon .ensures) (c .before .before .before .before .before .before .before .before .before .before .before .before .before .if1 .left) (omega (arith, c .before .before .before .before .before .before .before .before .before .before .before .before .wide .ensures))) (λ e. omega (arith, c .before .before .before .before .before .before .before .before .if2 .left)) (c .before .before .before .restrict .ensures .0) (c .if3 .taken)
 
-restrict-restrict-requires-2 : (t : ℕ) → restrict-lts.Need-restrict-requires-2 (
-  soon-reads.Asked,
-  soon-reads.Learnt,
-  wide-reads.Asked,
-  wide-reads.Learnt,
-  make-reads.Asked,
-  make-reads.Learnt,
-  restrict-below t,
-  restrict.Post,
-) (restrict-at t) restrict.Post
+restrict-restrict-requires-2 : (t : ℕ) → restrict-lts.Need-restrict-requires-2 (restrict-claims t) (restrict-at t) restrict.Post
 restrict-restrict-requires-2 t c κs = (omega (arith, c .before .before .before .before .before .before .before .before .before .before .before .before .before .before .before .before .before .before .before .before .before .before .before .pre .0, lo-falls (open-of (3 * c .before .before .before .before .before .before .before .before .before .before .before .before .before .before .before .before .wide .result - 5) (c .before .before .before .before .before .before .before .before .before .before .before .before .before .before .before .before .before .before .before .before .before .before .before .pre .1 .0) (c .before .before .before .before .before .before .before .before .before .before .before .before .before .before .before .before .before .before .before .before .before .before .before .pre .1 .1 .0) (c .before .before .before .before .before .before .before .before .before .before .before .before .before .before .before .before .before .before .before .before .before .before .before .pre .1 .1 .1) (c .before .before .before .before .before .before .before .before .before .before .before .before .before .before .before .before .before .before .soon .ensures) (c .before .before .before .before .before .before .before .before .before .before .before .before .before .before .before .before .before .if1 .left) (omega (arith, c .before .before .before .before .before .before .before .before .before .before .before .before .before .before .before .before .wide .ensures)))), (hi-ready (open-of (3 * c .before .before .before .before .before .before .before .before .before .before .before .before .before .before .before .before .wide .result - 5) (c .before .before .before .before .before .before .before .before .before .before .before .before .before .before .before .before .before .before .before .before .before .before .before .pre .1 .0) (c .before .before .before .before .before .before .before .before .before .before .before .before .before .before .before .before .before .before .before .before .before .before .before .pre .1 .1 .0) (c .before .before .before .before .before .before .before .before .before .before .before .before .before .before .before .before .before .before .before .before .before .before .before .pre .1 .1 .1) (c .before .before .before .before .before .before .before .before .before .before .before .before .before .before .before .before .before .before .soon .ensures) (c .before .before .before .before .before .before .before .before .before .before .before .before .before .before .before .before .before .if1 .left) (omega (arith, c .before .before .before .before .before .before .before .before .before .before .before .before .before .before .before .before .wide .ensures))) (λ e. omega (arith, c .before .before .before .before .before .before .before .before .before .before .before .before .if2 .left)) (c .before .before .before .before .before .before .before .restrict .ensures .0), (c .before .before .before .before .before .before .before .restrict .ensures .1 (omega (arith, c .before .before .before .before .before .before .before .restrict .ensures .0 .small, c .before .before .before .before .if3 .left)), (lo-below (open-of (3 * c .before .before .before .before .before .before .before .before .before .before .before .before .before .before .before .before .wide .result - 5) (c .before .before .before .before .before .before .before .before .before .before .before .before .before .before .before .before .before .before .before .before .before .before .before .pre .1 .0) (c .before .before .before .before .before .before .before .before .before .before .before .before .before .before .before .before .before .before .before .before .before .before .before .pre .1 .1 .0) (c .before .before .before .before .before .before .before .before .before .before .before .before .before .before .before .before .before .before .before .before .before .before .before .pre .1 .1 .1) (c .before .before .before .before .before .before .before .before .before .before .before .before .before .before .before .before .before .before .soon .ensures) (c .before .before .before .before .before .before .before .before .before .before .before .before .before .before .before .before .before .if1 .left) (omega (arith, c .before .before .before .before .before .before .before .before .before .before .before .before .before .before .before .before .wide .ensures))) (λ e. omega (arith, c .before .before .before .before .before .before .before .before .before .before .before .before .if2 .left)) (c .before .before .before .before .before .before .before .restrict .ensures .0) (omega (arith, c .before .before .before .before .before .before .before .restrict .ensures .0 .small, c .before .before .before .before .if3 .left)), c .before .before .before .before .before .before .before .before .before .before .before .before .before .before .before .before .before .before .before .before .before .before .before .pre .1 .1 .1 .1))))
 
-restrict-same-length-4 : (t : ℕ) → restrict-lts.Need-same-length-4 (
-  soon-reads.Asked,
-  soon-reads.Learnt,
-  wide-reads.Asked,
-  wide-reads.Learnt,
-  make-reads.Asked,
-  make-reads.Learnt,
-  restrict-below t,
-  restrict.Post,
-) (restrict-at t) restrict.Post
+restrict-same-length-4 : (t : ℕ) → restrict-lts.Need-same-length-4 (restrict-claims t) (restrict-at t) restrict.Post
 restrict-same-length-4 t c = (c .before .before .before .restrict2 .ensures .0) .long ∙ (c .before .before .before .before .before .before .before .before .before .before .before .restrict .ensures .0) .long
 
-restrict-returns-4 : (t : ℕ) → restrict-lts.Need-returns-4 (
-  soon-reads.Asked,
-  soon-reads.Learnt,
-  wide-reads.Asked,
-  wide-reads.Learnt,
-  make-reads.Asked,
-  make-reads.Learnt,
-  restrict-below t,
-  restrict.Post,
-) (restrict-at t) restrict.Post
+restrict-returns-4 : (t : ℕ) → restrict-lts.Need-returns-4 (restrict-claims t) (restrict-at t) restrict.Post
 restrict-returns-4 t c = lo-none (open-of (3 * c .before .before .before .before .before .before .before .before .before .before .before .before .before .before .before .before .before .before .before .before .wide .result - 5) (c .before .before .before .before .before .before .before .before .before .before .before .before .before .before .before .before .before .before .before .before .before .before .before .before .before .before .before .pre .1 .0) (c .before .before .before .before .before .before .before .before .before .before .before .before .before .before .before .before .before .before .before .before .before .before .before .before .before .before .before .pre .1 .1 .0) (c .before .before .before .before .before .before .before .before .before .before .before .before .before .before .before .before .before .before .before .before .before .before .before .before .before .before .before .pre .1 .1 .1) (c .before .before .before .before .before .before .before .before .before .before .before .before .before .before .before .before .before .before .before .before .before .before .soon .ensures) (c .before .before .before .before .before .before .before .before .before .before .before .before .before .before .before .before .before .before .before .before .before .if1 .left) (omega (arith, c .before .before .before .before .before .before .before .before .before .before .before .before .before .before .before .before .before .before .before .before .wide .ensures))) (λ e. omega (arith, c .before .before .before .before .before .before .before .before .before .before .before .before .before .before .before .before .if2 .left)) (c .before .before .before .before .before .before .before .before .before .before .before .restrict .ensures .0) (omega (arith, c .before .before .before .before .before .before .before .before .before .before .before .restrict .ensures .0 .small, c .before .before .before .before .before .before .before .before .if3 .left)) (c .before .before .before .restrict2 .ensures .0) (c .if4 .taken)
 
-restrict-make-requires-2 : (t : ℕ) → restrict-lts.Need-make-requires-2 (
-  soon-reads.Asked,
-  soon-reads.Learnt,
-  wide-reads.Asked,
-  wide-reads.Learnt,
-  make-reads.Asked,
-  make-reads.Learnt,
-  restrict-below t,
-  restrict.Post,
-) (restrict-at t) restrict.Post
+restrict-make-requires-2 : (t : ℕ) → restrict-lts.Need-make-requires-2 (restrict-claims t) (restrict-at t) restrict.Post
 restrict-make-requires-2 t c κs = (c .before .before .before .before .before .before .restrict2 .ensures .0) .indexed
 
-restrict-same-length-5 : (t : ℕ) → restrict-lts.Need-same-length-5 (
-  soon-reads.Asked,
-  soon-reads.Learnt,
-  wide-reads.Asked,
-  wide-reads.Learnt,
-  make-reads.Asked,
-  make-reads.Learnt,
-  restrict-below t,
-  restrict.Post,
-) (restrict-at t) restrict.Post
+restrict-same-length-5 : (t : ℕ) → restrict-lts.Need-same-length-5 (restrict-claims t) (restrict-at t) restrict.Post
 restrict-same-length-5 t c = search needs
 
-restrict-returns-5 : (t : ℕ) → restrict-lts.Need-returns-5 (
-  soon-reads.Asked,
-  soon-reads.Learnt,
-  wide-reads.Asked,
-  wide-reads.Learnt,
-  make-reads.Asked,
-  make-reads.Learnt,
-  restrict-below t,
-  restrict.Post,
-) (restrict-at t) restrict.Post
+restrict-returns-5 : (t : ℕ) → restrict-lts.Need-returns-5 (restrict-claims t) (restrict-at t) restrict.Post
 restrict-returns-5 t c = last-none (open-of (3 * c .before .before .before .before .before .before .before .before .before .before .before .before .before .before .before .before .before .before .before .before .before .before .before .before .before .before .before .wide .result - 5) (c .before .before .before .before .before .before .before .before .before .before .before .before .before .before .before .before .before .before .before .before .before .before .before .before .before .before .before .before .before .before .before .before .before .before .pre .1 .0) (c .before .before .before .before .before .before .before .before .before .before .before .before .before .before .before .before .before .before .before .before .before .before .before .before .before .before .before .before .before .before .before .before .before .before .pre .1 .1 .0) (c .before .before .before .before .before .before .before .before .before .before .before .before .before .before .before .before .before .before .before .before .before .before .before .before .before .before .before .before .before .before .before .before .before .before .pre .1 .1 .1) (c .before .before .before .before .before .before .before .before .before .before .before .before .before .before .before .before .before .before .before .before .before .before .before .before .before .before .before .before .before .soon .ensures) (c .before .before .before .before .before .before .before .before .before .before .before .before .before .before .before .before .before .before .before .before .before .before .before .before .before .before .before .before .if1 .left) (omega (arith, c .before .before .before .before .before .before .before .before .before .before .before .before .before .before .before .before .before .before .before .before .before .before .before .before .before .before .before .wide .ensures))) (λ e. omega (arith, c .before .before .before .before .before .before .before .before .before .before .before .before .before .before .before .before .before .before .before .before .before .before .before .if2 .left)) (c .before .before .before .before .before .before .before .before .before .before .before .before .before .before .before .before .before .before .restrict .ensures .0) (omega (arith, c .before .before .before .before .before .before .before .before .before .before .before .before .before .before .before .before .before .before .restrict .ensures .0 .small, c .before .before .before .before .before .before .before .before .before .before .before .before .before .before .before .if3 .left)) (c .before .before .before .before .before .before .before .before .before .before .restrict2 .ensures .0) (omega (arith, c .before .before .before .before .before .before .before .before .before .before .restrict2 .ensures .0 .small, c .before .before .before .before .before .before .before .if4 .left)) (c .before .before .before .make2 .ensures) (c .if5 .taken)
 
-restrict-add-memo : (t : ℕ) → restrict-lts.Need-add-memo (
-  soon-reads.Asked,
-  soon-reads.Learnt,
-  wide-reads.Asked,
-  wide-reads.Learnt,
-  make-reads.Asked,
-  make-reads.Learnt,
-  restrict-below t,
-  restrict.Post,
-) (restrict-at t) restrict.Post
+restrict-add-memo : (t : ℕ) → restrict-lts.Need-add-memo (restrict-claims t) (restrict-at t) restrict.Post
 restrict-add-memo t c = omega (arith, last-small (open-of (3 * c .before .before .before .before .before .before .before .before .before .before .before .before .before .before .before .before .before .before .before .before .before .before .before .before .before .before .before .wide .result - 5) (c .before .before .before .before .before .before .before .before .before .before .before .before .before .before .before .before .before .before .before .before .before .before .before .before .before .before .before .before .before .before .before .before .before .before .pre .1 .0) (c .before .before .before .before .before .before .before .before .before .before .before .before .before .before .before .before .before .before .before .before .before .before .before .before .before .before .before .before .before .before .before .before .before .before .pre .1 .1 .0) (c .before .before .before .before .before .before .before .before .before .before .before .before .before .before .before .before .before .before .before .before .before .before .before .before .before .before .before .before .before .before .before .before .before .before .pre .1 .1 .1) (c .before .before .before .before .before .before .before .before .before .before .before .before .before .before .before .before .before .before .before .before .before .before .before .before .before .before .before .before .before .soon .ensures) (c .before .before .before .before .before .before .before .before .before .before .before .before .before .before .before .before .before .before .before .before .before .before .before .before .before .before .before .before .if1 .left) (omega (arith, c .before .before .before .before .before .before .before .before .before .before .before .before .before .before .before .before .before .before .before .before .before .before .before .before .before .before .before .wide .ensures))) (λ e. omega (arith, c .before .before .before .before .before .before .before .before .before .before .before .before .before .before .before .before .before .before .before .before .before .before .before .if2 .left)) (c .before .before .before .before .before .before .before .before .before .before .before .before .before .before .before .before .before .before .restrict .ensures .0) (omega (arith, c .before .before .before .before .before .before .before .before .before .before .before .before .before .before .before .before .before .before .restrict .ensures .0 .small, c .before .before .before .before .before .before .before .before .before .before .before .before .before .before .before .if3 .left)) (c .before .before .before .before .before .before .before .before .before .before .restrict2 .ensures .0) (omega (arith, c .before .before .before .before .before .before .before .before .before .before .restrict2 .ensures .0 .small, c .before .before .before .before .before .before .before .if4 .left)) (c .before .before .before .make2 .ensures))
 
-restrict-mul-memo : (t : ℕ) → restrict-lts.Need-mul-memo (
-  soon-reads.Asked,
-  soon-reads.Learnt,
-  wide-reads.Asked,
-  wide-reads.Learnt,
-  make-reads.Asked,
-  make-reads.Learnt,
-  restrict-below t,
-  restrict.Post,
-) (restrict-at t) restrict.Post
+restrict-mul-memo : (t : ℕ) → restrict-lts.Need-mul-memo (restrict-claims t) (restrict-at t) restrict.Post
 restrict-mul-memo t c = omega (arith, c .before .before .before .before .before .before .before .before .before .before .before .before .before .before .before .before .before .before .before .before .before .before .before .before .before .before .before .wide .ensures, c .before .before .before .before .before .before .before .before .before .before .before .before .before .before .before .before .before .before .before .before .before .before .before .before .before .before .before .before .before .before .before .before .before .before .pre .1 .1 .1 .0, c .before .before .before .before .before .before .before .before .before .before .before .before .before .before .before .before .before .before .before .before .before .before .before .before .before .before .before .before .before .before .before .before .before .before .pre .1 .0 .sound .few)
 
-restrict-element-write-memo : (t : ℕ) → restrict-lts.Need-element-write-memo (
-  soon-reads.Asked,
-  soon-reads.Learnt,
-  wide-reads.Asked,
-  wide-reads.Learnt,
-  make-reads.Asked,
-  make-reads.Learnt,
-  restrict-below t,
-  restrict.Post,
-) (restrict-at t) restrict.Post
+restrict-element-write-memo : (t : ℕ) → restrict-lts.Need-element-write-memo (restrict-claims t) (restrict-at t) restrict.Post
 restrict-element-write-memo t c = omega (arith, c .before .before .before .before .before .before .before .before .before .before .before .before .before .before .before .before .before .before .before .before .before .before .before .before .before .before .before .wide .ensures, c .before .before .before .before .before .before .before .before .before .before .before .before .before .before .before .before .before .before .before .before .before .before .before .before .before .before .before .before .before .before .before .before .before .before .pre .1 .1 .1 .0, c .before .before .before .before .before .before .before .before .before .before .before .before .before .before .before .before .before .before .before .before .before .before .before .before .before .before .before .before .before .before .before .before .before .before .pre .1 .0 .sound .few)
 
-restrict-same-length-6 : (t : ℕ) → restrict-lts.Need-same-length-6 (
-  soon-reads.Asked,
-  soon-reads.Learnt,
-  wide-reads.Asked,
-  wide-reads.Learnt,
-  make-reads.Asked,
-  make-reads.Learnt,
-  restrict-below t,
-  restrict.Post,
-) (restrict-at t) restrict.Post
+restrict-same-length-6 : (t : ℕ) → restrict-lts.Need-same-length-6 (restrict-claims t) (restrict-at t) restrict.Post
 restrict-same-length-6 t c = search needs
 
-restrict-returns-6 : (t : ℕ) → restrict-lts.Need-returns-6 (
-  soon-reads.Asked,
-  soon-reads.Learnt,
-  wide-reads.Asked,
-  wide-reads.Learnt,
-  make-reads.Asked,
-  make-reads.Learnt,
-  restrict-below t,
-  restrict.Post,
-) (restrict-at t) restrict.Post
+restrict-returns-6 : (t : ℕ) → restrict-lts.Need-returns-6 (restrict-claims t) (restrict-at t) restrict.Post
 restrict-returns-6 t c = last-stored (open-of (3 * c .before .before .before .before .before .before .before .before .before .before .before .before .before .before .before .before .before .before .before .before .before .before .before .before .before .before .before .wide .result - 5) (c .before .before .before .before .before .before .before .before .before .before .before .before .before .before .before .before .before .before .before .before .before .before .before .before .before .before .before .before .before .before .before .before .before .before .pre .1 .0) (c .before .before .before .before .before .before .before .before .before .before .before .before .before .before .before .before .before .before .before .before .before .before .before .before .before .before .before .before .before .before .before .before .before .before .pre .1 .1 .0) (c .before .before .before .before .before .before .before .before .before .before .before .before .before .before .before .before .before .before .before .before .before .before .before .before .before .before .before .before .before .before .before .before .before .before .pre .1 .1 .1) (c .before .before .before .before .before .before .before .before .before .before .before .before .before .before .before .before .before .before .before .before .before .before .before .before .before .before .before .before .before .soon .ensures) (c .before .before .before .before .before .before .before .before .before .before .before .before .before .before .before .before .before .before .before .before .before .before .before .before .before .before .before .before .if1 .left) (omega (arith, c .before .before .before .before .before .before .before .before .before .before .before .before .before .before .before .before .before .before .before .before .before .before .before .before .before .before .before .wide .ensures))) (λ e. omega (arith, c .before .before .before .before .before .before .before .before .before .before .before .before .before .before .before .before .before .before .before .before .before .before .before .if2 .left)) (c .before .before .before .before .before .before .before .before .before .before .before .before .before .before .before .before .before .before .restrict .ensures .0) (omega (arith, c .before .before .before .before .before .before .before .before .before .before .before .before .before .before .before .before .before .before .restrict .ensures .0 .small, c .before .before .before .before .before .before .before .before .before .before .before .before .before .before .before .if3 .left)) (c .before .before .before .before .before .before .before .before .before .before .restrict2 .ensures .0) (omega (arith, c .before .before .before .before .before .before .before .before .before .before .restrict2 .ensures .0 .small, c .before .before .before .before .before .before .before .if4 .left)) (c .before .before .before .make2 .ensures) _ _ (c .before .before .before .before .before .before .before .before .before .before .before .before .before .before .before .before .before .before .before .before .before .before .before .before .before .before .before .wide .ensures) refl (c .before .before .before .before .before .before .before .before .before .before .restrict2 .ensures .1 (omega (arith, c .before .before .before .before .before .before .before .before .before .before .restrict2 .ensures .0 .small, c .before .before .before .before .before .before .before .if4 .left)))
 
 pub +restrict-spec : {M : Type 1} → statement M

@@ -1,4 +1,3 @@
-use mathlib.Core.Path.{_∙_}
 use native.Mathlib.Omega.{arith}
 use Rattle.family.proofs.CombineLaws.{ends-left-union, ends-left, ends-right-inter, ends-right, ends-both, ends-both-differ, ends-known, ends-open}
 use borrow.Author.Needs.{needs}
@@ -26,20 +25,17 @@ returns-6 c = ends-both-differ _ _ _ _ (c .before .if5 .taken) (omega (arith, c 
 mul-e : tie.Need-mul-e
 mul-e c = search needs
 
-element-copy-out-e : tie.Need-element-copy-out-e
-element-copy-out-e c = search needs
-
-pack-requires : tie.Need-pack-requires
-pack-requires c κs = search needs
+shared-slice-read-e : tie.Need-shared-slice-read-e
+shared-slice-read-e c = search needs
 
 cast-result : tie.Need-cast-result
 cast-result c = search needs
 
 returns-7 : tie.Need-returns-7
-returns-7 c = ends-known _ _ _ _ (c .before .before .before .before .before .before .args .at) (c .if7 .taken ∙ c .before .pack .ensures) (omega (arith, c .before .before .before .before .before .if1 .left))
+returns-7 c = ends-known _ _ _ _ (c .before .before .before .before .before .args .at) (c .before .before .before .before .before .pre .1) (c .if7 .taken) (omega (arith, c .before .before .before .before .if1 .left)) (omega (arith, c .before .before .before .if3 .left))
 
 returns-8 : tie.Need-returns-8
-returns-8 c = ends-open _ _ _ _ (record { some = omega (arith, c .before .before .before .before .before .if1 .left); other = omega (arith, c .before .before .before .before .if3 .left); differ = λ e. omega (arith, c .before .before .before .if5 .left) })
+returns-8 c = ends-open _ _ _ _ (record { some = omega (arith, c .before .before .before .before .if1 .left); other = omega (arith, c .before .before .before .if3 .left); differ = λ e. omega (arith, c .before .before .if5 .left) })
 
 pub ended-spec : {M : Type 1} → statement M
 ended-spec =
@@ -52,8 +48,7 @@ ended-spec =
     returns-5
     returns-6
     mul-e
-    element-copy-out-e
-    pack-requires
+    shared-slice-read-e
     cast-result
     returns-7
     returns-8)
