@@ -1,104 +1,32 @@
 -- THE THIRD DEMAND, from the contracts. Assumes nothing.
 use mathlib.Core.Path.{_≡_, refl, sym, ap, ap₂, _∙_, subst, subst⁻¹}
 use mathlib.Core.Logic.{_⊎_, inl, inr, _↔_, ⊎-elim}
-use mathlib.Core.Bool.{Bool, true, false, cond, not, _&&_, _||_}
-use mathlib.Core.List.{List, [], _∷_, _++_, map, List·Memᴰ, List·Memᴰ·head, List·Memᴰ·tail, List·Memᴰ·cases-cons, List·Memᴰ·not-nil}
-use Prim.Native.Nat.{ℕ, zero, suc, _+_, _/_, _≤_, _<_}
-use native.Mathlib.Nat.{not-suc-le-zero, eq-zero-or-pos}
+use mathlib.Core.Bool.{Bool, true, false, cond, not, _&&_}
+use mathlib.Core.List.{List, [], _∷_, List·Memᴰ·head, List·Memᴰ·tail, List·Memᴰ·cases-cons, List·Memᴰ·not-nil}
+use Prim.Native.Nat.{ℕ, zero, suc, _+_, _≤_, _<_}
+use native.Mathlib.Nat.{not-suc-le-zero}
 use native.Mathlib.Omega.{arith}
 use lib.Dec.{eqb}
-use lib.ListN.{length, getD, take, drop, replicate, take-append-drop}
-use borrow.Author.Tests.{eqb-true, eqb-false, eq-eqb, ne-eqb, le-ltb, lt-leb, le-leb, lt-ltb}
-use Rattle.base.proofs.Bools.{cases, and-left}
-use Rattle.zdd.specs.Table.{Node, Family, blank, join, count, nodesOf, triples, family, sets, allSets, order, elem, filter, soundb, Nodes, Sound, has, _∈_}
-use Rattle.zdd.specs.Operations.{combine, including, excluding}
-use Rattle.zdd.proofs.Grow.{family-append, family-zero, family-one}
+use lib.ListN.{length, replicate}
+use borrow.Author.Tests.{eqb-true, eqb-false, le-ltb, lt-leb, le-leb}
+use Rattle.base.proofs.Bools.{cases}
+use Rattle.zdd.specs.Table.{Node, Family, join, count, nodesOf, triples, sets, allSets, order, elem, filter, soundb, Nodes, _∈_}
+use Rattle.zdd.proofs.Grow.{family-zero, family-one}
 use Rattle.zdd.proofs.Canon.{canonical}
 use Rattle.zdd.proofs.Words.{length-nodes}
 use Rattle.zdd.proofs.Tested.{sound-of}
 use Rattle.zdd.proofs.Listing.{filter-same, filter-none, elem-filter}
-use Rattle.exact_cover.specs.Cover.{keysOf, covers, covering}
-use Rattle.exact_cover.specs.Steps.{steps}
+use Rattle.exact_cover.specs.Cover.{keysOf}
 use Rattle.statement.specs.declared.Report.{Report}
 use Rattle.statement.specs.declared.Picked.{Picked}
-use Rattle.statement.specs.Replies.{Reply, refused, gives, reply, outcomeReply, pickReply}
-use Rattle.query.specs.Questions.{familyAt, nth, unknownPackage}
-use Rattle.statement.specs.Refusals.{firstOf, oversize, stray, unsound, unknownAnswer, unknownItem, shortWork, spent, full, uncountable, pastEnd, shortPage, coverRefusal, pairRefusal, packageRefusal, pickRefusal}
-use Rattle.statement.specs.Postconditions.{Declined, Answered, Makes, PickPost, written}
-use Rattle.history.specs.Histories.{Call, cover, either, both, only, «with», without, itemsOf, operands, Step, Calls, give, given, Allowed, History, start, next, Chosen, listing, SameSet, noTimetable, emptyTimetable, makes, Posting, latest, post, ledger, countIn, answeredWith, Returns, Refuses, Demanded, Demand3}
-use Rattle.statement.proofs.FirstOf.{pass, hit, none, passed}
+use Rattle.statement.specs.Replies.{Reply, refused, gives, reply, outcomeReply}
+use Rattle.query.specs.Questions.{familyAt, nth}
+use Rattle.statement.specs.Refusals.{firstOf, unsound, unknownAnswer, shortWork, uncountable, pastEnd, shortPage, pickRefusal}
+use Rattle.statement.specs.Postconditions.{Answered, Makes, PickPost, written}
+use Rattle.history.specs.Histories.{Call, cover, either, both, only, «with», without, itemsOf, operands, Calls, give, given, Allowed, History, start, next, Chosen, listing, SameSet, noTimetable, emptyTimetable, makes, Posting, latest, post, ledger, countIn, answeredWith, Returns, Refuses, Demand3}
+use Rattle.statement.proofs.FirstOf.{pass, hit, none}
 use Rattle.statement.proofs.Kept.{keeps, grows}
-
--- ---- a call's contract, the same way for all six
-
-refusalOf : (S t : List ℕ) → Call → ℕ
-refusalOf S t (cover m d limit words) = coverRefusal S m t d limit words
-refusalOf S t (either m a b words) = pairRefusal S m t a b (combine _||_ (keysOf S) (familyAt t a) (familyAt t b)) words
-refusalOf S t (both m a b words) = pairRefusal S m t a b (combine _&&_ (keysOf S) (familyAt t a) (familyAt t b)) words
-refusalOf S t (only m a b words) = pairRefusal S m t a b (combine (λ x y. x && not y) (keysOf S) (familyAt t a) (familyAt t b)) words
-refusalOf S t («with» m a p words) = packageRefusal S m t a p (including (keysOf S) p (familyAt t a)) words
-refusalOf S t (without m a p words) = packageRefusal S m t a p (excluding (keysOf S) p (familyAt t a)) words
-
-stepsOf : List ℕ → Call → ℕ
-stepsOf S (cover m d limit words) = steps S (words / 2) d
-stepsOf S (either m a b words) = 0
-stepsOf S (both m a b words) = 0
-stepsOf S (only m a b words) = 0
-stepsOf S («with» m a p words) = 0
-stepsOf S (without m a p words) = 0
-
--- the set that the call makes, from the families that the table holds
-abbrev made : (S t : List ℕ) → Call → Chosen
-made S t c = makes S (λ x s. elem s (familyAt t x)) c
-
-step-makes : (S t : List ℕ) (c : Call) (r : Report) (t′ : List ℕ) → Step S t c r t′
-    → Makes (keysOf S) (refusalOf S t c) (listing S (made S t c)) (stepsOf S c) t r t′
-unfolding refusalOf stepsOf covering combine including excluding
-step-makes S t (cover m d limit words) r t′ p = p
-step-makes S t (either m a b words) r t′ p = p
-step-makes S t (both m a b words) r t′ p = p
-step-makes S t (only m a b words) r t′ p = p
-step-makes S t («with» m a p words) r t′ q = q
-step-makes S t (without m a p words) r t′ q = q
-
--- no refusal: M and the packages pass the first two tests
-Fit : ℕ → List ℕ → Type 0
-Fit m S = (oversize m S ≡ false) × (stray m S ≡ false)
-
-fit-two : (m : ℕ) (S : List ℕ) (ts : List (Bool × ℕ)) → firstOf ((oversize m S, 1) ∷ (stray m S, 2) ∷ ts) ≡ 0 → Fit m S
-unfolding Fit
-fit-two m S ts e =
-    let a = passed (oversize m S) 0 ((stray m S, 2) ∷ ts) e in
-    let b = passed (stray m S) 1 ts (a .1) in
-    (a .0, b .0)
-
-fit-call : (S t : List ℕ) (c : Call) → refusalOf S t c ≡ 0 → Fit (itemsOf c) S
-unfolding refusalOf coverRefusal pairRefusal packageRefusal
-fit-call S t (cover m d limit words) e = fit-two m S _ e
-fit-call S t (either m a b words) e = fit-two m S _ e
-fit-call S t (both m a b words) e = fit-two m S _ e
-fit-call S t (only m a b words) e = fit-two m S _ e
-fit-call S t («with» m a p words) e = fit-two m S _ e
-fit-call S t (without m a p words) e = fit-two m S _ e
-
-not-both : (o : Reply ℕ) (n a : ℕ) → o ≡ refused n → o ≡ gives a → ⊥
-not-both o n a p q = let z : _≡_ {A = ℕ} 0 1 = cc in omega arith
-
-gives-one : (o : Reply ℕ) (a b : ℕ) → o ≡ gives a → o ≡ gives b → a ≡ b
-gives-one o a b p q = cc
-
--- a call that answers is not refused
-no-refusal : {K : List ℕ} {n s a : ℕ} {F : Family} {t t′ : List ℕ} {r : Report} → Makes K n F s t r t′ → outcomeReply (r .outcome) ≡ gives a → n ≡ 0
-no-refusal {K} {n} {s} {a} {F} {t} {t′} {r} p e =
-    ⊎-elim (λ (z : n ≡ 0). z) (λ (l : 0 < n). absurd (not-both (outcomeReply (r .outcome)) n a (p .declined l .outcome) e)) (eq-zero-or-pos n)
-
--- a refused call is
-refusal : {K : List ℕ} {n s e : ℕ} {F : Family} {t t′ : List ℕ} {r : Report} → Makes K n F s t r t′ → outcomeReply (r .outcome) ≡ refused e → t′ ≡ t
-refusal {K} {n} {s} {e} {F} {t} {t′} {r} p q =
-    ⊎-elim
-    (λ (z : n ≡ 0). absurd (not-both (outcomeReply (r .outcome)) e (p .answered z .number) q (p .answered z .outcome)))
-    (λ (l : 0 < n). p .declined l .table)
-    (eq-zero-or-pos n)
+use Rattle.history.proofs.Contract.{refusalOf, stepsOf, made, step-makes, Fit, fit-call, gives-one, no-refusal, refusal}
 
 -- ---- sets of timetables and their listings
 

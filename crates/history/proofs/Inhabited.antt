@@ -1,14 +1,15 @@
--- The contracts can be met: a history of four calls on Figure 1, and a pick on the table that it leaves, each field by computation. Assumes nothing.
+-- The contracts can be met: a history of six calls on Figure 1, and a pick on the table that it leaves, each field by computation; and what the third
+-- demand says of it. Assumes nothing.
 use mathlib.Core.Path.{_≡_, refl}
 use mathlib.Core.Logic.{_⊎_, inl, inr}
-use mathlib.Core.List.{List, [], _∷_, _++_, List·Memᴰ, List·Memᴰ·head, List·Memᴰ·tail, List·Memᴰ·cases-cons, List·Memᴰ·not-nil}
+use mathlib.Core.List.{List, [], _∷_, List·Memᴰ·head, List·Memᴰ·tail, List·Memᴰ·cases-cons, List·Memᴰ·not-nil}
 use Prim.Native.Nat.{ℕ, zero, suc, _<_}
 use native.Mathlib.Nat.{not-suc-le-zero}
 use native.Mathlib.Omega.{arith}
-use lib.ListN.{length, replicate}
+use lib.ListN.{length, getD}
 use Rattle.itemset.specs.Items.{holds, insideb, without, belowb, size, lowest}
 use Rattle.zdd.specs.Table.{nodesOf, capacity, families, family, order, allSets, sets, filter, soundb, eqSet, elem, has, _∈_}
-use Rattle.zdd.specs.Operations.{combine, including}
+use Rattle.zdd.specs.Operations.{combine, including, excluding}
 use Rattle.zdd.specs.Branches.{starting, others, weight, branchesTo, branches, eqFamily, amongb, fresh, missing}
 use Rattle.exact_cover.specs.Cover.{keysFrom, keysOf, holders, allInside, once, covers, covering, fits, down, candidates}
 use Rattle.exact_cover.specs.Steps.{each, visit, steps}
@@ -17,8 +18,9 @@ use Rattle.statement.specs.declared.Outcome.the-variants.{Answer, Refused}
 use Rattle.statement.specs.declared.Picked.the-variants.{Packages}
 use Rattle.statement.specs.Refusals.{firstOf, oversize, stray, unsound, unknownAnswer, unknownItem, shortWork, spent, full, uncountable, pastEnd, shortPage, coverRefusal, pairRefusal, packageRefusal, pickRefusal}
 use Rattle.query.specs.Questions.{unknownPackage}
-use Rattle.statement.specs.Postconditions.{CoverPost, WithPost, OnlyPost, PickPost}
-use Rattle.history.specs.Histories.{cover, only, «with», Calls, History, start, next, given, operands}
+use Rattle.statement.specs.Postconditions.{CoverPost, WithPost, WithoutPost, OnlyPost, PickPost}
+use Rattle.history.specs.Histories.{cover, only, «with», without as exclude, Calls, History, start, next, SameSet, Posting, noTimetable, ledger, Returns, Demanded}
+use Rattle.history.proofs.Demand.{demand3}
 use Rattle.statement.specs.Examples.{figure1, emptyTable}
 
 -- 2 is {2}; 3 is {4, 2}; 4 is {1, 4, 2}; 5 is {0, 2} and {1, 4, 2}
@@ -62,9 +64,27 @@ only-other = record {
   answered = λ e. record { number = 4; outcome = refl; known = omega arith; holds = refl; steps = refl; long = refl; sound = refl; old = refl; grown = refl; made = refl };
 }
 
+-- and so it is made another way
+without-0 : WithoutPost figure1 6 final 5 0 2 (report 4 0 0) final
+unfolding holds insideb without belowb size lowest nodesOf capacity families family order allSets sets filter soundb eqSet elem has starting others weight branchesTo branches eqFamily amongb fresh missing keysFrom keysOf firstOf oversize stray unsound unknownAnswer unknownPackage shortWork full excluding packageRefusal
+without-0 = record {
+  declined = λ l. absurd (not-suc-le-zero l);
+  answered = λ e. record { number = 4; outcome = refl; known = omega arith; holds = refl; steps = refl; long = refl; sound = refl; old = refl; grown = refl; made = refl };
+}
+
+-- the first cover again: the same steps, and no node made
+third-cover : CoverPost figure1 6 final 63 6 128 (report 5 6 0) final
+unfolding holds insideb without belowb size lowest nodesOf capacity families family order allSets sets filter soundb eqSet elem starting others weight branchesTo branches eqFamily amongb fresh missing keysFrom keysOf holders allInside once covers covering fits down candidates each visit steps firstOf oversize stray unsound unknownItem shortWork spent full coverRefusal
+third-cover = record {
+  declined = λ l. absurd (not-suc-le-zero l);
+  answered = λ e. record { number = 5; outcome = refl; known = omega arith; holds = refl; steps = refl; long = refl; sound = refl; old = refl; grown = refl; made = refl };
+}
+
 abbrev calls : Calls
 calls =
-    (only 6 5 6 2, report 4 0 0)
+    (cover 6 63 6 128, report 5 6 0)
+    ∷ (exclude 6 5 0 2, report 4 0 0)
+    ∷ (only 6 5 6 2, report 4 0 0)
     ∷ («with» 6 5 0 2, report 6 0 1)
     ∷ (cover 6 63 5 128, record { outcome = Refused 9; steps = 0; made = 0 })
     ∷ (cover 6 63 6 128, report 5 6 4)
@@ -72,15 +92,21 @@ calls =
 
 history : History figure1 calls final
 history =
-    next (next (next (next (start 19)
+    next (next (next (next (next (next (start 19)
     (cover 6 63 6 128) (report 5 6 4) covered (λ x m. absurd (List·Memᴰ·not-nil m)) first-cover)
     (cover 6 63 5 128) (record { outcome = Refused 9; steps = 0; made = 0 }) covered tt second-cover)
     («with» 6 5 0 2) (report 6 0 1) final (λ x m. one x (List·Memᴰ·cases-cons m)) with-0)
-    (only 6 5 6 2) (report 4 0 0) final (λ x m. two x (List·Memᴰ·cases-cons m)) only-other
+    (only 6 5 6 2) (report 4 0 0) final (λ x m. two x (List·Memᴰ·cases-cons m)) only-other)
+    (exclude 6 5 0 2) (report 4 0 0) final (λ x m. five x (List·Memᴰ·cases-cons m)) without-0)
+    (cover 6 63 6 128) (report 5 6 0) final (λ x m. absurd (List·Memᴰ·not-nil m)) third-cover
   where
     one : (x : ℕ) → (x ≡ 5) ⊎ (x ∈ []) → x ∈ 5 ∷ 0 ∷ 1 ∷ []
     one x (inl e) = List·Memᴰ·head e
     one x (inr m) = absurd (List·Memᴰ·not-nil m)
+
+    five : (x : ℕ) → (x ≡ 5) ⊎ (x ∈ []) → x ∈ 4 ∷ 6 ∷ 5 ∷ 0 ∷ 1 ∷ []
+    five x (inl e) = List·Memᴰ·tail (List·Memᴰ·tail (List·Memᴰ·head e))
+    five x (inr m) = absurd (List·Memᴰ·not-nil m)
 
     last : (x : ℕ) → (x ≡ 6) ⊎ (x ∈ []) → x ∈ 6 ∷ 5 ∷ 0 ∷ 1 ∷ []
     last x (inl e) = List·Memᴰ·head e
@@ -90,7 +116,42 @@ history =
     two x (inl e) = List·Memᴰ·tail (List·Memᴰ·head e)
     two x (inr m) = last x (List·Memᴰ·cases-cons m)
 
+demanded : Demanded figure1 calls final
+demanded = demand3 figure1 calls final history
+
+-- ---- the demand is not empty here: the postings, the latest first
+
+in-list : {A : Type 0} (l : List A) (k : ℕ) (d : A) → k < length l → getD l k d ∈ l
+in-list [] k d h = absurd (not-suc-le-zero h)
+in-list (x ∷ l) zero d h = List·Memᴰ·head refl
+in-list (x ∷ l) (suc k) d h = List·Memᴰ·tail (in-list l k d (omega arith))
+
+abbrev posting : ℕ → Posting
+posting k = getD (ledger figure1 calls) k (record { number = 0; set = noTimetable })
+
+posted : (k : ℕ) → k < 7 → posting k ∈ ledger figure1 calls
+posted k h = in-list (ledger figure1 calls) k (record { number = 0; set = noTimetable }) h
+
+-- the two covers have the number 5
+covered-twice : SameSet figure1 (posting 0 .set) (posting 4 .set)
+covered-twice = demanded .numbers (posting 0) (posting 4) (posted 0 (omega arith)) (posted 4 (omega arith)) .0 refl
+
+-- the timetables of 5 that are not in 6, and those of 5 that do not hold 0: both have the number 4, so they are the same
+made-twice : SameSet figure1 (posting 1 .set) (posting 2 .set)
+made-twice = demanded .numbers (posting 1) (posting 2) (posted 1 (omega arith)) (posted 2 (omega arith)) .0 refl
+
+-- 5 and 4 are not the same
+two-sets : SameSet figure1 (posting 0 .set) (posting 1 .set) → ⊥
+two-sets e = let z : _≡_ {A = ℕ} 5 4 = demanded .numbers (posting 0) (posting 1) (posted 0 (omega arith)) (posted 1 (omega arith)) .1 e in omega arith
+
 -- the second timetable of 5, on a page of four
 picked : PickPost figure1 6 final 5 1 6 (7 ∷ 7 ∷ 7 ∷ 7 ∷ []) (Packages 3) (1 ∷ 4 ∷ 2 ∷ 7 ∷ [])
 unfolding holds insideb belowb lowest nodesOf capacity families family soundb keysFrom keysOf firstOf oversize stray unsound unknownAnswer shortWork uncountable pastEnd shortPage pickRefusal
 picked = record { result = refl; pages = refl }
+
+-- it is what the demand says
+second-of-five : Returns (1 ∷ 4 ∷ 2 ∷ []) (7 ∷ 7 ∷ 7 ∷ 7 ∷ []) (Packages 3) (1 ∷ 4 ∷ 2 ∷ 7 ∷ [])
+unfolding holds insideb belowb size lowest order allSets sets filter keysFrom keysOf holders allInside once covers
+second-of-five =
+    demanded .picks (posting 0) (posted 0 (omega arith)) (omega arith) 6 (List·Memᴰ·head refl) 6 (omega arith) 1
+    (7 ∷ 7 ∷ 7 ∷ 7 ∷ []) (Packages 3) (1 ∷ 4 ∷ 2 ∷ 7 ∷ []) picked .0 (omega arith) (omega arith)

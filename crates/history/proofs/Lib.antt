@@ -1,3 +1,9 @@
--- The third demand, and a history that meets its hypotheses.
+-- The third demand, a history that meets its hypotheses, and the laws of the runner.
+pub mod Contract
 pub mod Demand
 mod Inhabited
+pub mod Requests
+pub mod Reports
+pub mod Marks
+pub mod Empty
+pub mod Running

@@ -1,1 +1,251 @@
-// The third demand: definitions in specs/Histories, the theorem in proofs/Demand.
+// A runner of histories: it makes the calls of a lent script, one after the other, on one table, and its `ensures` states the third demand of what it ran.
+// Histories, the ledger and the demand are in specs/Histories, the script's words in specs/Script.
+ghost use mathlib.Core.Path.{_≡_};
+ghost use mathlib.Core.Bool.{true};
+ghost use Prim.Native.Nat.{ℕ, _/_, _<_};
+ghost use lib.ListN.{length, set, replicate};
+ghost use Rattle.zdd.specs.Table.{count};
+ghost use Rattle.statement.specs.Replies.{gives, outcomeReply};
+ghost use Rattle.history.specs.Histories.{Step, operands};
+ghost use Rattle.history.specs.Script.{callOf, requestCall, requestAt, callAt, outcomeOf, possible, every, runs, Ran};
+ghost use Rattle.history.specs.Parts.{marked, noted, Stored};
+use statement::Outcome;
+use statement::Report;
+
+// The words of one call in a script: see `callOf`.
+pub struct Request {
+    pub kind: u64,
+    pub m: u64,
+    pub x: u64,
+    pub y: u64,
+    pub words: u64,
+}
+
+// All words 0: an empty table.
+fn clear(t: &mut [u32])
+    ensures { λ r. ⌜ now (t .exit) ≡ replicate (length (now (t .entry))) 0 ⌝ }
+{
+    let mut i: usize = 0;
+    while i < t.len() {
+        t[i] = 0;
+        i += 1;
+    }
+}
+
+// The number of branch nodes; 0 where there is no word 0.
+fn nodes(t: &[u32]) -> u32
+    ensures { λ r. ⌜ r ≡ count (now (t .entry)) ⌝ }
+{
+    if t.len() == 0 {
+        return 0;
+    }
+    t[0]
+}
+
+// Call i of the script.
+fn asked(script: &[u64], i: usize) -> Request
+    requires { ⌜ i < length (now script) / 5 ⌝ }
+    ensures { λ r. ⌜ r ≡ requestAt (now (script .entry)) i ⌝ }
+{
+    let at = 5 * i;
+    Request {
+        kind: script[at],
+        m: script[at + 1],
+        x: script[at + 2],
+        y: script[at + 3],
+        words: script[at + 4],
+    }
+}
+
+// Whether the call can be made at all: 32 bits for each number but D, and enough working words.
+fn fits(q: Request, room: usize) -> bool
+    ensures { λ r. ⌜ r ≡ possible room q ⌝ }
+{
+    if q.m >= 4294967296 {
+        return false;
+    }
+    if q.y >= 4294967296 {
+        return false;
+    }
+    if q.words > room as u64 {
+        return false;
+    }
+    if q.kind == 0 {
+        return true;
+    }
+    q.x < 4294967296
+}
+
+// Whether x may be an operand: it was given, or it is unknown to a table of n nodes.
+fn passes(given: &[u8; 65536], n: u32, x: u64) -> bool
+    ensures { λ r. ⌜ r ≡ marked (now (given .entry)) n x ⌝ }
+{
+    if n as u64 + 2 <= x {
+        return true;
+    }
+    if x >= 65536 {
+        return false;
+    }
+    given[x as usize] == 1
+}
+
+// Whether each operand may be one.
+fn operands_pass(q: Request, given: &[u8; 65536], n: u32) -> bool
+    ensures { λ r. ⌜ r ≡ every (marked (now (given .entry)) n) (operands (requestCall q)) ⌝ }
+{
+    if q.kind == 0 {
+        return true;
+    }
+    if !passes(given, n, q.x) {
+        return false;
+    }
+    if q.kind >= 4 {
+        return true;
+    }
+    passes(given, n, q.y)
+}
+
+// Whether call i may be run next: there are `places` places for reports and `room` working words.
+fn ready(
+    script: &[u64],
+    places: usize,
+    room: usize,
+    i: usize,
+    given: &[u8; 65536],
+    t: &[u32],
+) -> bool
+    ensures { λ r. ⌜ r ≡ runs (now (script .entry)) places room i (marked (now (given .entry)) (count (now (t .entry)))) ⌝ }
+{
+    if i >= script.len() / 5 {
+        return false;
+    }
+    if i >= places {
+        return false;
+    }
+    let q = asked(script, i);
+    if !fits(q, room) {
+        return false;
+    }
+    let n = nodes(t);
+    operands_pass(q, given, n)
+}
+
+// The call itself, on all the words of work.
+fn dispatch(
+    packages: &[u64],
+    t: &mut [u32],
+    work: &mut [u64],
+    kind: u64,
+    m: u32,
+    x: u64,
+    y: u32,
+) -> Report
+    requires { ⌜ (0 < kind → x < 4294967296) ⌝ }
+    ensures { λ r. ⌜ Step (now (packages .entry)) (now (t .entry)) (callOf kind m x y (length (now (work .entry)))) r (now (t .exit)) ⌝ }
+{
+    if kind == 0 {
+        return engine::cover(m, packages, t, x, y, work);
+    }
+    let a = x as u32;
+    if kind == 1 {
+        return engine::either(m, packages, t, a, y, work);
+    }
+    if kind == 2 {
+        return engine::both(m, packages, t, a, y, work);
+    }
+    if kind == 3 {
+        return engine::only(m, packages, t, a, y, work);
+    }
+    if kind == 4 {
+        return engine::with(m, packages, t, a, y, work);
+    }
+    engine::without(m, packages, t, a, y, work)
+}
+
+// Call i of the script, on as many working words as it asks.
+fn call(packages: &[u64], t: &mut [u32], work: &mut [u64], script: &[u64], i: usize) -> Report
+    requires { ⌜ i < length (now script) / 5 ⌝ }
+    requires { ⌜ possible (length (now work)) (requestAt (now script) i) ≡ true ⌝ }
+    ensures { λ r. ⌜ Step (now (packages .entry)) (now (t .entry)) (callAt (now (script .entry)) i) r (now (t .exit)) ⌝ }
+{
+    let q = asked(script, i);
+    let words = q.words as usize;
+    dispatch(
+        packages,
+        t,
+        &mut work[..words],
+        q.kind,
+        q.m as u32,
+        q.x,
+        q.y as u32,
+    )
+}
+
+// The word of an outcome.
+fn outcome_word(o: Outcome) -> u64
+    ensures { λ r. ⌜ outcomeOf r ≡ o ⌝ }
+{
+    match o {
+        Outcome::Answer(a) => a as u64,
+        Outcome::Refused(n) => n as u64 + 4294967296,
+    }
+}
+
+// The report of call i is written to its three words.
+fn store(out: &mut [u64], i: usize, r: Report)
+    requires { ⌜ i < length (now out) / 3 ⌝ }
+    ensures { λ u. ⌜ Stored (now (out .entry)) i r (now (out .exit)) ⌝ }
+{
+    let at = 3 * i;
+    let o = r.outcome;
+    out[at] = outcome_word(o);
+    out[at + 1] = r.steps as u64;
+    out[at + 2] = r.made as u64;
+}
+
+// An answer is marked as given.
+fn mark(given: &mut [u8; 65536], o: Outcome)
+    requires { ⌜ ((a : ℕ) → outcomeReply o ≡ gives a → a < 65536) ⌝ }
+    ensures { λ u. ⌜ now (given .exit) ≡ noted (outcomeReply o) (now (given .entry)) ⌝ }
+{
+    match o {
+        Outcome::Answer(a) => {
+            given[base::wide(a)] = 1;
+        }
+        Outcome::Refused(_) => {}
+    }
+}
+
+// 0 and 1 count as given from the start.
+fn mark_first(given: &mut [u8; 65536])
+    ensures { λ u. ⌜ now (given .exit) ≡ set (set (now (given .entry)) 1 1) 0 1 ⌝ }
+{
+    given[1] = 1;
+    given[0] = 1;
+}
+
+// Runs the calls of the script, from an empty table, while the next one may be run; returns how many it ran. out has the reports.
+pub fn run(
+    packages: &[u64],
+    t: &mut [u32],
+    work: &mut [u64],
+    script: &[u64],
+    out: &mut [u64],
+) -> usize
+    ensures { λ n. ⌜ Ran (now (packages .entry)) (now (script .entry)) (length (now (work .entry))) (now (t .entry)) (now (out .entry)) n (now (t .exit)) (now (out .exit)) ⌝ }
+{
+    clear(t);
+    let mut given = [0u8; 65536];
+    mark_first(&mut given);
+    let places = out.len() / 3;
+    let room = work.len();
+    let mut i: usize = 0;
+    while ready(script, places, room, i, &given, t) {
+        let r = call(packages, t, work, script, i);
+        let o = r.outcome;
+        store(out, i, r);
+        mark(&mut given, o);
+        i += 1;
+    }
+    i
+}

@@ -1,0 +1,150 @@
+-- The words of a call, and the tests that let it be run: laws over plain lists. Assumes nothing.
+use mathlib.Core.Path.{_≡_, refl, sym, ap, ap₂, _∙_, subst}
+use mathlib.Core.Logic.{_⊎_, inl, inr, ⊎-elim}
+use mathlib.Core.Bool.{Bool, true, false, cond, _&&_, _||_}
+use mathlib.Core.List.{List, [], _∷_, List·Memᴰ·cases-cons, List·Memᴰ·not-nil}
+use Prim.Native.Nat.{ℕ, zero, suc, _/_, _≤_, _<_}
+use native.Mathlib.Omega.{arith}
+use lib.Dec.{eqb, leb, ltb}
+use lib.ListN.{length}
+use borrow.Author.Tests.{ltb-true, leb-true, eqb-true, le-leb, lt-leb, eq-eqb, ne-eqb}
+use Rattle.base.proofs.Bools.{and-left, and-right, or-left, or-cases}
+use Rattle.zdd.specs.Table.{_∈_}
+use Rattle.statement.specs.declared.Report.{Report}
+use Rattle.history.specs.declared.Request.{Request}
+use Rattle.history.specs.Histories.{without, operands, Step}
+use Rattle.history.specs.Script.{callOf, requestCall, requestAt, callAt, narrow, possible, every, runs}
+
+-- ---- tests one after the other
+
+pub stop : {a : Bool} (b : Bool) → a ≡ false → false ≡ (a && b)
+stop b e = sym (ap (λ (x : Bool). x && b) e)
+
+pub goes : {a r : Bool} (b : Bool) → a ≡ true → r ≡ b → r ≡ (a && b)
+goes b e q = q ∙ sym (ap (λ (x : Bool). x && b) e)
+
+pub or-skip : {a : Bool} (b : Bool) → a ≡ false → b ≡ (a || b)
+or-skip b e = sym (ap (λ (x : Bool). x || b) e)
+
+-- ---- the call of five words
+
+pub call-last : (kind m x y words : ℕ) → (kind ≡ 0 → ⊥) → (kind ≡ 1 → ⊥) → (kind ≡ 2 → ⊥) → (kind ≡ 3 → ⊥) → (kind ≡ 4 → ⊥)
+    → callOf kind m x y words ≡ without m x y words
+call-last zero m x y words n0 n1 n2 n3 n4 = absurd (n0 refl)
+call-last (suc zero) m x y words n0 n1 n2 n3 n4 = absurd (n1 refl)
+call-last (suc (suc zero)) m x y words n0 n1 n2 n3 n4 = absurd (n2 refl)
+call-last (suc (suc (suc zero))) m x y words n0 n1 n2 n3 n4 = absurd (n3 refl)
+call-last (suc (suc (suc (suc zero)))) m x y words n0 n1 n2 n3 n4 = absurd (n4 refl)
+call-last (suc (suc (suc (suc (suc k))))) m x y words n0 n1 n2 n3 n4 = refl
+
+-- what a request that possible has
+pub record Fitting (room : ℕ) (q : Request) : Type 0 where
+  pub items : q .m < 4294967296
+  pub second : q .y < 4294967296
+  pub room-for : q .words ≤ room
+  pub first : 0 < q .kind → q .x < 4294967296
+
+pub fitting : (room : ℕ) (q : Request) → possible room q ≡ true → Fitting room q
+unfolding possible
+fitting room q e =
+    let e1 = and-right (narrow (q .m)) _ e in
+    let e2 = and-right (narrow (q .y)) _ e1 in
+    let e3 = and-right (leb (q .words) room) _ e2 in
+    record {
+      items = ltb-true (q .m) 4294967296 (and-left (narrow (q .m)) _ e);
+      second = ltb-true (q .y) 4294967296 (and-left (narrow (q .y)) _ e1);
+      room-for = leb-true (q .words) room (and-left (leb (q .words) room) _ e2);
+      first = λ h. ⊎-elim
+          (λ (z : eqb (q .kind) 0 ≡ true). absurd (omega (arith, eqb-true (q .kind) 0 z)))
+          (λ (l : narrow (q .x) ≡ true). ltb-true (q .x) 4294967296 l)
+          (or-cases (eqb (q .kind) 0) (narrow (q .x)) e3);
+    }
+
+-- the call that a request asks is made of its words, and of as many working words as it says
+pub step-request : (S t : List ℕ) (q q′ : Request) (n : ℕ) (r : Report) (t′ : List ℕ) → q ≡ q′ → n ≡ q .words
+    → Step S t (callOf (q .kind) (q .m) (q .x) (q .y) n) r t′ → Step S t (requestCall q′) r t′
+step-request S t q q′ n r t′ e l s =
+    subst (λ (p : Request). Step S t (requestCall p) r t′) e (subst (λ (k : ℕ). Step S t (callOf (q .kind) (q .m) (q .x) (q .y) k) r t′) l s)
+
+-- ---- the operands
+
+and-true : (b : Bool) → (b && true) ≡ b
+and-true true = refl
+and-true false = refl
+
+-- the operands' test, by the kind
+pub every-operand : (P : ℕ → Bool) (kind m x y words : ℕ)
+    → every P (operands (callOf kind m x y words)) ≡ cond (eqb kind 0) true (P x && (leb 4 kind || P y))
+unfolding every
+every-operand P zero m x y words = refl
+every-operand P (suc zero) m x y words = ap (λ (b : Bool). P x && b) (and-true (P y))
+every-operand P (suc (suc zero)) m x y words = ap (λ (b : Bool). P x && b) (and-true (P y))
+every-operand P (suc (suc (suc zero))) m x y words = ap (λ (b : Bool). P x && b) (and-true (P y))
+every-operand P (suc (suc (suc (suc zero)))) m x y words = refl
+every-operand P (suc (suc (suc (suc (suc k))))) m x y words =
+    sym (ap₂ (λ (a b : Bool). cond a true (P x && (b || P y)))
+    (ne-eqb (suc (suc (suc (suc (suc k))))) 0 (λ z. omega arith))
+    (le-leb 4 (suc (suc (suc (suc (suc k))))) (omega arith)))
+
+pub every-same : (P Q : ℕ → Bool) (l : List ℕ) → ((x : ℕ) → P x ≡ Q x) → every P l ≡ every Q l
+unfolding every
+every-same P Q [] h = refl
+every-same P Q (x ∷ l) h = ap₂ _&&_ (h x) (every-same P Q l h)
+
+pub every-at : (P : ℕ → Bool) (l : List ℕ) → every P l ≡ true → (x : ℕ) → x ∈ l → P x ≡ true
+unfolding every
+every-at P [] e x i = absurd (List·Memᴰ·not-nil i)
+every-at P (y ∷ l) e x i = go (List·Memᴰ·cases-cons i) (every-at P l (and-right (P y) (every P l) e))
+  where
+    go : (x ≡ y) ⊎ (x ∈ l) → ((z : ℕ) → z ∈ l → P z ≡ true) → P x ≡ true
+    go (inl q) f = ap P q ∙ and-left (P y) (every P l) e
+    go (inr k) f = f x k
+
+-- the same by the branches of the code
+
+module _ (P : ℕ → Bool) (q : Request) where
+  by-kind : every P (operands (requestCall q)) ≡ cond (eqb (q .kind) 0) true (P (q .x) && (leb 4 (q .kind) || P (q .y)))
+  by-kind = every-operand P (q .kind) (q .m) (q .x) (q .y) (q .words)
+
+  pub no-operand : q .kind ≡ 0 → true ≡ every P (operands (requestCall q))
+  no-operand e = sym (by-kind ∙ ap (λ (b : Bool). cond b true (P (q .x) && (leb 4 (q .kind) || P (q .y)))) (eq-eqb (q .kind) 0 e))
+
+  module _ (some : q .kind ≡ 0 → ⊥) where
+    by-first : every P (operands (requestCall q)) ≡ (P (q .x) && (leb 4 (q .kind) || P (q .y)))
+    by-first = by-kind ∙ ap (λ (b : Bool). cond b true (P (q .x) && (leb 4 (q .kind) || P (q .y)))) (ne-eqb (q .kind) 0 some)
+
+    pub first-fails : P (q .x) ≡ false → false ≡ every P (operands (requestCall q))
+    first-fails f = stop _ f ∙ sym by-first
+
+    pub first-only : P (q .x) ≡ true → 4 ≤ q .kind → true ≡ every P (operands (requestCall q))
+    first-only f h = goes _ f (sym (or-left (leb 4 (q .kind)) (P (q .y)) (le-leb 4 (q .kind) h))) ∙ sym by-first
+
+    pub then-second : P (q .x) ≡ true → q .kind < 4 → P (q .y) ≡ every P (operands (requestCall q))
+    then-second f h = goes _ f (or-skip (P (q .y)) (lt-leb 4 (q .kind) h)) ∙ sym by-first
+
+-- ---- the test of the next call
+
+-- what a call that may be run has
+pub record Runs (script : List ℕ) (places room i : ℕ) (P : ℕ → Bool) : Type 0 where
+  pub there : i < length script / 5
+  pub placed : i < places
+  pub fit : possible room (requestAt script i) ≡ true
+  pub pass : every P (operands (callAt script i)) ≡ true
+
+pub may-run : (script : List ℕ) (places room i : ℕ) (P : ℕ → Bool) → runs script places room i P ≡ true → Runs script places room i P
+unfolding runs
+may-run script places room i P e =
+    let e1 = and-right (ltb i (length script / 5)) _ e in
+    let e2 = and-right (ltb i places) _ e1 in
+    record {
+      there = ltb-true i (length script / 5) (and-left (ltb i (length script / 5)) _ e);
+      placed = ltb-true i places (and-left (ltb i places) _ e1);
+      fit = and-left (possible room (requestAt script i)) _ e2;
+      pass = and-right (possible room (requestAt script i)) _ e2;
+    }
+
+pub runs-same : (script : List ℕ) (places room i : ℕ) (P Q : ℕ → Bool) → ((x : ℕ) → P x ≡ Q x) → runs script places room i P ≡ runs script places room i Q
+unfolding runs
+runs-same script places room i P Q h =
+    ap (λ (b : Bool). ltb i (length script / 5) && (ltb i places && (possible room (requestAt script i) && b)))
+    (every-same P Q (operands (callAt script i)) h)

@@ -1,0 +1,118 @@
+-- The runner's loop: what holds before each call, and why it holds after the call. Assumes nothing.
+use mathlib.Core.Path.{_≡_, refl, sym, ap, _∙_, subst, subst⁻¹}
+use mathlib.Core.Logic.{⊎-elim}
+use mathlib.Core.Bool.{true, false}
+use mathlib.Core.List.{List, [], _∷_}
+use Prim.Native.Nat.{ℕ, _+_, _*_, _/_, _≤_, _<_}
+use native.Mathlib.Omega.{arith}
+use lib.Dec.{leb}
+use lib.ListN.{length, set, drop, replicate, length-set, length-replicate}
+use lib.Seq.{drop-drop}
+use borrow.Author.Tests.{leb-true}
+use Rattle.base.proofs.Bools.{or-cases}
+use Rattle.zdd.specs.Table.{count, has, _∈_}
+use Rattle.statement.specs.declared.Report.{Report}
+use Rattle.statement.specs.Replies.{Reply, refused, gives, outcomeReply}
+use Rattle.history.specs.Histories.{Call, operands, Step, Calls, given, Allowed, History, start, next}
+use Rattle.history.specs.Script.{callAt, calls, passes, every, runs, runnable, Ran}
+use Rattle.history.specs.Parts.{marked, noted, Stored}
+use Rattle.history.proofs.Contract.{operand-known, answer-below, as-long}
+use Rattle.history.proofs.Demand.{demand3}
+use Rattle.history.proofs.Requests.{every-at, every-same, Runs, runs-same}
+use Rattle.history.proofs.Reports.{calls-none, calls-same, calls-next}
+use Rattle.history.proofs.Marks.{Marks, marks-none, marks-more, marks-give, marked-passes, has-in}
+
+-- after i calls: t and out are the table and the words of the reports, g has the marks; t₀ and out₀ are those before the first
+pub record Running (S script : List ℕ) (t₀ out₀ : List ℕ) (i : ℕ) (g t out : List ℕ) : Type 0 where
+  pub history : History S (calls script out i) t
+  pub marks : Marks g (given (calls script out i))
+  pub numbers : length g ≡ 65536
+  pub long : length t ≡ length t₀
+  pub wide : length out ≡ length out₀
+  pub rest : drop (3 * i) out ≡ drop (3 * i) out₀
+  pub asked : i ≤ length script / 5
+  pub placed : i ≤ length out₀ / 3
+
+pub running-start : (S script t out g : List ℕ) (words n : ℕ) → n ≡ 65536 → g ≡ set (set (replicate n 0) 1 1) 0 1 → t ≡ replicate words 0
+    → Running S script t out 0 g t out
+running-start S script t out g words n z q e = record {
+  history = subst⁻¹ (λ (h : Calls). History S h t) (calls-none script out) (subst⁻¹ (λ (u : List ℕ). History S [] u) e (start words));
+  marks = subst⁻¹ (λ (h : Calls). Marks g (given h)) (calls-none script out)
+      (subst⁻¹ (λ (u : List ℕ). Marks u (0 ∷ 1 ∷ [])) q
+      (marks-more g1 (1 ∷ []) 0 (omega (arith, l1, l0)) (marks-more (replicate n 0) [] 1 (omega (arith, l0)) (marks-none n))));
+  numbers = ap length q ∙ length-set {A = ℕ} g1 0 1 ∙ l1 ∙ l0 ∙ z;
+  long = refl;
+  wide = refl;
+  rest = refl;
+  asked = omega arith;
+  placed = omega arith;
+}
+  where
+    g1 : List ℕ
+    g1 = set (replicate n 0) 1 1
+
+    l0 : length (replicate {A = ℕ} n 0) ≡ n
+    l0 = length-replicate {A = ℕ} n 0
+
+    l1 : length g1 ≡ length (replicate {A = ℕ} n 0)
+    l1 = length-set {A = ℕ} (replicate n 0) 1 1
+
+-- an operand that passes the test and is known was given
+allowed : (h : Calls) (t : List ℕ) (c : Call) (o : Reply ℕ) → every (passes h t) (operands c) ≡ true
+    → ((a : ℕ) → o ≡ gives a → (x : ℕ) → x ∈ operands c → x < count t + 2) → Allowed h c o
+allowed h t c (refused n) e k = tt
+allowed h t c (gives a) e k = λ x i. ⊎-elim
+    (λ (p : has x (given h) ≡ true). has-in x (given h) p)
+    (λ (p : leb (count t + 2) x ≡ true). absurd (omega (arith, leb-true (count t + 2) x p, k a refl x i)))
+    (or-cases (has x (given h)) (leb (count t + 2) x) (every-at (passes h t) (operands c) e x i))
+
+module _ {S script t₀ out₀ : List ℕ} {i : ℕ} {g t out : List ℕ} (R : Running S script t₀ out₀ i g t out) where
+  -- the marks test what the promise says
+  pub same-test : (room : ℕ) → runs script (length out₀ / 3) room i (marked g (count t)) ≡ runnable script out room t i
+  same-test room =
+      runs-same script (length out₀ / 3) room i (marked g (count t)) (passes (calls script out i) t) (marked-passes g t (calls script out i) (R .numbers) (R .marks))
+      ∙ ap (λ (n : ℕ). runs script (n / 3) room i (passes (calls script out i) t)) (sym (R .wide))
+
+  pub running-next : {r : Report} {t′ out′ g′ : List ℕ} {room : ℕ} → Runs script (length out₀ / 3) room i (marked g (count t))
+      → Step S t (callAt script i) r t′ → Stored out i r out′ → g′ ≡ noted (outcomeReply (r .outcome)) g
+      → Running S script t₀ out₀ (i + 1) g′ t′ out′
+  running-next {r} {t′} {out′} {g′} {room} ok step put wrote = record {
+    history = subst⁻¹ (λ (h : Calls). History S h t′) after (next (R .history) (callAt script i) r t′
+        (allowed (calls script out i) t (callAt script i) (outcomeReply (r .outcome))
+        (sym (every-same (marked g (count t)) (passes (calls script out i) t) (operands (callAt script i)) (marked-passes g t (calls script out i) (R .numbers) (R .marks))) ∙ ok .pass)
+        (operand-known S t (callAt script i) r t′ step)) step);
+    marks = subst⁻¹ (λ (h : Calls). Marks g′ (given h)) after (subst⁻¹ (λ (u : List ℕ). Marks u (given ((callAt script i, r) ∷ calls script out i))) wrote
+        (marks-give g (given (calls script out i)) (outcomeReply (r .outcome)) (λ a e. omega (arith, R .numbers, answer-below S t (callAt script i) r t′ step a e)) (R .marks)));
+    numbers = ap length wrote ∙ mark-long (outcomeReply (r .outcome)) ∙ R .numbers;
+    long = as-long S t (callAt script i) r t′ step ∙ R .long;
+    wide = put .as-long ∙ R .wide;
+    rest = rw (three) (put .behind ∙ sym (drop-drop 3 (3 * i) out) ∙ ap (drop 3) (R .rest) ∙ drop-drop 3 (3 * i) out₀);
+    asked = omega (arith, ok .there);
+    placed = omega (arith, ok .placed);
+  }
+    where
+      three : 3 * (i + 1) ≡ 3 * i + 3
+      three = omega arith
+
+      after : calls script out′ (i + 1) ≡ (callAt script i, r) ∷ calls script out i
+      after =
+          calls-next script out′ i
+          ∙ ap (λ (x : Report). (callAt script i, x) ∷ calls script out′ i) (put .says)
+          ∙ ap (λ (h : Calls). (callAt script i, r) ∷ h) (calls-same script out out′ (3 * i) i (omega arith) (put .front))
+
+      mark-long : (o : Reply ℕ) → length (noted o g) ≡ length g
+      mark-long (refused n) = refl
+      mark-long (gives a) = length-set g a 1
+
+  pub ran : (room : ℕ) (t₁ : List ℕ) → length t₀ ≡ length t₁ → runs script (length out₀ / 3) room i (marked g (count t)) ≡ false
+      → Ran S script room t₁ out₀ i t out
+  ran room t₁ l e = record {
+    history = R .history;
+    demanded = demand3 S (calls script out i) t (R .history);
+    long = R .long ∙ l;
+    wide = R .wide;
+    rest = R .rest;
+    asked = R .asked;
+    placed = R .placed;
+    stopped = sym (same-test room) ∙ e;
+  }

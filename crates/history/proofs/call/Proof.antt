@@ -1,0 +1,48 @@
+use Rattle.history.proofs.Requests.{step-request}
+use Rattle.history.proofs.Requests.{fitting}
+use lib.Seq.{length-take-le}
+use mathlib.Core.Path.{sym}
+use borrow.Author.Needs.{needs}
+use Rattle.history.proofs.call.Statement.{statement}
+use Rattle.history.proofs.call.Tie as tie
+
+asked-requires : tie.Need-asked-requires
+asked-requires c κs = search needs
+
+slice-relend-prefix-dispatch : tie.Need-slice-relend-prefix-dispatch
+slice-relend-prefix-dispatch c = rw (c .before .asked .ensures) (fitting _ _ (c .before .before .before .before .before .before .pre .1) .room-for)
+
+slice-aggregate-dispatch : tie.Need-slice-aggregate-dispatch
+slice-aggregate-dispatch c = sym (length-take-le _ _ (rw (c .before .before .asked .ensures) (fitting _ _ (c .before .before .before .before .before .before .before .pre .1) .room-for)))
+
+cast-dispatch : tie.Need-cast-dispatch
+cast-dispatch c = record { fits = rw (c .before .before .before .asked .ensures) (fitting _ _ (c .before .before .before .before .before .before .before .before .pre .1) .items) }
+
+cast-dispatch-2 : tie.Need-cast-dispatch-2
+cast-dispatch-2 c = record { fits = rw (c .before .before .before .before .asked .ensures) (fitting _ _ (c .before .before .before .before .before .before .before .before .before .pre .1) .second) }
+
+dispatch-requires : tie.Need-dispatch-requires
+dispatch-requires c κs = rw (c .before .before .before .before .asked .ensures) (fitting _ _ (c .before .before .before .before .before .before .before .before .before .pre .1) .first)
+
+same-length : tie.Need-same-length
+same-length c = search needs
+
+same-length-2 : tie.Need-same-length-2
+same-length-2 c = search needs
+
+returns : tie.Need-returns
+returns c = step-request _ _ _ _ _ _ _ (c .before .before .before .before .before .before .before .before .before .asked .ensures) (length-take-le _ _ (rw (c .before .before .before .before .before .before .before .before .before .asked .ensures) (fitting _ _ (c .before .before .before .before .before .before .before .before .before .before .before .before .before .before .pre .1) .room-for))) (c .before .before .before .before .dispatch .ensures)
+
+pub call-spec : {M : Type 1} → statement M
+call-spec =
+    tie.close
+    (tie.spec
+    asked-requires
+    slice-relend-prefix-dispatch
+    slice-aggregate-dispatch
+    cast-dispatch
+    cast-dispatch-2
+    dispatch-requires
+    same-length
+    same-length-2
+    returns)

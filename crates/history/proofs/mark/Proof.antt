@@ -1,0 +1,31 @@
+use Rattle.history.specs.Parts.{noted}
+use Rattle.statement.specs.Replies.{outcomeReply}
+use lib.ListN.{set}
+use Prim.Native.Nat.{ℕ}
+use native.Mathlib.Omega.{arith}
+use mathlib.Core.Path.{sym, ap, _∙_}
+use borrow.Author.Needs.{needs}
+use Rattle.history.proofs.mark.Statement.{statement}
+use Rattle.history.proofs.mark.Tie as tie
+
+enum-known-o : tie.Need-enum-known-o
+enum-known-o c = search needs
+
+wide-requires : tie.Need-wide-requires
+wide-requires c κs = search needs
+
+element-write-given : tie.Need-element-write-given
+element-write-given c = omega (arith, c .wide .ensures, c .before .before .before .before .pre _ (ap outcomeReply (c .before .before .o .given .1)))
+
+enum-told : tie.Need-enum-told
+enum-told c = search needs
+
+returns : tie.Need-returns
+returns c = ap (λ (a : ℕ). set (c .before .before .before .before .args .given .now) a 1) (c .wide .ensures) ∙ sym (ap (λ o. noted (outcomeReply o) (c .before .before .before .before .args .given .now)) (c .before .before .o .given .1))
+
+returns-2 : tie.Need-returns-2
+returns-2 c = sym (ap (λ o. noted (outcomeReply o) (c .before .before .args .given .now)) (c .enum-told .given .1))
+
+pub mark-spec : {M : Type 1} → statement M
+mark-spec =
+    tie.close (tie.spec enum-known-o wide-requires element-write-given enum-told returns returns-2)

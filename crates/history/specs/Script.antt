@@ -1,0 +1,108 @@
+-- A script of calls as words, the reports that running it writes, and what the runner promises: the third demand of what it ran. Assumes nothing:
+-- these are definitions.
+use mathlib.Core.Path.{_≡_}
+use mathlib.Core.Bool.{Bool, true, false, cond, _&&_, _||_}
+use mathlib.Core.List.{List, [], _∷_}
+use Prim.Native.Nat.{ℕ, zero, suc, _+_, _-_, _*_, _/_, _≤_}
+use lib.Dec.{eqb, leb, ltb}
+use lib.ListN.{length, getD, drop}
+use Rattle.zdd.specs.Table.{count, has}
+use Rattle.statement.specs.declared.Report.{Report}
+use Rattle.statement.specs.declared.Outcome.{Outcome}
+use Rattle.statement.specs.declared.Outcome.the-variants.{Answer, Refused}
+use Rattle.history.specs.declared.Request.{Request}
+use Rattle.history.specs.Histories.{Call, cover, either, both, only, «with», without, operands, Calls, given, History, Demanded}
+
+-- ---- a script: five words a call
+
+-- its kind, M, two arguments, and the number of working words. Kind 0 is cover of D = x with the step limit y [document 01: B]; 1, 2 and 3 are either,
+-- both and only of the answers x and y; 4 is with, and 5 and above without, of the answer x and the package y
+abbrev pub callOf : (kind m x y words : ℕ) → Call
+callOf zero m x y words = cover m x y words
+callOf (suc zero) m x y words = either m x y words
+callOf (suc (suc zero)) m x y words = both m x y words
+callOf (suc (suc (suc zero))) m x y words = only m x y words
+callOf (suc (suc (suc (suc zero)))) m x y words = «with» m x y words
+callOf (suc (suc (suc (suc (suc k))))) m x y words = without m x y words
+
+-- the call that a request of the code asks
+abbrev pub requestCall : Request → Call
+requestCall q = callOf (q .kind) (q .m) (q .x) (q .y) (q .words)
+
+-- call i of the script, from 0: its five words, and the call
+abbrev pub requestAt : List ℕ → ℕ → Request
+requestAt script i = record {
+  kind = getD script (5 * i) 0;
+  m = getD script (5 * i + 1) 0;
+  x = getD script (5 * i + 2) 0;
+  y = getD script (5 * i + 3) 0;
+  words = getD script (5 * i + 4) 0;
+}
+
+abbrev pub callAt : List ℕ → ℕ → Call
+callAt script i = requestCall (requestAt script i)
+
+-- ---- the reports: three words a call
+
+-- the word of an outcome: the answer's number, or 4294967296 more than the refusal's
+abbrev pub outcomeOf : ℕ → Outcome
+outcomeOf w = cond (ltb w 4294967296) (Answer w) (Refused (w - 4294967296))
+
+-- the report of call i: the outcome's word, the steps, the nodes made
+abbrev pub reportAt : List ℕ → ℕ → Report
+reportAt out i = record { outcome = outcomeOf (getD out (3 * i) 0); steps = getD out (3 * i + 1) 0; made = getD out (3 * i + 2) 0 }
+
+-- the first n calls of the script with the reports written, the latest first
+unfoldable pub calls : (script out : List ℕ) → ℕ → Calls
+calls script out zero = []
+calls script out (suc i) = (callAt script i, reportAt out i) ∷ calls script out i
+
+-- ---- which call may be run next
+
+-- M, operands, p and B have 32 bits in the engine's calls
+abbrev pub narrow : ℕ → Bool
+narrow x = ltb x 4294967296
+
+-- the call can be made at all: each of its numbers but D has 32 bits, and as many working words are lent as it asks
+unfoldable pub possible : ℕ → Request → Bool
+possible room q = narrow (q .m) && (narrow (q .y) && (leb (q .words) room && (eqb (q .kind) 0 || narrow (q .x))))
+
+-- x may be an operand after the calls h, which left the table t: it is 0, 1 or an answer given earlier; or it is n + 2 or more, so that the call is
+-- refused whatever else holds, and a refused call may have any operands
+abbrev pub passes : Calls → List ℕ → ℕ → Bool
+passes h t x = has x (given h) || leb (count t + 2) x
+
+-- each of a list passes the test
+unfoldable pub every : (ℕ → Bool) → List ℕ → Bool
+every P [] = true
+every P (x ∷ xs) = P x && every P xs
+
+-- the script has a call i, there is a place for its report, it can be made, and each operand passes the test P
+unfoldable pub runs : (script : List ℕ) (places room i : ℕ) → (ℕ → Bool) → Bool
+unfolding possible every
+runs script places room i P =
+    ltb i (length script / 5)
+    && (ltb i places
+    && (possible room (requestAt script i)
+    && every P (operands (callAt script i))))
+
+-- call i may be run next, on the table t that the calls before it left
+abbrev pub runnable : (script out : List ℕ) (room : ℕ) (t : List ℕ) (i : ℕ) → Bool
+runnable script out room t i = runs script (length out / 3) room i (passes (calls script out i) t)
+
+-- ---- what the runner promises
+
+-- the first n calls of the script were run from an empty table as long as t, and their reports written to the first words of out; t′ and out′ are the
+-- table and the words after that, and `room` is the number of working words lent
+pub record Ran (S script : List ℕ) (room : ℕ) (t out : List ℕ) (n : ℕ) (t′ out′ : List ℕ) : Type 0 where
+  -- the calls run are a history, and the third demand's conclusion holds of it
+  pub history : History S (calls script out′ n) t′
+  pub demanded : Demanded S (calls script out′ n) t′
+  -- the table is as long as before; the words behind the reports are unchanged
+  pub long : length t′ ≡ length t
+  pub wide : length out′ ≡ length out
+  pub rest : drop (3 * n) out′ ≡ drop (3 * n) out
+  -- the script has these calls, and there was a place for each report; the next call may not be run, or there is none
+  pub asked : n ≤ length script / 5
+  pub placed : n ≤ length out / 3
+  pub stopped : runnable script out′ room t′ n ≡ false
