@@ -1,0 +1,310 @@
+//! The library's algorithm written by hand in Rust: every call checks the lent table and builds the index, then works.
+
+pub struct Index {
+    heads: [u32; 65536],
+    next: [u32; 65536],
+}
+
+fn hash(label: u32, lo: u32, hi: u32) -> usize {
+    ((label as u64 * 40503 + lo as u64 * 2654435 + hi as u64 * 69069) % 65536) as usize
+}
+
+impl Index {
+    fn find(&self, t: &[u32], h: usize, label: u32, lo: u32, hi: u32) -> u32 {
+        let mut k = self.heads[h];
+        while k != 0 {
+            let w = 3 * k as usize - 5;
+            if t[w] == label && t[w + 1] == lo && t[w + 2] == hi {
+                return k;
+            }
+            k = self.next[k as usize];
+        }
+        0
+    }
+
+    fn insert(&mut self, h: usize, k: u32) {
+        self.next[k as usize] = self.heads[h];
+        self.heads[h] = k;
+    }
+
+    /// The number of the triple, found or made; None where there is no room.
+    fn unique(&mut self, t: &mut [u32], label: u32, lo: u32, hi: u32) -> Option<u32> {
+        let h = hash(label, lo, hi);
+        let k = self.find(t, h, label, lo, hi);
+        if k != 0 {
+            return Some(k);
+        }
+        let n = t[0];
+        let w = 1 + 3 * n as usize;
+        if n >= 65534 || t.len() < w + 3 {
+            return None;
+        }
+        t[w..w + 3].copy_from_slice(&[label, lo, hi]);
+        t[0] = n + 1;
+        self.insert(h, n + 2);
+        Some(n + 2)
+    }
+
+    /// The table is sound; its nodes go into the index.
+    fn check(&mut self, t: &[u32], keys: &[u32]) -> bool {
+        if t.is_empty() || t[0] > 65534 || 3 * t[0] as usize >= t.len() {
+            return false;
+        }
+        let n = t[0] as usize;
+        for i in 0..n {
+            let w = 1 + 3 * i;
+            let (label, lo, hi) = (t[w], t[w + 1], t[w + 2]);
+            if label as usize >= keys.len() || hi == 0 {
+                return false;
+            }
+            let key = keys[label as usize];
+            for c in [lo as usize, hi as usize] {
+                if c >= i + 2 || c >= 2 && keys[t[3 * c - 5] as usize] <= key {
+                    return false;
+                }
+            }
+            let h = hash(label, lo, hi);
+            if self.find(t, h, label, lo, hi) != 0 {
+                return false;
+            }
+            self.insert(h, i as u32 + 2);
+        }
+        t[1 + 3 * n..].iter().all(|&w| w == 0)
+    }
+}
+
+fn admit(m: u32, packs: &[u64], t: &[u32], keys: &mut [u32; 512], index: &mut Index) -> u32 {
+    if m > 64 || packs.len() > 512 {
+        return 1;
+    }
+    let all = if m == 64 { u64::MAX } else { (1 << m) - 1 };
+    if packs.iter().any(|&s| s == 0 || s & !all != 0) {
+        return 2;
+    }
+    for (p, s) in packs.iter().enumerate() {
+        keys[p] = s.trailing_zeros() * 512 + p as u32;
+    }
+    if index.check(t, &keys[..packs.len()]) {
+        0
+    } else {
+        4
+    }
+}
+
+struct Search<'a> {
+    packs: &'a [u64],
+    first: [u32; 65],
+    after: [u32; 513],
+    t: &'a mut [u32],
+    index: &'a mut Index,
+    memo: &'a mut [u64],
+    places: u64,
+    limit: u64,
+    steps: u64,
+    full: bool,
+    over: bool,
+}
+
+impl Search<'_> {
+    fn search(&mut self, items: u64) -> u32 {
+        if self.steps >= self.limit {
+            self.over = true;
+            return 0;
+        }
+        self.steps += 1;
+        if items == 0 {
+            return 1;
+        }
+        let at = (items % self.places) as usize;
+        if self.memo[2 * at] == items {
+            return self.memo[2 * at + 1] as u32;
+        }
+        self.trial(at, items)
+    }
+
+    fn trial(&mut self, at: usize, items: u64) -> u32 {
+        let mut p = self.first[items.trailing_zeros() as usize];
+        let mut answer = 0;
+        while p != 0 {
+            let pack = self.packs[p as usize - 1];
+            let label = p - 1;
+            p = self.after[p as usize];
+            if pack & !items != 0 {
+                continue;
+            }
+            let y = self.search(items & !pack);
+            if self.over {
+                return 0;
+            }
+            if y == 0 || self.full {
+                continue;
+            }
+            match self.index.unique(self.t, label, answer, y) {
+                Some(z) => answer = z,
+                None => self.full = true,
+            }
+        }
+        self.memo[2 * at] = items;
+        self.memo[2 * at + 1] = answer as u64;
+        answer
+    }
+}
+
+fn rollback(t: &mut [u32], n: u32) {
+    let last = 1 + 3 * t[0] as usize;
+    t[1 + 3 * n as usize..last].fill(0);
+    t[0] = n;
+}
+
+/// The answer and the steps, or a refusal.
+#[inline(never)]
+#[no_mangle]
+pub fn hand_cover(m: u32, packs: &[u64], t: &mut [u32], d: u64, limit: u32, work: &mut [u64]) -> Result<(u32, u64), u32> {
+    let mut keys = [0; 512];
+    let mut index = Index { heads: [0; 65536], next: [0; 65536] };
+    match admit(m, packs, t, &mut keys, &mut index) {
+        0 => {}
+        r => return Err(r),
+    }
+    if m < 64 && d >> m != 0 {
+        return Err(7);
+    }
+    if work.len() < 2 {
+        return Err(8);
+    }
+    work.fill(0);
+    let n = t[0];
+    let places = work.len() as u64 / 2;
+    let mut s = Search { packs, first: [0; 65], after: [0; 513], t, index: &mut index, memo: work, places, limit: limit as u64, steps: 0, full: false, over: false };
+    for (p, set) in packs.iter().enumerate() {
+        let low = set.trailing_zeros() as usize;
+        s.after[p + 1] = s.first[low];
+        s.first[low] = p as u32 + 1;
+    }
+    let answer = s.search(d);
+    let (over, full, steps) = (s.over, s.full, s.steps);
+    if over || full {
+        rollback(t, n);
+        return Err(if over { 9 } else { 10 });
+    }
+    Ok((answer, steps))
+}
+
+struct Table<'a> {
+    t: &'a mut [u32],
+    keys: &'a [u32],
+    index: &'a mut Index,
+}
+
+impl Table<'_> {
+    fn make(&mut self, label: u32, lo: u32, hi: u32) -> Option<u32> {
+        if hi == 0 {
+            return Some(lo);
+        }
+        self.index.unique(self.t, label, lo, hi)
+    }
+
+    fn node(&self, k: u32) -> (u32, u32, u32) {
+        let w = 3 * k as usize - 5;
+        (self.t[w], self.t[w + 1], self.t[w + 2])
+    }
+
+    fn top(&self, k: u32) -> u64 {
+        if k < 2 {
+            1 << 32
+        } else {
+            self.keys[self.node(k).0 as usize] as u64
+        }
+    }
+
+    fn combine(&mut self, memo: &mut [u64], op: u8, f: u32, g: u32) -> Option<u32> {
+        if f == 0 {
+            return Some(if op == 0 { g } else { 0 });
+        }
+        if g == 0 {
+            return Some(if op == 1 { 0 } else { f });
+        }
+        if f == g {
+            return Some(if op < 2 { f } else { 0 });
+        }
+        let (x, y) = if op < 2 && g < f { (g, f) } else { (f, g) };
+        let both = (x as u64) << 16 | y as u64;
+        let at = (both * 4021839121 >> 20) as usize & (memo.len() - 1);
+        if memo[at] >> 16 == both {
+            return Some(memo[at] as u32 & 65535);
+        }
+        let (a, b) = (self.top(f), self.top(g));
+        let (label, f1, g1, f0, g0) = if a < b {
+            let (label, lo, hi) = self.node(f);
+            (label, hi, 0, lo, g)
+        } else if b < a {
+            let (label, lo, hi) = self.node(g);
+            (label, 0, hi, f, lo)
+        } else {
+            let ((label, lo, hi), (_, lo2, hi2)) = (self.node(f), self.node(g));
+            (label, hi, hi2, lo, lo2)
+        };
+        let h = self.combine(memo, op, f1, g1)?;
+        let l = self.combine(memo, op, f0, g0)?;
+        let r = self.make(label, l, h)?;
+        memo[at] = both << 16 | r as u64;
+        Some(r)
+    }
+
+    fn restrict(&mut self, memo: &mut [u32; 65536], p: u32, holding: bool, f: u32) -> Option<u32> {
+        if f < 2 {
+            return Some(if holding { 0 } else { f });
+        }
+        let (label, lo, hi) = self.node(f);
+        if label == p {
+            return if holding { self.make(p, 0, hi) } else { Some(lo) };
+        }
+        if self.keys[p as usize] < self.keys[label as usize] {
+            return Some(if holding { 0 } else { f });
+        }
+        if memo[f as usize] != 0 {
+            return Some(memo[f as usize] - 1);
+        }
+        let h = self.restrict(memo, p, holding, hi)?;
+        let l = self.restrict(memo, p, holding, lo)?;
+        let r = self.make(label, l, h)?;
+        memo[f as usize] = r + 1;
+        Some(r)
+    }
+}
+
+/// either, both, only, with, without: 0 to 4.
+#[inline(never)]
+#[no_mangle]
+pub fn hand_combine(op: u8, m: u32, packs: &[u64], t: &mut [u32], a: u32, b: u32, work: &mut [u64]) -> Result<u32, u32> {
+    let mut keys = [0; 512];
+    let mut index = Index { heads: [0; 65536], next: [0; 65536] };
+    match admit(m, packs, t, &mut keys, &mut index) {
+        0 => {}
+        r => return Err(r),
+    }
+    let n = t[0];
+    if a >= n + 2 || op < 3 && b >= n + 2 {
+        return Err(5);
+    }
+    if op >= 3 && b as usize >= packs.len() {
+        return Err(6);
+    }
+    if work.len() < 2 {
+        return Err(8);
+    }
+    let mut table = Table { t, keys: &keys[..packs.len()], index: &mut index };
+    let r = if op >= 3 {
+        table.restrict(&mut [0; 65536], b, op == 3, a)
+    } else if work.len() < 65536 {
+        table.combine(&mut [0; 65536], op, a, b)
+    } else {
+        let places = 1 << work.len().ilog2();
+        work[..places].fill(0);
+        table.combine(&mut work[..places], op, a, b)
+    };
+    if r.is_none() {
+        rollback(t, n);
+    }
+    r.ok_or(10)
+}

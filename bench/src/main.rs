@@ -1,0 +1,269 @@
+//! The library beside the same algorithm written by hand in Rust and, where it is installed, beside CUDD's ZDDs: three instances of document 000's Table 1
+//! compiled, rounds of with, without, either, both and only on what was compiled, and how a call's time grows with the nodes.
+//!
+//! `bench [REPETITIONS]` prints the table. `bench WHO INSTANCE` does one repetition of one, for instruction counts (see bench/instructions).
+
+#[cfg(cudd)]
+mod cudd;
+#[path = "../../tests/rust/src/ffi.rs"]
+#[allow(dead_code)]
+mod ffi;
+mod hand;
+
+use std::cell::RefCell;
+use std::hint::black_box;
+use std::time::Instant;
+
+/// The last is the five before it together.
+const CALLS: [&str; 7] = ["cover", "either", "both", "only", "with", "without", "round"];
+/// Packages of one instance that the rounds go through.
+const ROUNDS: usize = 6;
+
+struct Instance {
+    name: &'static str,
+    m: u32,
+    packs: Vec<u64>,
+    /// The timetables, by Table 1.
+    count: u64,
+    /// What is lent: the nodes that the table has room for, and the places of the memo, a prime.
+    nodes: usize,
+    places: usize,
+}
+
+impl Instance {
+    fn all(&self) -> u64 {
+        if self.m == 64 {
+            u64::MAX
+        } else {
+            (1 << self.m) - 1
+        }
+    }
+
+    /// The packages of the rounds, spread over all.
+    fn chosen(&self) -> impl Iterator<Item = usize> + '_ {
+        (0..ROUNDS).map(|i| i * self.packs.len() / ROUNDS)
+    }
+}
+
+fn instances() -> Vec<Instance> {
+    let bell = (1..512).collect();
+    let pairs = (0..1u64 << 18).filter(|x| x.count_ones() == 2).collect();
+    let mut dominoes = Vec::new();
+    for cell in 0..64 {
+        if cell % 8 < 7 {
+            dominoes.push(3 << cell);
+        }
+        if cell < 56 {
+            dominoes.push(257 << cell);
+        }
+    }
+    vec![
+        Instance { name: "bell-09", m: 9, packs: bell, count: 21147, nodes: 8192, places: 16381 },
+        Instance { name: "doublefact-17", m: 18, packs: pairs, count: 34459425, nodes: 65534, places: 65521 },
+        Instance { name: "domino.8.8", m: 64, packs: dominoes, count: 12988816, nodes: 8192, places: 16381 },
+    ]
+}
+
+/// The nanoseconds of one repetition, for each of CALLS (the rounds' calls on average), and the steps.
+struct Times([f64; 7], u64);
+
+/// One repetition by calls on numbers: cover first, then the rounds, after each of which `back` puts the table back to the compiled one.
+fn repetition<A: Copy + PartialEq>(
+    who: &Instance,
+    mut cover: impl FnMut() -> (A, u64),
+    mut combine: impl FnMut(usize, A, A, usize) -> A,
+    mut back: impl FnMut(),
+    zero: A,
+) -> Times {
+    let mut times = [0.0; 7];
+    let started = Instant::now();
+    let (all, steps) = black_box(cover());
+    times[0] = started.elapsed().as_nanos() as f64;
+    for p in who.chosen() {
+        let mut timed = |op: usize, a: A, b: A| {
+            let started = Instant::now();
+            let f = black_box(combine(op, a, b, p));
+            times[1 + op] += started.elapsed().as_nanos() as f64 / ROUNDS as f64;
+            f
+        };
+        let with = timed(3, all, all);
+        let without = timed(4, all, all);
+        assert!(timed(0, with, without) == all);
+        assert!(timed(1, with, without) == zero);
+        assert!(timed(2, all, with) == without);
+        back();
+    }
+    times[6] = times[1..6].iter().sum();
+    Times(times, steps)
+}
+
+/// What is lent, and the nodes of the compiled table.
+struct Lent {
+    table: Vec<u32>,
+    work: Vec<u64>,
+    compiled: u32,
+}
+
+impl Lent {
+    fn new(who: &Instance) -> Lent {
+        Lent { table: vec![0; 1 + 3 * who.nodes], work: vec![1; 2 * who.places], compiled: 0 }
+    }
+
+    fn back(&mut self) {
+        self.table[1 + 3 * self.compiled as usize..].fill(0);
+        self.table[0] = self.compiled;
+    }
+}
+
+fn library(who: &Instance) -> Times {
+    let lent = RefCell::new(Lent::new(who));
+    repetition(
+        who,
+        || {
+            let l = &mut *lent.borrow_mut();
+            let r = ffi::cover(who.m, &who.packs, &mut l.table, who.all(), u32::MAX, &mut l.work);
+            assert_eq!(r.refusal, 0);
+            l.compiled = r.made;
+            (r.answer, r.steps as u64)
+        },
+        |op, a, b, p| {
+            let l = &mut *lent.borrow_mut();
+            let b = if op < 3 { b } else { p as u32 };
+            let r = ffi::combine(op, who.m, &who.packs, &mut l.table, a, b, &mut l.work);
+            assert_eq!(r.refusal, 0);
+            r.answer
+        },
+        || lent.borrow_mut().back(),
+        0,
+    )
+}
+
+fn by_hand(who: &Instance) -> Times {
+    let lent = RefCell::new(Lent::new(who));
+    repetition(
+        who,
+        || {
+            let l = &mut *lent.borrow_mut();
+            let r = hand::hand_cover(who.m, &who.packs, &mut l.table, who.all(), u32::MAX, &mut l.work).unwrap();
+            l.compiled = l.table[0];
+            r
+        },
+        |op, a, b, p| {
+            let l = &mut *lent.borrow_mut();
+            let b = if op < 3 { b } else { p as u32 };
+            hand::hand_combine(op as u8, who.m, &who.packs, &mut l.table, a, b, &mut l.work).unwrap()
+        },
+        || lent.borrow_mut().back(),
+        0,
+    )
+}
+
+#[cfg(cudd)]
+fn by_cudd(who: &Instance) -> Times {
+    let order = cudd::Order::new(&who.packs);
+    let manager = cudd::Manager::new(&order);
+    let (mut keys, mut values) = (vec![1; who.places], vec![std::ptr::null_mut(); who.places]);
+    repetition(who, || manager.cover(who.all(), &mut keys, &mut values), |op, a, b, p| manager.combine(op, a, b, p), || {}, manager.zero())
+}
+
+fn median(mut x: Vec<f64>) -> f64 {
+    x.sort_by(f64::total_cmp);
+    x[x.len() / 2]
+}
+
+fn least(x: &[f64]) -> f64 {
+    x.iter().copied().fold(f64::INFINITY, f64::min)
+}
+
+fn compare(who: &Instance, repetitions: usize) {
+    let (mut ours, mut hands, mut cudds) = (Vec::new(), Vec::new(), Vec::new());
+    // in turn, so that none always runs in the caches that another leaves
+    for i in 0..3 * repetitions {
+        match (i + i / 3) % 3 {
+            0 => ours.push(library(who)),
+            1 => hands.push(by_hand(who)),
+            #[cfg(cudd)]
+            _ => cudds.push(by_cudd(who)),
+            #[cfg(not(cudd))]
+            _ => {}
+        }
+    }
+    assert!(hands.iter().chain(&cudds).all(|t| t.1 == ours[0].1), "steps differ");
+    let lent = compiled(who);
+    println!("{}: {} packages, {} steps, {} nodes in a table for {}, memo of {} places", who.name, who.packs.len(), ours[0].1, lent.table[0], who.nodes, who.places);
+    for (i, call) in CALLS.iter().enumerate() {
+        let column = |t: &[Times]| t.iter().map(|x| x.0[i] / 1000.0).collect::<Vec<_>>();
+        let (a, b) = (column(&ours), column(&hands));
+        print!("  {call:<8} {:>9.1} {:>9.1} {:>9.1} {:>9.1}", median(a.clone()), least(&a), median(b.clone()), least(&b));
+        if cudds.is_empty() {
+            println!("         -         - {:>9.2}", least(&a) / least(&b));
+        } else {
+            let c = column(&cudds);
+            println!(" {:>9.1} {:>9.1} {:>9.2} {:>9.2}", median(c.clone()), least(&c), least(&a) / least(&b), least(&a) / least(&c));
+        }
+    }
+}
+
+/// The instance compiled, and its count as Table 1 has it.
+fn compiled(who: &Instance) -> Lent {
+    let mut lent = Lent::new(who);
+    let r = ffi::cover(who.m, &who.packs, &mut lent.table, who.all(), u32::MAX, &mut lent.work);
+    assert_eq!(ffi::count(who.m, &who.packs, &lent.table, r.answer, &mut lent.work), ffi::Number { refusal: 0, value: who.count });
+    lent
+}
+
+/// The check of the first n nodes of a table, in a table with just room for them: what every call does first.
+fn growth(who: &Instance, repetitions: usize) {
+    let lent = compiled(who);
+    println!("how a call's time grows with the nodes of its table ({}): the soundness check, microseconds, and nanoseconds a node", who.name);
+    let mut n = 256;
+    while n <= lent.table[0] as usize {
+        let mut t = lent.table[..1 + 3 * n].to_vec();
+        t[0] = n as u32;
+        let times: Vec<f64> = (0..4 * repetitions)
+            .map(|_| {
+                let started = Instant::now();
+                assert_eq!(ffi::check(who.m, &who.packs, &t), 0);
+                started.elapsed().as_nanos() as f64 / 1000.0
+            })
+            .collect();
+        println!("  {n:>6} nodes {:>9.1} {:>9.1} {:>9.1}", median(times.clone()), least(&times), least(&times) * 1000.0 / n as f64);
+        n *= 2;
+    }
+}
+
+/// One repetition of one, to be counted.
+fn once(who: &str, instance: &Instance) {
+    match who {
+        "library" => library(instance),
+        "hand" => by_hand(instance),
+        #[cfg(cudd)]
+        "cudd" => by_cudd(instance),
+        _ => panic!("library, hand or cudd"),
+    };
+}
+
+fn main() {
+    let args: Vec<String> = std::env::args().skip(1).collect();
+    let all = instances();
+    if args.len() == 2 {
+        return once(&args[0], all.iter().find(|i| i.name == args[1]).expect("an instance"));
+    }
+    let repetitions = args.first().map_or(101, |a| a.parse().expect("a number"));
+    println!("microseconds a call: median and least of {repetitions} repetitions, then the ratios of the least");
+    println!("             library               by hand               CUDD               to hand   to CUDD");
+    for who in &all {
+        compare(who, repetitions);
+    }
+    #[cfg(cudd)]
+    {
+        let order = cudd::Order::new(&all[0].packs);
+        let times = (0..repetitions).map(|_| {
+            let started = Instant::now();
+            black_box(cudd::Manager::new(&order));
+            started.elapsed().as_nanos() as f64 / 1000.0
+        });
+        println!("CUDD's manager is made before its cover and not counted: made and freed, least {:.1}", least(&times.collect::<Vec<_>>()));
+    }
+    growth(&all[1], repetitions);
+}

@@ -1,0 +1,12 @@
+use borrow.Author.Needs.{needs}
+use Rattle.capi.proofs.shown.Statement.{statement}
+use Rattle.capi.proofs.shown.Tie as tie
+
+outcome-requires : tie.Need-outcome-requires
+outcome-requires c κs = search needs
+
+returns : tie.Need-returns
+returns c = c .outcome .ensures
+
+pub shown-spec : {M : Type 1} → statement M
+shown-spec = tie.close (tie.spec outcome-requires returns)

@@ -1,0 +1,151 @@
+/* Mogedorn for C: every exact cover of a set of items by given packages, kept as one decision diagram in memory that the caller lends.
+ *
+ * Link with libmogedorn.a (`pkg-config --cflags --libs mogedorn`); it needs nothing but memset. x86-64 Linux, System V calling convention.
+ *
+ * Every entry is proved to do what the crate `engine` (or `bids`) promises, for any values of its arguments: see docs/STATEMENTS.md. What a C caller owes,
+ * since nothing can check it here:
+ *   - a pointer is not null, also where its length is 0; it is aligned for its type and points to as many elements as the length after it says;
+ *   - what an entry writes to (a pointer without const) overlaps nothing else that the same call is lent;
+ *   - while a call runs, no other thread writes to what it is lent, and none reads what it may write to;
+ *   - the thread has the stack that a call needs, see below.
+ *
+ * Ownership. Everything is lent for the time of the call. Nothing is kept, allocated or freed, and there is no state between calls but the table.
+ * Threads. The entries are reentrant. Any number of calls may run at once on different tables; calls that only read (check, count, pick, place, cheapest)
+ * may share a table, each with its own working words and page.
+ *
+ * The arguments that most entries share, by document 01's names:
+ *   m                        M, the number of items: 0 to 64
+ *   packages, packages_len   the N packages, 0 to 512: bit i of a package is item i, and none is empty
+ *   table, table_len         the node table, all zeros at first; c nodes need 1 + 3 c words, and no more than 65534 nodes count. Keep it as the calls
+ *                            leave it. Every call checks the whole table first, in time linear in its nodes
+ *   work, work_len           working words: their contents mean nothing before and after a call. With too few the call is refused (8)
+ *   answer, a, b             numbers that earlier calls on this table gave, or 0 (no timetable) or 1 (the empty timetable alone)
+ *   page, page_len           where a timetable is written: its packages in precedence, at the start. The rest of the page is unchanged
+ *
+ * A refused call leaves table, page and buffers as they were. The first line of the table of refusals that applies is given, and only then.
+ *
+ * Stack. Measured by `make stack`: each entry on a stack filled with a pattern, on inputs that make it go deepest, the lowest changed byte counted; here
+ * rounded up. Lend a thread that much and what its own code takes. The recursion is bounded: by 64 items in cover, by 512 packages in the others.
+ */
+#ifndef MOGEDORN_H
+#define MOGEDORN_H
+
+#include <stddef.h>
+#include <stdint.h>
+
+#ifdef __cplusplus
+extern "C" {
+#endif
+
+/* The stack in bytes that suffices for every entry. */
+#define MOGEDORN_STACK 1310720
+
+/* The refusals [document 01's numbers]. */
+enum {
+    MOGEDORN_OVERSIZE = 1,         /* M above 64 or N above 512 */
+    MOGEDORN_STRAY = 2,            /* an empty package, or an item of M or above in one */
+    MOGEDORN_COST_LIST = 3,        /* its length is not N */
+    MOGEDORN_SPOILT = 4,           /* the table is not sound */
+    MOGEDORN_UNKNOWN_ANSWER = 5,   /* an operand that the table does not know */
+    MOGEDORN_UNKNOWN_PACKAGE = 6,  /* a package of N or more; in place also a list out of precedence or repeating */
+    MOGEDORN_UNKNOWN_ITEM = 7,     /* an item of M or above in the set to cover */
+    MOGEDORN_SHORT_WORK = 8,       /* too few working words */
+    MOGEDORN_SPENT = 9,            /* more steps than the limit, counted as if the table had no end */
+    MOGEDORN_FULL = 10,            /* the answer's nodes that are not yet in the table outnumber the free places */
+    MOGEDORN_UNCOUNTABLE = 11,     /* more than 18446744073709551615 timetables */
+    MOGEDORN_PAST_THE_END = 12,    /* pick of k at or above the count */
+    MOGEDORN_NOTHING = 13,         /* cheapest of 0 */
+    MOGEDORN_ABSENT = 14,          /* place of a timetable not in the answer */
+    MOGEDORN_SHORT_PAGE = 15,      /* the timetable is longer than the page; of read_bids: a buffer with fewer than N places */
+    MOGEDORN_BIDS_CUT = 20,        /* under 13 bytes, or not the length that its header asks */
+    MOGEDORN_BIDS_MARK = 21,       /* not PSB */
+    MOGEDORN_BIDS_VERSION = 22,    /* not 1 */
+    MOGEDORN_BIDS_CHECK = 23,      /* the check differs */
+    MOGEDORN_BIDS_SIZE = 24,       /* S + T above 64 or N above 512 */
+    MOGEDORN_BIDS_SCHOOL_TWICE = 25,
+    MOGEDORN_BIDS_STRAY = 26,      /* a school that is not listed, or a slot of T or above */
+    MOGEDORN_BIDS_PACKAGE_TWICE = 27
+};
+
+/* In each struct a refusal of 0 means that the call answered; after a refusal all other fields are 0. */
+
+/* Of the calls that make an answer. */
+typedef struct {
+    uint32_t refusal;
+    uint32_t answer; /* the number of the set of timetables: equal numbers, equal sets */
+    uint32_t steps;  /* entries into Search; 0 outside cover */
+    uint32_t made;   /* nodes made: the growth of word 0 */
+} mogedorn_report;
+
+/* Of count and place. */
+typedef struct {
+    uint32_t refusal;
+    uint64_t value;
+} mogedorn_number;
+
+/* Of pick and cheapest. */
+typedef struct {
+    uint32_t refusal;
+    uint32_t cost;     /* of cheapest; 0 of pick */
+    uint64_t packages; /* how many packages were written to the page */
+} mogedorn_timetable;
+
+/* Of read_bids. */
+typedef struct {
+    uint32_t refusal;
+    uint32_t schools;  /* S: school j is item j */
+    uint32_t slots;    /* T: slot t is item S + t */
+    uint64_t packages; /* N */
+} mogedorn_bids;
+
+/* Whether the table is sound: 0, or the refusal 1, 2 or 4. Stack: 527 KB. */
+uint32_t mogedorn_check(uint32_t m, const uint64_t *packages, size_t packages_len, const uint32_t *table, size_t table_len);
+
+/* The timetables that cover the item set d: bit i is item i. At most `limit` steps. Two working words are one place of the memo: at least 2, and the more
+   the fewer steps. Lend an odd, best a prime number of places, since a set's place is the set modulo their number.
+   Refusals 1, 2, 4, 7, 8, 9, 10. Stack: 548 KB. */
+mogedorn_report mogedorn_cover(uint32_t m, const uint64_t *packages, size_t packages_len, uint32_t *table, size_t table_len, uint64_t d, uint32_t limit,
+                               uint64_t *work, size_t work_len);
+
+/* The timetables of a or b; of a and b; of a and not of b. At least 2 working words. Refusals 1, 2, 4, 5, 8, 10. Stack: 1166 KB. */
+mogedorn_report mogedorn_either(uint32_t m, const uint64_t *packages, size_t packages_len, uint32_t *table, size_t table_len, uint32_t a, uint32_t b,
+                                uint64_t *work, size_t work_len);
+mogedorn_report mogedorn_both(uint32_t m, const uint64_t *packages, size_t packages_len, uint32_t *table, size_t table_len, uint32_t a, uint32_t b,
+                              uint64_t *work, size_t work_len);
+mogedorn_report mogedorn_only(uint32_t m, const uint64_t *packages, size_t packages_len, uint32_t *table, size_t table_len, uint32_t a, uint32_t b,
+                              uint64_t *work, size_t work_len);
+
+/* The timetables of a that hold the package p; that do not. At least 2 working words. Refusals 1, 2, 4, 5, 6, 8, 10. Stack: 871 KB. */
+mogedorn_report mogedorn_with(uint32_t m, const uint64_t *packages, size_t packages_len, uint32_t *table, size_t table_len, uint32_t a, uint32_t p,
+                              uint64_t *work, size_t work_len);
+mogedorn_report mogedorn_without(uint32_t m, const uint64_t *packages, size_t packages_len, uint32_t *table, size_t table_len, uint32_t a, uint32_t p,
+                                 uint64_t *work, size_t work_len);
+
+/* How many timetables the answer holds. At least answer + 1 working words. Refusals 1, 2, 4, 5, 8, 11. Stack: 527 KB. */
+mogedorn_number mogedorn_count(uint32_t m, const uint64_t *packages, size_t packages_len, const uint32_t *table, size_t table_len, uint32_t answer,
+                               uint64_t *work, size_t work_len);
+
+/* The k-th timetable in listing order, from 0, written to the page. At least answer + 1 working words. Refusals 1, 2, 4, 5, 8, 11, 12, 15.
+   Stack: 527 KB. */
+mogedorn_timetable mogedorn_pick(uint32_t m, const uint64_t *packages, size_t packages_len, const uint32_t *table, size_t table_len, uint32_t answer,
+                                 uint64_t k, uint64_t *work, size_t work_len, uint16_t *page, size_t page_len);
+
+/* The k of a timetable, given as its packages in precedence. At least answer + 1 working words. Refusals 1, 2, 4, 5, 6, 8, 11, 14. Stack: 527 KB. */
+mogedorn_number mogedorn_place(uint32_t m, const uint64_t *packages, size_t packages_len, const uint32_t *table, size_t table_len, uint32_t answer,
+                               const uint16_t *list, size_t list_len, uint64_t *work, size_t work_len);
+
+/* The timetable of least cost, the first listed of equals, written to the page. `costs` has one cost for each package. At least 2 (answer + 1) working words.
+   Refusals 1, 2, 3, 4, 5, 8, 13, 15. Stack: 527 KB. */
+mogedorn_timetable mogedorn_cheapest(uint32_t m, const uint64_t *packages, size_t packages_len, const uint16_t *costs, size_t costs_len,
+                                     const uint32_t *table, size_t table_len, uint32_t answer, uint64_t *work, size_t work_len, uint16_t *page,
+                                     size_t page_len);
+
+/* Reads a bids file: its N packages as item sets and their costs, to the start of the buffers, whose rest is unchanged. M is then schools + slots.
+   Refusals 20 to 27, and 15. Stack: 1 KB. */
+mogedorn_bids mogedorn_read_bids(const uint8_t *file, size_t file_len, uint64_t *packages, size_t packages_len, uint16_t *costs, size_t costs_len);
+
+#ifdef __cplusplus
+}
+#endif
+
+#endif

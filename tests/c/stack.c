@@ -1,0 +1,96 @@
+/* How much stack each entry takes: it runs on a stack of its own that was filled with a pattern, on inputs that make it go as deep as it can, and the
+   lowest changed byte tells. `make stack` runs it; include/mogedorn.h states the result, rounded up. */
+#include <stdio.h>
+#include <stdlib.h>
+#include <string.h>
+#include <ucontext.h>
+
+#include "mogedorn.h"
+
+enum { STACK = 8 << 20, PATTERN = 0xA5, N = 512, NODES = 65534 };
+
+static unsigned char stack[STACK];
+static ucontext_t main_context, call_context;
+static void (*current)(void);
+
+static uint64_t packages[N], pairs[128], work[4 * NODES];
+static uint16_t costs[N], page[N], list[N];
+static uint32_t table[1 + 3 * NODES], pairs_table[1 + 3 * NODES];
+static uint32_t all, subsets;
+static uint8_t file[13 + 2 * 64 + 12 * 64];
+static uint32_t refused;
+
+static void run(void) { current(); }
+
+static size_t measure(void (*call)(void)) {
+    memset(stack, PATTERN, sizeof stack);
+    getcontext(&call_context);
+    call_context.uc_stack.ss_sp = stack;
+    call_context.uc_stack.ss_size = sizeof stack;
+    call_context.uc_link = &main_context;
+    current = call;
+    makecontext(&call_context, run, 0);
+    swapcontext(&main_context, &call_context);
+    size_t i = 0;
+    while (i < sizeof stack && stack[i] == PATTERN) i++;
+    return sizeof stack - i;
+}
+
+/* Every node of this table is on one path: the timetable of all 512 packages, and every set of packages. */
+static void deep_table(void) {
+    uint32_t n = 0, one = 1, any = 1;
+    for (uint32_t p = N; p-- > 0;) {
+        uint32_t *w = table + 1 + 3 * n;
+        w[0] = p, w[1] = 0, w[2] = one;
+        one = 2 + n++;
+        w = table + 1 + 3 * n;
+        w[0] = p, w[1] = any, w[2] = any;
+        any = 2 + n++;
+    }
+    table[0] = n;
+    all = one, subsets = any;
+}
+
+static void do_check(void) { refused |= mogedorn_check(64, packages, N, table, sizeof table / 4); }
+/* search goes down one item a time: 64 items with two packages each */
+static void do_cover(void) { refused |= mogedorn_cover(64, pairs, 128, pairs_table, sizeof pairs_table / 4, UINT64_MAX, 1000000, work, 2003).refusal; }
+static void do_either(void) { refused |= mogedorn_either(64, packages, N, table, sizeof table / 4, all, subsets, work, 2).refusal; }
+static void do_both(void) { refused |= mogedorn_both(64, packages, N, table, sizeof table / 4, all, subsets, work, 2).refusal; }
+static void do_only(void) { refused |= mogedorn_only(64, packages, N, table, sizeof table / 4, subsets, all, work, 2).refusal; }
+static void do_with(void) { refused |= mogedorn_with(64, packages, N, table, sizeof table / 4, all, N - 1, work, 2).refusal; }
+static void do_without(void) { refused |= mogedorn_without(64, packages, N, table, sizeof table / 4, all, N - 1, work, 2).refusal; }
+static void do_count(void) { refused |= mogedorn_count(64, packages, N, table, sizeof table / 4, all, work, 4 * NODES).refusal; }
+static void do_pick(void) { refused |= mogedorn_pick(64, packages, N, table, sizeof table / 4, all, 0, work, 4 * NODES, page, N).refusal; }
+static void do_place(void) { refused |= mogedorn_place(64, packages, N, table, sizeof table / 4, all, list, N, work, 4 * NODES).refusal; }
+static void do_cheapest(void) { refused |= mogedorn_cheapest(64, packages, N, costs, N, table, sizeof table / 4, all, work, 4 * NODES, page, N).refusal; }
+
+static void do_read_bids(void) { refused |= mogedorn_read_bids(file, sizeof file, packages, N, costs, N).refusal; }
+
+/* A file of 64 schools with one package each. */
+static void make_file(void) {
+    memcpy(file, "PSB\1\0\100\0\100\0", 9);
+    for (int j = 0; j < 64; j++) {
+        file[9 + 2 * j] = 1, file[10 + 2 * j] = (uint8_t)j;
+        file[9 + 128 + 12 * j] = 1, file[10 + 128 + 12 * j] = (uint8_t)j;
+    }
+    uint32_t h = 2166136261u;
+    for (size_t i = 0; i + 4 < sizeof file; i++) h = (h ^ file[i]) * 16777619u;
+    for (int i = 0; i < 4; i++) file[sizeof file - 4 + i] = (uint8_t)(h >> 8 * i);
+}
+
+int main(void) {
+    for (int p = 0; p < N; p++) packages[p] = 1ull << (p / 8), list[p] = (uint16_t)p;
+    for (int p = 0; p < 128; p++) pairs[p] = 1ull << (p / 2);
+    deep_table();
+    make_file();
+    static const struct { const char *name; void (*call)(void); } calls[] = {
+        {"check", do_check}, {"cover", do_cover}, {"either", do_either}, {"both", do_both}, {"only", do_only}, {"with", do_with}, {"without", do_without},
+        {"count", do_count}, {"pick", do_pick}, {"place", do_place}, {"cheapest", do_cheapest}, {"read_bids", do_read_bids},
+    };
+    for (size_t i = 0; i < sizeof calls / sizeof *calls; i++) {
+        refused = 0;
+        size_t bytes = measure(calls[i].call);
+        printf("%-10s %8zu bytes%s\n", calls[i].name, bytes, refused ? " (refused)" : "");
+    }
+    return 0;
+}

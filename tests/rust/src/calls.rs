@@ -1,0 +1,474 @@
+//! A random history of calls, each compared with the model.
+
+use crate::ffi;
+use crate::model::{capacity, Family, Packages};
+use crate::rng::Rng;
+
+/// The greatest number of packages for which every set of them is tried.
+const MOST: u64 = 9;
+/// The greatest number of steps that the model counts.
+const STEPS: u64 = 20_000;
+
+pub struct History {
+    rng: Rng,
+    m: u32,
+    sets: Vec<u64>,
+    table: Vec<u32>,
+    /// What each number of the table holds, while the table is sound.
+    known: Vec<Family>,
+    /// The ledger: an answer given and the set that the definitions give it.
+    ledger: Vec<(u32, Family)>,
+    pub calls: u64,
+    pub outcomes: [u64; 32],
+}
+
+/// What a call that makes an answer should say.
+enum Expected {
+    Refused(u32),
+    Answer { family: Family, steps: u64, made: u64 },
+}
+
+impl History {
+    pub fn new(mut rng: Rng) -> History {
+        let (m, sets) = random_packages(&mut rng);
+        let words = match rng.below(8) {
+            0 => rng.below(4),
+            1 => 1 + 3 * rng.below(6),
+            2 => rng.from(10, 60),
+            _ => 1 + 3 * rng.from(30, 300),
+        };
+        let mut history = History { rng, m, sets, table: vec![0; words as usize], known: Vec::new(), ledger: Vec::new(), calls: 0, outcomes: [0; 32] };
+        history.learn();
+        history
+    }
+
+    pub fn run(&mut self) {
+        for _ in 0..self.rng.from(20, 60) {
+            match self.rng.below(16) {
+                0..=3 => self.cover(),
+                4..=8 => self.combine(),
+                9 => self.check(),
+                10 => self.count(),
+                11 | 12 => self.pick(),
+                13 => self.place(),
+                14 => self.cheapest(),
+                _ => self.damaged(),
+            }
+        }
+        self.postings();
+    }
+
+    /// Reads the table anew.
+    fn learn(&mut self) {
+        let s = Packages::new(self.m, &self.sets);
+        self.known = if s.refusal() == 0 && s.sound(&self.table) { s.families(&self.table) } else { Vec::new() };
+    }
+
+    fn told(&mut self, refusal: u32) {
+        self.calls += 1;
+        self.outcomes[refusal as usize] += 1;
+    }
+
+    /// 1, 2, 4, or 0.
+    fn first_refusal(&self) -> u32 {
+        let s = Packages::new(self.m, &self.sets);
+        match s.refusal() {
+            0 if self.known.is_empty() => 4,
+            r => r,
+        }
+    }
+
+    fn nodes(&self) -> u64 {
+        self.known.len().saturating_sub(2) as u64
+    }
+
+    /// A number of the table, rarely an unknown one.
+    fn operand(&mut self) -> u32 {
+        let n = self.nodes();
+        match self.rng.below(40) {
+            0 => (n + 2) as u32,
+            1 => u32::MAX - self.rng.below(3) as u32,
+            2 => (n + self.rng.below(5)) as u32,
+            3..=10 if !self.ledger.is_empty() => self.ledger[self.rng.below(self.ledger.len() as u64) as usize].0,
+            _ => self.rng.below(n + 2) as u32,
+        }
+    }
+
+    /// Working words with anything in them: sometimes fewer than `least`.
+    fn work(&mut self, least: u64) -> Vec<u64> {
+        let words = match self.rng.below(12) {
+            0 => self.rng.below(least + 1),
+            1 => least,
+            2 => least.saturating_sub(1),
+            _ => least + self.rng.below(40),
+        };
+        (0..words).map(|_| if self.rng.once_in(2) { self.rng.next() } else { self.rng.below(300) }).collect()
+    }
+
+    /// Many working words, with what a memory of earlier results might have held: two numbers of the table and a third.
+    fn long_work(&mut self) -> Vec<u64> {
+        let n = self.nodes() + 2;
+        let words = [65535, 65536, 70000, 131072][self.rng.below(4) as usize];
+        (0..words).map(|_| (self.rng.below(n) << 16 | self.rng.below(n)) << 16 | self.rng.below(n)).collect()
+    }
+
+    fn page(&mut self, about: usize) -> Vec<u16> {
+        let long = match self.rng.below(6) {
+            0 => self.rng.below(about as u64 + 1) as usize,
+            1 => about,
+            _ => about + self.rng.below(4) as usize,
+        };
+        (0..long).map(|_| self.rng.next() as u16).collect()
+    }
+
+    // ---- the calls that make an answer
+
+    fn cover(&mut self) {
+        let d = match self.rng.below(6) {
+            0 => self.rng.next() & self.rng.next(),
+            1 => 0,
+            2 | 3 => self.sets.iter().fold(0, |a, s| a | s),
+            _ => {
+                let mut d = 0;
+                for s in self.sets.clone() {
+                    if self.rng.once_in(2) {
+                        d |= s;
+                    }
+                }
+                d
+            }
+        };
+        let mut work = if self.rng.once_in(3) { self.work(2) } else { vec![7; self.rng.from(20, 140) as usize] };
+        let s = Packages::new(self.m, &self.sets);
+        let places = work.len() / 2;
+        let fits = self.first_refusal() == 0 && (0..64).all(|i| d >> i & 1 == 0 || i < self.m);
+        let steps = if fits && places > 0 { s.steps(d, places, STEPS) } else { 0 };
+        let limit = match self.rng.below(5) {
+            0 => steps.saturating_sub(1),
+            1 => steps,
+            2 => self.rng.below(steps + 2),
+            _ => 1_000_000,
+        } as u32;
+        if steps > STEPS {
+            return;
+        }
+        let expected = match self.first_refusal() {
+            0 if !fits => Expected::Refused(7),
+            0 if places == 0 => Expected::Refused(8),
+            0 if steps > limit as u64 => Expected::Refused(9),
+            0 => self.made(s.covering(d), steps),
+            r => Expected::Refused(r),
+        };
+        let before = self.table.clone();
+        let got = ffi::cover(self.m, &self.sets, &mut self.table, d, limit, &mut work);
+        self.compare(&format!("cover {d} limit {limit} words {}", work.len()), &before, expected, got);
+    }
+
+    /// either, both, only, with, without.
+    fn combine(&mut self) {
+        let op = self.rng.below(5) as usize;
+        let a = self.operand();
+        let n = self.sets.len() as u64;
+        let b = match (op < 3, self.rng.below(20)) {
+            (true, _) => self.operand(),
+            (false, 0) => n as u32,
+            (false, 1) => u32::MAX,
+            (false, _) => self.rng.below(n.max(1)) as u32,
+        };
+        let mut work = if self.rng.once_in(30) { self.long_work() } else { self.work(2) };
+        let known = |k: u32| (k as u64) < self.nodes() + 2;
+        let expected = match self.first_refusal() {
+            0 if !known(a) || (op < 3 && !known(b)) => Expected::Refused(5),
+            0 if op >= 3 && b as u64 >= n => Expected::Refused(6),
+            0 if work.len() < 2 => Expected::Refused(8),
+            0 => {
+                let mut f = Family::none(self.sets.len());
+                let first = &self.known[a as usize];
+                for t in 0..1u32 << n {
+                    let second = op < 3 && self.known[b as usize].has(t);
+                    let holds = op >= 3 && t >> b & 1 == 1;
+                    let x = first.has(t);
+                    if [x || second, x && second, x && !second, x && holds, x && !holds][op] {
+                        f.add(t);
+                    }
+                }
+                self.made(f, 0)
+            }
+            r => Expected::Refused(r),
+        };
+        let before = self.table.clone();
+        let got = ffi::combine(op, self.m, &self.sets, &mut self.table, a, b, &mut work);
+        self.compare(&format!("call {op} of {a} and {b}"), &before, expected, got);
+    }
+
+    /// The call makes f: full, or an answer.
+    fn made(&self, f: Family, steps: u64) -> Expected {
+        let made = Packages::new(self.m, &self.sets).missing(&self.known, &f);
+        if made > capacity(&self.table) as u64 - self.nodes() {
+            return Expected::Refused(10);
+        }
+        Expected::Answer { family: f, steps, made }
+    }
+
+    fn compare(&mut self, call: &str, before: &[u32], expected: Expected, got: ffi::Report) {
+        self.told(got.refusal);
+        match expected {
+            Expected::Refused(n) => {
+                assert_eq!(got, ffi::Report { refusal: n, answer: 0, steps: 0, made: 0 }, "{call}");
+                assert_eq!(self.table, before, "{call}: refused, and the table changed");
+            }
+            Expected::Answer { family, steps, made } => {
+                assert_eq!((got.refusal, got.steps as u64, got.made as u64), (0, steps, made), "{call}");
+                let s = Packages::new(self.m, &self.sets);
+                let old = 1 + 3 * before[0] as usize;
+                assert_eq!(self.table[1..old], before[1..old], "{call}: old nodes");
+                assert_eq!(self.table[0], before[0] + got.made, "{call}: word 0");
+                assert!(s.sound(&self.table), "{call}: not sound");
+                self.known = s.families(&self.table);
+                assert_eq!(self.known[got.answer as usize], family, "{call}: another set");
+                self.ledger.push((got.answer, family));
+            }
+        }
+    }
+
+    /// Any two postings have equal numbers exactly when they have equal sets, and the numbers still hold their sets.
+    fn postings(&mut self) {
+        for i in 0..self.ledger.len() {
+            let (a, f) = &self.ledger[i];
+            assert!(self.known[*a as usize] == *f, "posting {i}");
+            for (b, g) in &self.ledger[..i] {
+                assert_eq!(a == b, f == g, "postings of {a} and {b}");
+            }
+        }
+        // pick 0, 1, 2, .. lists the set of one posting, and then says 12
+        if self.ledger.is_empty() {
+            return;
+        }
+        let (a, f) = self.ledger[self.rng.below(self.ledger.len() as u64) as usize].clone();
+        let s = Packages::new(self.m, &self.sets);
+        let mut work = vec![0; a as usize + 1];
+        for (k, t) in s.listing(&f).into_iter().enumerate() {
+            let mut page = vec![9999; 12];
+            let got = ffi::pick(self.m, &self.sets, &self.table, a, k as u64, &mut work, &mut page);
+            let written = s.written(t);
+            assert_eq!((got.refusal, got.packages), (0, written.len() as u64), "pick {k} of {a}");
+            assert_eq!(page[..written.len()], written[..], "pick {k} of {a}");
+        }
+        let past = ffi::pick(self.m, &self.sets, &self.table, a, f.len(), &mut work, &mut [0; 12]);
+        assert_eq!(past.refusal, 12);
+    }
+
+    // ---- the questions
+
+    fn check(&mut self) {
+        let got = ffi::check(self.m, &self.sets, &self.table);
+        self.told(got);
+        assert_eq!(got, self.first_refusal(), "check");
+    }
+
+    /// 1 to 8 of a question on answer a, with the least working words.
+    fn question_refusal(&self, a: u32, work: &[u64], least: u64, cost_list: bool, list: Option<&[u16]>) -> u32 {
+        let s = Packages::new(self.m, &self.sets);
+        match self.first_refusal() {
+            0 | 4 if !cost_list => 3,
+            0 if a as u64 >= self.nodes() + 2 => 5,
+            0 if list.is_some_and(|l| l.iter().any(|&p| p as usize >= s.n()) || l.windows(2).any(|w| !s.before(w[0] as usize, w[1] as usize))) => 6,
+            0 if (work.len() as u64) < least => 8,
+            r => r,
+        }
+    }
+
+    fn count(&mut self) {
+        let a = self.operand();
+        let mut work = self.work((a as u64 + 1).min(2000));
+        let got = ffi::count(self.m, &self.sets, &self.table, a, &mut work);
+        self.told(got.refusal);
+        let expected = match self.question_refusal(a, &work, a as u64 + 1, true, None) {
+            0 => ffi::Number { refusal: 0, value: self.known[a as usize].len() },
+            r => ffi::Number { refusal: r, value: 0 },
+        };
+        assert_eq!(got, expected, "count {a}");
+    }
+
+    fn pick(&mut self) {
+        let a = self.operand();
+        let count = self.known.get(a as usize).map_or(0, |f| f.len());
+        let k = match self.rng.below(12) {
+            0 => count,
+            1 => self.rng.next(),
+            2 => count.saturating_sub(1),
+            _ => self.rng.below(count.max(1)),
+        };
+        let mut work = self.work((a as u64 + 1).min(2000));
+        let s = Packages::new(self.m, &self.sets);
+        let member = self.known.get(a as usize).and_then(|f| s.listing(f).get(k as usize).copied());
+        let list = member.map(|t| s.written(t)).unwrap_or_default();
+        let mut page = self.page(list.len());
+        let before = page.clone();
+        let got = ffi::pick(self.m, &self.sets, &self.table, a, k, &mut work, &mut page);
+        self.told(got.refusal);
+        let refusal = match self.question_refusal(a, &work, a as u64 + 1, true, None) {
+            0 if k >= count => 12,
+            0 if list.len() > before.len() => 15,
+            r => r,
+        };
+        let call = format!("pick {k} of {a}");
+        compare_page(&call, refusal, &list, 0, &before, &page, got);
+    }
+
+    fn place(&mut self) {
+        let a = self.operand();
+        let s = Packages::new(self.m, &self.sets);
+        let n = s.n() as u64;
+        let listing = self.known.get(a as usize).map(|f| s.listing(f)).unwrap_or_default();
+        let mut list = if listing.is_empty() || self.rng.once_in(4) {
+            let t = self.rng.below(1 << n.min(MOST)) as u32;
+            s.written(t)
+        } else {
+            s.written(listing[self.rng.below(listing.len() as u64) as usize])
+        };
+        match self.rng.below(12) {
+            0 => list.push(self.rng.below(n + 3) as u16),
+            1 => list.reverse(),
+            2 => list.insert(0, self.rng.next() as u16),
+            3 if !list.is_empty() => list.push(list[0]),
+            _ => {}
+        }
+        let mut work = self.work((a as u64 + 1).min(2000));
+        let got = ffi::place(self.m, &self.sets, &self.table, a, &list, &mut work);
+        self.told(got.refusal);
+        let refusal = self.question_refusal(a, &work, a as u64 + 1, true, Some(&list));
+        let mask = list.iter().fold(0u32, |t, &p| t | 1u32.checked_shl(p as u32).unwrap_or(0));
+        let expected = match (refusal, listing.iter().position(|&t| t == mask)) {
+            (0, Some(k)) => ffi::Number { refusal: 0, value: k as u64 },
+            (0, None) => ffi::Number { refusal: 14, value: 0 },
+            (r, _) => ffi::Number { refusal: r, value: 0 },
+        };
+        assert_eq!(got, expected, "place {list:?} in {a}");
+    }
+
+    fn cheapest(&mut self) {
+        let a = self.operand();
+        let sets = self.sets.clone();
+        let s = Packages::new(self.m, &sets);
+        let long = match self.rng.below(10) {
+            0 => self.rng.below(s.n() as u64 + 3) as usize,
+            _ => s.n(),
+        };
+        let top = [3, 65536, 10][self.rng.below(3) as usize];
+        let costs: Vec<u16> = (0..long).map(|_| self.rng.below(top) as u16).collect();
+        let cost = |t: u32| (0..s.n()).filter(|&p| t >> p & 1 == 1).map(|p| costs.get(p).map_or(0, |&c| c as u32)).sum::<u32>();
+        let listing = self.known.get(a as usize).map(|f| s.listing(f)).unwrap_or_default();
+        let least = listing.iter().map(|&t| cost(t)).min();
+        let first = listing.iter().copied().find(|&t| Some(cost(t)) == least);
+        let list = first.map(|t| s.written(t)).unwrap_or_default();
+        let words = 2 * (a as u64 + 1);
+        let mut work = self.work(words.min(2000));
+        let mut page = self.page(list.len());
+        let before = page.clone();
+        let got = ffi::cheapest(self.m, &self.sets, &costs, &self.table, a, &mut work, &mut page);
+        self.told(got.refusal);
+        let refusal = match self.question_refusal(a, &work, words, costs.len() == s.n(), None) {
+            0 if a == 0 => 13,
+            0 if list.len() > before.len() => 15,
+            r => r,
+        };
+        let call = format!("cheapest of {a}");
+        compare_page(&call, refusal, &list, least.unwrap_or(0), &before, &page, got);
+    }
+
+    // ---- damaged tables
+
+    /// Some calls on a table with words changed, which is then put back.
+    fn damaged(&mut self) {
+        let (table, known, ledger) = (self.table.clone(), self.known.clone(), self.ledger.clone());
+        let used = if table.is_empty() { 0 } else { (1 + 3 * table[0] as u64).min(table.len() as u64) };
+        for _ in 0..self.rng.from(1, 3) {
+            if self.table.is_empty() {
+                break;
+            }
+            let long = self.table.len() as u64;
+            let at = match self.rng.below(4) {
+                0 => 0,
+                1 => self.rng.below(long),
+                2 => long - 1,
+                _ => self.rng.below(used.max(1)),
+            } as usize;
+            self.table[at] = match self.rng.below(5) {
+                0 => self.rng.next() as u32,
+                1 => self.table[at].wrapping_add(1),
+                2 => self.table[at].wrapping_sub(1),
+                3 => 0,
+                _ => self.rng.below(used + 2) as u32,
+            };
+        }
+        self.learn();
+        self.ledger.clear();
+        for _ in 0..self.rng.from(1, 3) {
+            match self.rng.below(7) {
+                0 => self.cover(),
+                1 => self.combine(),
+                2 => self.count(),
+                3 => self.pick(),
+                4 => self.place(),
+                5 => self.cheapest(),
+                _ => self.check(),
+            }
+        }
+        self.check();
+        (self.table, self.known, self.ledger) = (table, known, ledger);
+    }
+}
+
+/// The result and the page of pick or cheapest.
+fn compare_page(call: &str, refusal: u32, list: &[u16], cost: u32, before: &[u16], page: &[u16], got: ffi::Timetable) {
+    if refusal != 0 {
+        assert_eq!(got, ffi::Timetable { refusal, cost: 0, packages: 0 }, "{call}");
+        assert_eq!(page, before, "{call}: refused, and the page changed");
+        return;
+    }
+    assert_eq!(got, ffi::Timetable { refusal, cost, packages: list.len() as u64 }, "{call}");
+    assert_eq!(&page[..list.len()], list, "{call}");
+    assert_eq!(page[list.len()..], before[list.len()..], "{call}: the rest of the page");
+}
+
+/// Packages over a few items, which lie anywhere below M.
+fn random_packages(rng: &mut Rng) -> (u32, Vec<u64>) {
+    let m = match rng.below(12) {
+        0 => rng.below(3),
+        1 => 64,
+        2 => rng.from(60, 70),
+        _ => rng.from(2, 10),
+    } as u32;
+    let items: Vec<u64> = (0..rng.from(1, 7)).map(|_| rng.below(m.clamp(1, 64) as u64)).collect();
+    let n = match rng.below(30) {
+        0 => rng.from(0, 1),
+        1 => rng.from(510, 514),
+        _ => rng.from(2, MOST),
+    };
+    let heavy = rng.from(2, 4);
+    let mut sets: Vec<u64> = (0..n)
+        .map(|_| {
+            let mut s = 1 << items[rng.below(items.len() as u64) as usize];
+            for &i in &items {
+                if rng.once_in(heavy) {
+                    s |= 1 << i;
+                }
+            }
+            s
+        })
+        .collect();
+    if n > 512 {
+        return (m, sets);
+    }
+    if n > MOST {
+        // too many for the model: spoil one, so that every call is refused by 2
+        sets[rng.below(n) as usize] = 0;
+    } else if rng.once_in(20) && n > 0 {
+        let k = rng.below(n) as usize;
+        sets[k] = if rng.once_in(2) { 0 } else { rng.next() };
+    } else if rng.once_in(4) && n > 1 {
+        sets[0] = sets[n as usize - 1];
+    }
+    (m, sets)
+}

@@ -1,0 +1,36 @@
+//! The edge of 64 bits, which no listing of small sets reaches: two packages for each of 64 items give 2^64 timetables.
+
+use crate::ffi;
+
+pub fn sixty_four_bits() {
+    let sets: Vec<u64> = (0..128).map(|p| 1 << (p / 2)).collect();
+    let mut table = vec![0; 1 + 3 * 20000];
+    let mut work = vec![0; 40004];
+    let mut page = vec![0; 64];
+    let all = ffi::cover(64, &sets, &mut table, u64::MAX, 1000, &mut work);
+    assert_eq!((all.refusal, all.made), (0, 128));
+    let a = all.answer;
+    assert_eq!(ffi::count(64, &sets, &table, a, &mut work).refusal, 11);
+    assert_eq!(ffi::pick(64, &sets, &table, a, 0, &mut work, &mut page).refusal, 11);
+    // cheapest has no such bound: the odd packages, at 64 times 1
+    let costs: Vec<u16> = (0..128).map(|p| 2 - p % 2).collect();
+    let least = ffi::cheapest(64, &sets, &costs, &table, a, &mut work, &mut page);
+    assert_eq!((least.refusal, least.packages, least.cost), (0, 64, 64));
+    assert!(page.iter().enumerate().all(|(i, &p)| p as usize == 2 * i + 1));
+    assert_eq!(ffi::place(64, &sets, &table, a, &page, &mut work).refusal, 11);
+    // the last listed timetable alone, and all but it: 2^64 - 1
+    let mut last = a;
+    for p in 0..64 {
+        last = ffi::combine(3, 64, &sets, &mut table, last, 2 * p + 1, &mut work).answer;
+    }
+    assert_eq!(ffi::count(64, &sets, &table, last, &mut work), ffi::Number { refusal: 0, value: 1 });
+    let rest = ffi::combine(2, 64, &sets, &mut table, a, last, &mut work).answer;
+    assert_eq!(ffi::count(64, &sets, &table, rest, &mut work), ffi::Number { refusal: 0, value: u64::MAX });
+    assert_eq!(ffi::pick(64, &sets, &table, rest, u64::MAX, &mut work, &mut page).refusal, 12);
+    assert_eq!(ffi::pick(64, &sets, &table, rest, u64::MAX - 1, &mut work, &mut page).refusal, 0);
+    assert!(page.iter().enumerate().all(|(i, &p)| p as usize == if i < 63 { 2 * i + 1 } else { 126 }));
+    assert_eq!(ffi::place(64, &sets, &table, rest, &page, &mut work), ffi::Number { refusal: 0, value: u64::MAX - 1 });
+    // union gives the first number back, and the intersection is empty
+    assert_eq!(ffi::combine(0, 64, &sets, &mut table, rest, last, &mut work).answer, a);
+    assert_eq!(ffi::combine(1, 64, &sets, &mut table, rest, last, &mut work).answer, 0);
+}

@@ -1,0 +1,46 @@
+//! The library, through its C interface, against document 01 by its definitions (model.rs): random histories with refusals among them, damaged tables,
+//! damaged bids files. `differential [SEED [CALLS]]`; a difference stops it and prints the seed of the history, which as SEED shows it at once.
+
+mod bids;
+mod calls;
+mod edge;
+mod ffi;
+mod model;
+mod rng;
+
+use calls::History;
+use rng::Rng;
+use std::panic;
+
+fn main() {
+    let mut args = std::env::args().skip(1).map(|a| a.parse::<u64>().expect("a number"));
+    let first = args.next().unwrap_or(1);
+    let most = args.next().unwrap_or(120_000);
+    edge::sixty_four_bits();
+    let (mut calls, mut files, mut seed) = (0, 0, first);
+    let mut outcomes = [0u64; 32];
+    while calls < most {
+        let run = panic::catch_unwind(|| {
+            let mut history = History::new(Rng(seed));
+            history.run();
+            let mut counts = history.outcomes;
+            let read = bids::some_files(&mut Rng(!seed), &mut counts);
+            (history.calls, read, counts)
+        });
+        match run {
+            Ok((c, f, counts)) => {
+                calls += c + f;
+                files += f;
+                outcomes.iter_mut().zip(counts).for_each(|(a, b)| *a += b);
+            }
+            Err(_) => {
+                eprintln!("a difference, seed {seed}");
+                std::process::exit(1);
+            }
+        }
+        seed += 1;
+    }
+    println!("{calls} calls in {} histories, {files} of them on bids files: no difference (seeds {first} to {})", seed - first, seed - 1);
+    let said: Vec<String> = (0..32).filter(|&i| outcomes[i] > 0).map(|i| format!("{i}: {}", outcomes[i])).collect();
+    println!("outcomes (0: answered): {}", said.join(", "));
+}

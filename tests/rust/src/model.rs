@@ -1,0 +1,267 @@
+//! Document 01 by its definitions, for small N: a timetable is a set of packages as a bit mask, a set of timetables says of every mask whether it is in.
+//! Nothing here is taken from the library; nothing is meant to be fast.
+
+use std::collections::HashSet;
+
+/// A set of timetables: bit t of the words, for the timetable with the mask t.
+#[derive(Clone, PartialEq, Eq, Hash, Debug)]
+pub struct Family(Vec<u64>);
+
+impl Family {
+    pub fn none(n: usize) -> Family {
+        Family(vec![0; (1usize << n).div_ceil(64)])
+    }
+
+    pub fn empty_one(n: usize) -> Family {
+        let mut f = Family::none(n);
+        f.add(0);
+        f
+    }
+
+    pub fn add(&mut self, t: u32) {
+        self.0[t as usize / 64] |= 1 << (t % 64);
+    }
+
+    pub fn has(&self, t: u32) -> bool {
+        self.0[t as usize / 64] >> (t % 64) & 1 == 1
+    }
+
+    pub fn members(&self) -> Vec<u32> {
+        let mut all = Vec::new();
+        for (i, word) in self.0.iter().enumerate() {
+            let mut w = *word;
+            while w != 0 {
+                all.push(i as u32 * 64 + w.trailing_zeros());
+                w &= w - 1;
+            }
+        }
+        all
+    }
+
+    pub fn len(&self) -> u64 {
+        self.0.iter().map(|w| w.count_ones() as u64).sum()
+    }
+}
+
+/// The packages of a call.
+pub struct Packages<'a> {
+    pub m: u32,
+    pub sets: &'a [u64],
+    /// The packages in precedence.
+    pub order: Vec<usize>,
+}
+
+impl<'a> Packages<'a> {
+    pub fn new(m: u32, sets: &'a [u64]) -> Packages<'a> {
+        let mut order: Vec<usize> = (0..sets.len()).collect();
+        order.sort_by_key(|&p| (sets[p].trailing_zeros(), p));
+        Packages { m, sets, order }
+    }
+
+    pub fn n(&self) -> usize {
+        self.sets.len()
+    }
+
+    /// p comes before q.
+    pub fn before(&self, p: usize, q: usize) -> bool {
+        (self.sets[p].trailing_zeros(), p) < (self.sets[q].trailing_zeros(), q)
+    }
+
+    /// A timetable as it is written.
+    pub fn written(&self, t: u32) -> Vec<u16> {
+        self.order.iter().filter(|&&p| p < 32 && t >> p & 1 == 1).map(|&p| p as u16).collect()
+    }
+
+    /// The listing of a set of timetables. "Of two timetables, find the first package in precedence that only one of them has: the one that has it is
+    /// listed first."
+    pub fn listing(&self, f: &Family) -> Vec<u32> {
+        let mut all = f.members();
+        all.sort_by(|&a, &b| {
+            for &p in &self.order {
+                let (x, y) = (a >> p & 1, b >> p & 1);
+                if x != y {
+                    return y.cmp(&x);
+                }
+            }
+            std::cmp::Ordering::Equal
+        });
+        all
+    }
+
+    fn covers(&self, t: u32, d: u64) -> bool {
+        let chosen: Vec<u64> = (0..self.n()).filter(|&p| t >> p & 1 == 1).map(|p| self.sets[p]).collect();
+        chosen.iter().all(|&s| s & !d == 0) && (0..64).filter(|&i| d >> i & 1 == 1).all(|i| chosen.iter().filter(|&&s| s >> i & 1 == 1).count() == 1)
+    }
+
+    /// The timetables that cover d.
+    pub fn covering(&self, d: u64) -> Family {
+        let mut f = Family::none(self.n());
+        for t in 0..1u32 << self.n() {
+            if self.covers(t, d) {
+                f.add(t);
+            }
+        }
+        f
+    }
+
+    /// The entries into Search with a memo of `places` places, stopped at `most`.
+    pub fn steps(&self, d: u64, places: usize, most: u64) -> u64 {
+        let mut memo: Vec<Option<u64>> = vec![None; places];
+        let mut steps = 0;
+        self.search(d, &mut memo, &mut steps, most);
+        steps
+    }
+
+    fn search(&self, a: u64, memo: &mut Vec<Option<u64>>, steps: &mut u64, most: u64) {
+        *steps += 1;
+        if a == 0 || *steps > most {
+            return;
+        }
+        let place = (a % memo.len() as u64) as usize;
+        if memo[place] == Some(a) {
+            return;
+        }
+        let lowest = a.trailing_zeros();
+        for p in (0..self.n()).rev() {
+            let s = self.sets[p];
+            if s >> lowest & 1 == 1 && s & !a == 0 {
+                self.search(a & !s, memo, steps, most);
+            }
+        }
+        memo[place] = Some(a);
+    }
+
+    /// The branch sets of f: f itself, and those of its two halves by its first package.
+    fn branches(&self, f: &Family, all: &mut HashSet<Family>) {
+        if *f == Family::none(self.n()) || *f == Family::empty_one(self.n()) || all.contains(f) {
+            return;
+        }
+        all.insert(f.clone());
+        let members = f.members();
+        let first = *self.order.iter().find(|&&p| members.iter().any(|t| t >> p & 1 == 1)).unwrap();
+        let (mut hi, mut lo) = (Family::none(self.n()), Family::none(self.n()));
+        for t in members {
+            if t >> first & 1 == 1 {
+                hi.add(t & !(1 << first));
+            } else {
+                lo.add(t);
+            }
+        }
+        self.branches(&hi, all);
+        self.branches(&lo, all);
+    }
+
+    /// How many branch sets of f no number of the table holds.
+    pub fn missing(&self, known: &[Family], f: &Family) -> u64 {
+        let mut all = HashSet::new();
+        self.branches(f, &mut all);
+        all.iter().filter(|b| !known.contains(b)).count() as u64
+    }
+
+    /// 1 oversize, 2 stray, or 0.
+    pub fn refusal(&self) -> u32 {
+        if self.m > 64 || self.n() > 512 {
+            return 1;
+        }
+        let item_above = |s: u64| (0..64).any(|i| s >> i & 1 == 1 && i >= self.m);
+        if self.sets.iter().any(|&s| s == 0 || item_above(s)) {
+            return 2;
+        }
+        0
+    }
+
+    /// A table is sound: document 01's sentence, clause by clause.
+    pub fn sound(&self, t: &[u32]) -> bool {
+        if t.is_empty() {
+            return false;
+        }
+        let n = t[0] as usize;
+        if n > capacity(t) {
+            return false;
+        }
+        let node = |k: usize| (t[1 + 3 * (k - 2)], t[2 + 3 * (k - 2)] as usize, t[3 + 3 * (k - 2)] as usize);
+        for k in 2..n + 2 {
+            let (label, lo, hi) = node(k);
+            if label as usize >= self.n() || lo >= k || hi >= k || hi == 0 {
+                return false;
+            }
+            for child in [lo, hi] {
+                if child >= 2 && !self.before(label as usize, node(child).0 as usize) {
+                    return false;
+                }
+            }
+            if (2..k).any(|j| node(j) == node(k)) {
+                return false;
+            }
+        }
+        t[1 + 3 * n..].iter().all(|&w| w == 0)
+    }
+
+    /// What each number of a sound table holds.
+    pub fn families(&self, t: &[u32]) -> Vec<Family> {
+        let mut all = vec![Family::none(self.n()), Family::empty_one(self.n())];
+        for k in 0..t[0] as usize {
+            let (label, lo, hi) = (t[1 + 3 * k], t[2 + 3 * k] as usize, t[3 + 3 * k] as usize);
+            let mut f = all[lo].clone();
+            for s in all[hi].members() {
+                f.add(s | 1 << label);
+            }
+            all.push(f);
+        }
+        all
+    }
+}
+
+pub fn capacity(t: &[u32]) -> usize {
+    ((t.len() - 1) / 3).min(65534)
+}
+
+/// A bids file: what it holds, or its refusal.
+pub struct BidsFile {
+    pub schools: u32,
+    pub slots: u32,
+    pub packages: Vec<u64>,
+    pub costs: Vec<u16>,
+}
+
+pub fn fnv(bytes: &[u8]) -> u32 {
+    bytes.iter().fold(2166136261, |h: u32, &b| (h ^ b as u32).wrapping_mul(16777619))
+}
+
+pub fn read_bids(b: &[u8]) -> Result<BidsFile, u32> {
+    if b.len() < 13 {
+        return Err(20);
+    }
+    if &b[..3] != b"PSB" {
+        return Err(21);
+    }
+    if u16::from_le_bytes([b[3], b[4]]) != 1 {
+        return Err(22);
+    }
+    let (s, t, n) = (b[5] as usize, b[6] as usize, u16::from_le_bytes([b[7], b[8]]) as usize);
+    if s + t > 64 || n > 512 {
+        return Err(24);
+    }
+    if b.len() != 13 + 2 * s + 12 * n {
+        return Err(20);
+    }
+    let end = b.len() - 4;
+    if u32::from_le_bytes(b[end..].try_into().unwrap()) != fnv(&b[..end]) {
+        return Err(23);
+    }
+    let schools: Vec<&[u8]> = (0..s).map(|j| &b[9 + 2 * j..11 + 2 * j]).collect();
+    if (0..s).any(|j| schools[..j].contains(&schools[j])) {
+        return Err(25);
+    }
+    let records: Vec<&[u8]> = (0..n).map(|k| &b[9 + 2 * s + 12 * k..21 + 2 * s + 12 * k]).collect();
+    let slots = |r: &[u8]| u64::from_le_bytes(r[2..10].try_into().unwrap());
+    if records.iter().any(|r| !schools.contains(&&r[..2]) || (0..64).any(|i| slots(r) >> i & 1 == 1 && i >= t)) {
+        return Err(26);
+    }
+    if (0..n).any(|k| records[..k].iter().any(|r| r[..10] == records[k][..10])) {
+        return Err(27);
+    }
+    let packages = records.iter().map(|r| 1u64 << schools.iter().position(|x| *x == &r[..2]).unwrap() | if slots(r) == 0 { 0 } else { slots(r) << s }).collect();
+    let costs = records.iter().map(|r| u16::from_le_bytes([r[10], r[11]])).collect();
+    Ok(BidsFile { schools: s as u32, slots: t as u32, packages, costs })
+}
