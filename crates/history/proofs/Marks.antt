@@ -5,7 +5,7 @@ use mathlib.Core.Bool.{Bool, true, false, _&&_, _||_}
 use mathlib.Core.List.{List, [], _∷_, List·Memᴰ·head, List·Memᴰ·tail}
 use Prim.Native.Nat.{ℕ, _+_, _<_}
 use native.Mathlib.Omega.{arith}
-use lib.Dec.{eqb, leb, ltb}
+use lib.Dec.{eqb, ltb}
 use lib.ListN.{length, getD, set, replicate, length-replicate, getD-replicate, List·getD-eq-default}
 use lib.Seq.{getD-set-same, getD-set-other}
 use borrow.Author.Tests.{ltb-true, ltb-false, eqb-true, eqb-false}
@@ -14,7 +14,7 @@ use Rattle.zdd.specs.Table.{count, has, _∈_}
 use Rattle.statement.specs.Replies.{Reply, refused, gives}
 use Rattle.history.specs.Histories.{Calls, give, given}
 use Rattle.history.proofs.Requests.{stop, goes}
-use Rattle.history.specs.Script.{passes}
+use Rattle.history.specs.Script.{beyond, passes}
 use Rattle.history.specs.Parts.{marked, noted}
 
 -- the mark of a number, by whether it was given
@@ -47,7 +47,7 @@ eqb-bit true = refl
 eqb-bit false = refl
 
 pub marked-passes : (g t : List ℕ) (h : Calls) → length g ≡ 65536 → Marks g (given h) → (x : ℕ) → marked g (count t) x ≡ passes h t x
-marked-passes g t h l m x = ap (λ (b : Bool). leb (count t + 2) x || b) told ∙ or-swap (leb (count t + 2) x) (has x (given h))
+marked-passes g t h l m x = ap (λ (b : Bool). beyond (count t) x || b) told ∙ or-swap (beyond (count t) x) (has x (given h))
   where
     marks-bit : eqb (getD g x 0) 1 ≡ has x (given h)
     marks-bit = ap (λ (n : ℕ). eqb n 1) (m x) ∙ eqb-bit (has x (given h))

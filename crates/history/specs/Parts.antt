@@ -3,17 +3,17 @@ use mathlib.Core.Path.{_≡_}
 use mathlib.Core.Bool.{Bool, _&&_, _||_}
 use mathlib.Core.List.{List}
 use Prim.Native.Nat.{ℕ, _+_, _*_}
-use lib.Dec.{eqb, leb, ltb}
+use lib.Dec.{eqb, ltb}
 use lib.ListN.{length, getD, set, take, drop}
 use Rattle.statement.specs.declared.Report.{Report}
 use Rattle.statement.specs.Replies.{Reply, refused, gives}
-use Rattle.history.specs.Script.{reportAt}
+use Rattle.history.specs.Script.{reportAt, beyond}
 
 -- ---- the numbers given, as marks: a word for each number, 1 where it was given
 
 -- x may be an operand by the marks g, on a table of n nodes
 abbrev pub marked : List ℕ → ℕ → ℕ → Bool
-marked g n x = leb (n + 2) x || (ltb x 65536 && eqb (getD g x 0) 1)
+marked g n x = beyond n x || (ltb x 65536 && eqb (getD g x 0) 1)
 
 -- the marks after a call: an answer is marked
 abbrev pub noted : Reply ℕ → List ℕ → List ℕ

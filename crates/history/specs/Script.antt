@@ -67,10 +67,14 @@ narrow x = ltb x 4294967296
 unfoldable pub possible : ℕ → Request → Bool
 possible room q = narrow (q .m) && (narrow (q .y) && (leb (q .words) room && (eqb (q .kind) 0 || narrow (q .x))))
 
--- x may be an operand after the calls h, which left the table t: it is 0, 1 or an answer given earlier; or it is n + 2 or more, so that the call is
--- refused whatever else holds, and a refused call may have any operands
+-- x is unknown to a table of n nodes: n + 2 or more
+abbrev pub beyond : ℕ → ℕ → Bool
+beyond n x = leb (n + 2) x
+
+-- x may be an operand after the calls h, which left the table t: it is 0, 1 or an answer given earlier; or the table does not know it, so that the call
+-- is refused whatever else holds, and a refused call may have any operands
 abbrev pub passes : Calls → List ℕ → ℕ → Bool
-passes h t x = has x (given h) || leb (count t + 2) x
+passes h t x = has x (given h) || beyond (count t) x
 
 -- each of a list passes the test
 unfoldable pub every : (ℕ → Bool) → List ℕ → Bool

@@ -1,0 +1,174 @@
+// Runs a script of calls on Figure 1 of document 000 through the runner, on tables and working words of several lengths, and prints each report.
+ghost use Prim.Native.Nat.{_≤_};
+
+// Five words a call: kind (0 cover, 1 either, 2 both, 3 only, 4 with, 5 without), M, two arguments, working words.
+const SCRIPT: [u64; 105] = [
+    0,
+    6,
+    63,
+    6,
+    128, // cover all items, twice
+    0,
+    6,
+    63,
+    6,
+    128, //
+    4,
+    6,
+    5,
+    0,
+    2, // with 0 and without 0
+    5,
+    6,
+    5,
+    0,
+    2, //
+    1,
+    6,
+    4,
+    6,
+    2, // either, both, only
+    2,
+    6,
+    5,
+    4,
+    2, //
+    3,
+    6,
+    5,
+    6,
+    2, //
+    0,
+    6,
+    63,
+    5,
+    128, // B too small
+    1,
+    6,
+    5,
+    99,
+    2, // an unknown answer
+    4,
+    6,
+    5,
+    5,
+    2, // an unknown package
+    0,
+    6,
+    64,
+    6,
+    128, // an unknown item
+    0,
+    6,
+    63,
+    6,
+    1, // one working word
+    0,
+    65,
+    63,
+    6,
+    128, // M above 64
+    0,
+    5,
+    31,
+    6,
+    128, // packages with an item of M
+    0,
+    6,
+    63,
+    7,
+    8, // a memo of 4 places
+    0,
+    6,
+    40,
+    9,
+    8, // other items
+    1,
+    6,
+    6,
+    2,
+    2, // a new node
+    2,
+    6,
+    4,
+    6,
+    2, // nothing in both
+    1,
+    6,
+    0,
+    1,
+    2, // 0 and 1 as operands
+    1,
+    6,
+    3,
+    1,
+    2, // 3 was not given: where the table knows it, the runner stops
+    0,
+    6,
+    63,
+    6,
+    128,
+];
+
+// The figure's packages, numbered from 0.
+fn figure() -> [u64; 5] {
+    [0b010111, 0b000011, 0b101000, 0b101100, 0b010100]
+}
+
+// How a call ended, by the first word of its report.
+fn show_outcome(word: u64) {
+    if word < 4294967296 {
+        io::write_all(1, b"answer ");
+        io::print_decimal(1, word);
+    } else {
+        io::write_all(1, b"refused ");
+        io::print_decimal(1, word - 4294967296);
+    }
+}
+
+fn show(i: usize, word: u64, steps: u64, made: u64) {
+    io::print_decimal(1, i as u64);
+    io::write_all(1, b": ");
+    show_outcome(word);
+    io::write_all(1, b" steps ");
+    io::print_decimal(1, steps);
+    io::write_all(1, b" made ");
+    io::print_decimal(1, made);
+    io::write_all(1, b"\n");
+}
+
+// The first n reports.
+fn show_reports(out: &[u64; 63], n: usize) {
+    let mut i: usize = 0;
+    while i < 21 {
+        if i < n {
+            show(i, out[3 * i], out[3 * i + 1], out[3 * i + 2]);
+        }
+        i += 1;
+    }
+}
+
+// The script on a table that is not empty yet, with `room` working words and `places` places for reports.
+fn session(what: &[u8], t: &mut [u32], room: usize, places: usize)
+    requires { ⌜ room ≤ 128 ⌝ }
+    requires { ⌜ places ≤ 21 ⌝ }
+{
+    let mut work = [7u64; 128];
+    let mut out = [0u64; 63];
+    let words = 3 * places;
+    let n = history::run(&figure(), t, &mut work[..room], &SCRIPT, &mut out[..words]);
+    io::write_all(1, what);
+    io::write_all(1, b"\n");
+    show_reports(&out, n);
+    io::write_all(1, b"ran ");
+    io::print_decimal(1, n as u64);
+    io::write_all(1, b" of 21\n");
+}
+
+fn main() {
+    session(b"a table of 8 nodes", &mut [7u32; 25], 128, 21);
+    session(b"a table of 3 nodes", &mut [7u32; 10], 128, 21);
+    session(b"no word", &mut [7u32; 0], 128, 21);
+    session(b"places for 2 reports", &mut [7u32; 25], 128, 2);
+    session(b"fewer working words", &mut [7u32; 25], 100, 21);
+}
