@@ -19,7 +19,7 @@ use Rattle.zdd.specs.Operations.{combine}
 use Rattle.zdd.proofs.Operations.{union-nil, nil-union, union-self, inter-nil, nil-inter, inter-self, differ-nil, nil-differ, differ-self}
 use Rattle.zdd.proofs.Parts.{split-same, split-left, split-right}
 use Rattle.family.specs.Gives.{Ready, Gives, Noded, Answers}
-use Rattle.family.specs.Memo.{opOf, combined, Packed, Stored, Two, Pair, Ended, Ends, Top, Cut}
+use Rattle.family.specs.Memo.{opOf, combined, Ordered, Packed, Stored, Two, Pair, Ended, Ends, Top, Cut}
 use Rattle.family.proofs.GivesLaws.{gives-there, gives-answers, gives-keeps, gives-more, gives-eq, step-none-hi, step-none-lo, step-child, step-node}
 use Rattle.family.proofs.RestrictLaws.{word-node, word-label, word-fine}
 
@@ -56,27 +56,27 @@ pub packed-straight : (op f g : ℕ) {k : ℕ} → k ≡ f * 65536 + g → Packe
 packed-straight op f g e = record { first = f; second = g; is = e; order = inl (refl, refl) }
 
 pub packed-turned : (op f g : ℕ) {k : ℕ} → op < 2 → k ≡ g * 65536 + f → Packed op f g k
-packed-turned op f g h e = record { first = g; second = f; is = e; order = inr (h, (refl, refl)) }
+packed-turned op f g h e = record { first = g; second = f; is = e; order = inr (omega arith, (refl, refl)) }
 
 module _ {op f g k : ℕ} (p : Packed op f g k) where
   pub packed-same : (φ : ℕ → Family) (K : List ℕ) → combined op K (φ (p .first)) (φ (p .second)) ≡ combined op K (φ f) (φ g)
   packed-same φ K = go (p .order)
     where
-      go : ((p .first ≡ f) × (p .second ≡ g)) ⊎ ((op < 2) × ((p .first ≡ g) × (p .second ≡ f))) → combined op K (φ (p .first)) (φ (p .second)) ≡ combined op K (φ f) (φ g)
+      go : Ordered op f g (p .first) (p .second) → combined op K (φ (p .first)) (φ (p .second)) ≡ combined op K (φ f) (φ g)
       go (inl e) = ap₂ (combined op K) (ap φ (e .0)) (ap φ (e .1))
-      go (inr e) = ap₂ (combined op K) (ap φ (e .1 .0)) (ap φ (e .1 .1)) ∙ turned op (e .0) K (φ g) (φ f)
+      go (inr e) = ap₂ (combined op K) (ap φ (e .1 .0)) (ap φ (e .1 .1)) ∙ turned op (omega (arith, e .0)) K (φ g) (φ f)
 
   pub packed-known : (n : ℕ) → f < n → g < n → (p .first < n) × (p .second < n)
   packed-known n l m = go (p .order)
     where
-      go : ((p .first ≡ f) × (p .second ≡ g)) ⊎ ((op < 2) × ((p .first ≡ g) × (p .second ≡ f))) → (p .first < n) × (p .second < n)
+      go : Ordered op f g (p .first) (p .second) → (p .first < n) × (p .second < n)
       go (inl e) = (omega (arith, e .0), omega (arith, e .1))
       go (inr e) = (omega (arith, e .1 .0), omega (arith, e .1 .1))
 
   pub packed-some : 0 < f → 0 < g → 0 < p .first
   packed-some l m = go (p .order)
     where
-      go : ((p .first ≡ f) × (p .second ≡ g)) ⊎ ((op < 2) × ((p .first ≡ g) × (p .second ≡ f))) → 0 < p .first
+      go : Ordered op f g (p .first) (p .second) → 0 < p .first
       go (inl e) = omega (arith, e .0)
       go (inr e) = omega (arith, e .1 .0)
 

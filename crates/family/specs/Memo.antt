@@ -40,12 +40,16 @@ opOf (suc (suc n)) = minus
 abbrev pub combined : ℕ → List ℕ → Family → Family → Family
 combined op K F G = combine (opOf op) K F G
 
--- two numbers in one, in either order where it does not matter
+-- x and y are f and g, or, where the order does not matter, g and f
+abbrev pub Ordered : (op f g x y : ℕ) → Type 0
+Ordered op f g x y = ((x ≡ f) × (y ≡ g)) ⊎ ((op < 2) × ((x ≡ g) × (y ≡ f)))
+
+-- the two numbers in one
 pub record Packed (op f g k : ℕ) : Type 0 where
   pub first : ℕ
   pub second : ℕ
   pub is : k ≡ first * 65536 + second
-  pub order : ((first ≡ f) × (second ≡ g)) ⊎ ((op < 2) × ((first ≡ g) × (second ≡ f)))
+  pub order : Ordered op f g first second
 
 -- a word of the memory is (f × 65536 + g) × 65536 + r, with f not 0: r is the number of f's and g's combination
 pub record Stored (op : ℕ) (K : List ℕ) (ns : List Node) (memo : List ℕ) : Type 0 where

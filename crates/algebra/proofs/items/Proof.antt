@@ -1,0 +1,54 @@
+use native.Mathlib.Omega.{arith}
+use Prim.Native.Nat.{_-_, _≤_}
+use borrow.Author.Needs.{needs}
+use Rattle.algebra.proofs.items.Statement.{statement}
+use Rattle.algebra.proofs.items.Tie as tie
+
+abbrev Inv-loop : tie.InvT-loop
+Inv-loop packages₀ i₀ packages i = i ≤ 400
+
+abbrev μ-loop : tie.MeasureT-loop
+μ-loop packages₀ i₀ packages i = 400 - i
+
+loop-holds : tie.Need-loop-holds Inv-loop μ-loop
+loop-holds c = omega arith
+
+mul-packages : tie.Need-mul-packages Inv-loop μ-loop
+mul-packages c = search needs
+
+shl-packages : tie.Need-shl-packages Inv-loop μ-loop
+shl-packages c = search needs
+
+mul-packages-2 : tie.Need-mul-packages-2 Inv-loop μ-loop
+mul-packages-2 c = search needs
+
+element-write-packages : tie.Need-element-write-packages Inv-loop μ-loop
+element-write-packages c = search needs
+
+add-i : tie.Need-add-i Inv-loop μ-loop
+add-i c = search needs
+
+loop-less : tie.Need-loop-less Inv-loop μ-loop
+loop-less c = omega arith
+
+loop-again : tie.Need-loop-again Inv-loop μ-loop
+loop-again c = omega arith
+
+returns : tie.Need-returns Inv-loop μ-loop
+returns c = search needs
+
+pub items-spec : {M : Type 1} → statement M
+items-spec =
+    tie.close
+    (tie.spec
+    Inv-loop
+    μ-loop
+    loop-holds
+    mul-packages
+    shl-packages
+    mul-packages-2
+    element-write-packages
+    add-i
+    loop-less
+    loop-again
+    returns)

@@ -1,0 +1,43 @@
+// What the program prints for the files of data/: one for each refusal, and some that are answered.
+fn show(fd: i32) {
+    let mut file = [0u8; 6286];
+    let n = io::read_full(fd, &mut file);
+    let mut text = [0u8; 16384];
+    let k = report::report(&file[..n], &mut text);
+    io::write_all(1, &text[..k]);
+}
+
+fn case(name: &[u8]) {
+    io::write_all(1, name);
+    io::write_all(1, b"\n");
+    show(os::open_read(name));
+}
+
+fn refused_by_header() {
+    case(b"short");
+    case(b"mark");
+    case(b"version");
+    case(b"items");
+    case(b"packages");
+    case(b"cut");
+    case(b"long");
+}
+
+fn refused_by_records() {
+    case(b"check");
+    case(b"school");
+    case(b"site");
+    case(b"slot");
+    case(b"twice");
+}
+
+fn main() {
+    refused_by_header();
+    refused_by_records();
+    case(b"spent");
+    case(b"full");
+    case(b"empty");
+    case(b"none");
+    case(b"number");
+    case(b"twentyfour");
+}
