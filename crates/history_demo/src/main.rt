@@ -149,7 +149,7 @@ fn show_reports(out: &[u64; 63], n: usize) {
 }
 
 // The script on a table that is not empty yet, with `room` working words and `places` places for reports.
-fn session(what: &[u8], t: &mut [u32], room: usize, places: usize)
+fn scenario(what: &[u8], t: &mut [u32], room: usize, places: usize)
     requires { ⌜ room ≤ 128 ⌝ }
     requires { ⌜ places ≤ 21 ⌝ }
 {
@@ -166,9 +166,9 @@ fn session(what: &[u8], t: &mut [u32], room: usize, places: usize)
 }
 
 fn main() {
-    session(b"a table of 8 nodes", &mut [7u32; 25], 128, 21);
-    session(b"a table of 3 nodes", &mut [7u32; 10], 128, 21);
-    session(b"no word", &mut [7u32; 0], 128, 21);
-    session(b"places for 2 reports", &mut [7u32; 25], 128, 2);
-    session(b"fewer working words", &mut [7u32; 25], 100, 21);
+    scenario(b"a table of 8 nodes", &mut [7u32; 25], 128, 21);
+    scenario(b"a table of 3 nodes", &mut [7u32; 10], 128, 21);
+    scenario(b"no word", &mut [7u32; 0], 128, 21);
+    scenario(b"places for 2 reports", &mut [7u32; 25], 128, 2);
+    scenario(b"fewer working words", &mut [7u32; 25], 100, 21);
 }

@@ -3,7 +3,7 @@ fn show(fd: i32) {
     let mut file = [0u8; 6286];
     let n = io::read_full(fd, &mut file);
     let mut text = [0u8; 16384];
-    let k = report::report(&file[..n], &mut text);
+    let k = printout::lines(&file[..n], &mut text);
     io::write_all(1, &text[..k]);
 }
 

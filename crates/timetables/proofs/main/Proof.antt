@@ -13,20 +13,20 @@ read-full-requires c κs = search needs
 array-share-prefix-file : tie.Need-array-share-prefix-file
 array-share-prefix-file c = search needs
 
-slice-aggregate-report : tie.Need-slice-aggregate-report
-slice-aggregate-report c = search needs
+slice-aggregate-lines : tie.Need-slice-aggregate-lines
+slice-aggregate-lines c = search needs
 
-slice-aggregate-report-2 : tie.Need-slice-aggregate-report-2
-slice-aggregate-report-2 c = search needs
+slice-aggregate-lines-2 : tie.Need-slice-aggregate-lines-2
+slice-aggregate-lines-2 c = search needs
 
-report-requires : tie.Need-report-requires
-report-requires c κs = search needs
+lines-requires : tie.Need-lines-requires
+lines-requires c κs = search needs
 
 array-share-prefix-text : tie.Need-array-share-prefix-text
-array-share-prefix-text c = c .before .report .ensures .inside
+array-share-prefix-text c = c .before .lines .ensures .inside
 
 slice-aggregate-write-all : tie.Need-slice-aggregate-write-all
-slice-aggregate-write-all c = sym (length-take-le (c .before .before .report .result) (c .before .before .report .last .1 .0) (c .before .before .report .ensures .inside))
+slice-aggregate-write-all c = sym (length-take-le (c .before .before .lines .result) (c .before .before .lines .last .1 .0) (c .before .before .lines .ensures .inside))
 
 write-all-requires : tie.Need-write-all-requires
 write-all-requires c κs = search needs
@@ -41,9 +41,9 @@ main-spec =
     slice-aggregate-read-full
     read-full-requires
     array-share-prefix-file
-    slice-aggregate-report
-    slice-aggregate-report-2
-    report-requires
+    slice-aggregate-lines
+    slice-aggregate-lines-2
+    lines-requires
     array-share-prefix-text
     slice-aggregate-write-all
     write-all-requires

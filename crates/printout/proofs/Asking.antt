@@ -1,0 +1,222 @@
+-- No question about cover's answer is refused but for too many timetables. Assumes nothing.
+use mathlib.Core.Path.{_≡_, refl, sym, ap, ap₂, _∙_, subst, subst⁻¹}
+use mathlib.Core.Logic.{_⊎_, inl, inr}
+use mathlib.Core.Bool.{true, not, _&&_}
+use mathlib.Core.List.{List, [], _∷_, List·Memᴰ, List·Memᴰ·head, List·Memᴰ·tail}
+use Prim.Native.Nat.{ℕ, zero, suc, _+_, _-_, _*_, _^_, _≤_, _<_}
+use native.Mathlib.Nat.{le-of-eq, lt-of-lt-of-le}
+use native.Mathlib.Omega.{arith}
+use lib.Pow.{pow-pos, pow-mono}
+use lib.ListN.{length, take, drop}
+use lib.Seq.{take-at}
+use Rattle.base.proofs.Bools.{never, or-cases, and-left, and-right}
+use Rattle.itemset.specs.Items.{insideb, without, size}
+use Rattle.itemset.proofs.Laws.{falls, size-le, without-lt}
+use Rattle.zdd.specs.Table.{Family, family, nodesOf, sets, elem, eqSet}
+use Rattle.zdd.proofs.Member.{eqSet-eq}
+use Rattle.zdd.proofs.Grow.{family-zero}
+use Rattle.zdd.proofs.Tested.{sound-of}
+use Rattle.zdd.proofs.Words.{within-capacity}
+use Rattle.zdd.proofs.Listing.{elem-filter}
+use Rattle.zdd.proofs.Ordered.{nth-elem}
+use Rattle.exact_cover.specs.Cover.{row, keysOf, covers, covering, Rows}
+use Rattle.exact_cover.specs.Recursion.{Ascends, rank}
+use Rattle.exact_cover.proofs.Covers.{covers-cons}
+use Rattle.exact_cover.proofs.Sets.{sets-member}
+use Rattle.query.specs.Questions.{familyAt, nth, position, cost, cheapest}
+use Rattle.statement.specs.declared.Picked.{Picked}
+use Rattle.statement.specs.declared.Picked.the-variants.{Packages}
+use Rattle.statement.specs.declared.Priced.{Priced}
+use Rattle.statement.specs.declared.Placed.{Placed}
+use Rattle.statement.specs.declared.Report.{Report}
+use Rattle.statement.specs.Examples.{allItems}
+use Rattle.statement.specs.Replies.{Reply, gives, refused, reply, outcomeReply, pickReply, placeReply, cheapestReply}
+use Rattle.statement.specs.Refusals.{firstOf, oversize, stray, unsound, uncountable, coverRefusal, countRefusal, pickRefusal, placeRefusal, cheapestRefusal}
+use Rattle.statement.specs.Postconditions.{Makes, Answered, PickPost, PlacePost, CheapestPost, written}
+use Rattle.statement.proofs.FirstOf.{pass, none, passed}
+use Rattle.statement.proofs.TestLaws.{all-priced, answer-known, enough, countable, not-past, something, page-fits}
+use Rattle.statement.proofs.Cheapest.{cheapest-least}
+use Rattle.statement.proofs.Undo.{place-of-pick}
+use Rattle.guard.proofs.GuardLaws.{rows}
+use Rattle.printout.specs.Program.{Answerable, Listable}
+
+-- ---- a timetable has at most as many packages as there are items
+
+covers-short : (S : List ℕ) → ((p : ℕ) → p < length S → 0 < row S p) → (m D : ℕ) (t : List ℕ) → D < 2 ^ 64 → Ascends S (length S) m t → covers S D t ≡ true → length t ≤ size D
+covers-short S some m D [] w a c = omega arith
+covers-short S some m D (p ∷ t) w a c =
+    let e : insideb (row S p) D && covers S (without D (row S p)) t ≡ true = sym (covers-cons S D p t w) ∙ c in
+    let i : insideb (row S p) D ≡ true = and-left (insideb (row S p) D) (covers S (without D (row S p)) t) e in
+    let r = covers-short S some (suc (rank S p)) (without D (row S p)) t (without-lt 64 (row S p) w) (a .2) (and-right (insideb (row S p) D) (covers S (without D (row S p)) t) e) in
+    omega (arith, r, falls D (row S p) (some p (a .0)) i)
+
+member : (s : List ℕ) (F : Family) → elem s F ≡ true → List·Memᴰ s F
+unfolding elem
+member s [] e = absurd (never e refl)
+member s (t ∷ F) e = go (or-cases (eqSet s t) (elem s F) e) (member s F)
+  where
+    go : (eqSet s t ≡ true) ⊎ (elem s F ≡ true) → (elem s F ≡ true → List·Memᴰ s F) → List·Memᴰ s (t ∷ F)
+    go (inl q) ih = List·Memᴰ·head (eqSet-eq s t q)
+    go (inr q) ih = List·Memᴰ·tail (ih q)
+
+pub covering-short : (S : List ℕ) → Rows S → (D : ℕ) → D < 2 ^ 64 → (s : List ℕ) → elem s (covering S D) ≡ true → length s ≤ 64
+unfolding covering
+covering-short S R D w s e =
+    let f : covers S D s && elem s (sets (keysOf S)) ≡ true = sym (elem-filter (covers S D) s (sets (keysOf S))) ∙ e in
+    let a : Ascends S (length S) 0 s = sets-member S s (R .few) .0 (member s (sets (keysOf S)) (and-right (covers S D s) (elem s (sets (keysOf S))) f)) in
+    let l = covers-short S (R .some) 0 D s w a (and-left (covers S D s) (elem s (sets (keysOf S))) f) in
+    omega (arith, l, size-le 64 D w)
+
+-- ---- where a timetable of a family stands
+
+stands : (s : List ℕ) (F : Family) → elem s F ≡ true → (k : ℕ) × ((k < length F) × (nth F k ≡ s))
+unfolding elem
+stands s [] e = absurd (never e refl)
+stands s (t ∷ F) e = go (or-cases (eqSet s t) (elem s F) e) (stands s F)
+  where
+    go : (eqSet s t ≡ true) ⊎ (elem s F ≡ true) → (elem s F ≡ true → (k : ℕ) × ((k < length F) × (nth F k ≡ s))) → (k : ℕ) × ((k < length (t ∷ F)) × (nth (t ∷ F) k ≡ s))
+    go (inl q) ih = (0, (omega arith, sym (eqSet-eq s t q)))
+    go (inr q) ih = let r = ih q in (suc (r .0), (omega (arith, r .1 .0), r .1 .1))
+
+-- ---- replies
+
+pub was-given : {A : Type 0} (x : A) (k : ℕ) (v : A) → gives x ≡ reply k v → (k ≡ 0) × (x ≡ v)
+was-given x zero v e = (refl, cc)
+was-given x (suc k) v e = absurd (let z : _≡_ {A = ℕ} 0 1 = cc in omega arith)
+
+pub was-refused : {A : Type 0} (n k : ℕ) (v : A) → refused n ≡ reply k v → (k ≡ n) × (n ≡ 0 → ⊥)
+was-refused n zero v e = absurd (let z : _≡_ {A = ℕ} 0 1 = cc in omega arith)
+was-refused n (suc k) v e = let q : n ≡ suc k = cc in (sym q, λ z. omega arith)
+
+pub gives-same : {A : Type 0} {x y : A} → gives x ≡ gives y → x ≡ y
+gives-same e = cc
+
+pub gives-pair : {x y u v : ℕ} → _≡_ {A = Reply (ℕ × ℕ)} (gives (x, y)) (gives (u, v)) → x ≡ u
+gives-pair {x} {y} {u} {v} e = let q : _≡_ {A = ℕ × ℕ} (x, y) (u, v) = gives-same e in ap (λ (w : ℕ × ℕ). w .0) q
+
+pub no-refusal : {A : Type 0} {P : Type 0} {n : ℕ} {x : A} → refused n ≡ gives x → P
+no-refusal e = absurd (let z : _≡_ {A = ℕ} 0 1 = cc in omega arith)
+
+-- ---- the questions
+
+pub count-left : {S : List ℕ} {m : ℕ} {t : List ℕ} {a words : ℕ} → Answerable S m t a words
+    → countRefusal S m t a words ≡ firstOf ((uncountable (familyAt t a), 11) ∷ [])
+unfolding countRefusal
+count-left {a = a} {words} A =
+    pass 1 _ (A .sized) ∙ pass 2 _ (A .clean) ∙ pass 4 _ (A .sound) ∙ pass 5 _ (A .known) ∙ pass 8 _ (enough (a + 1) words (omega (arith, A .room)))
+
+module _ {S : List ℕ} {m : ℕ} {t : List ℕ} {a words : ℕ} (Q : Listable S m t a words) where
+  abbrev A : Answerable S m t a words
+  A = Q .answerable
+
+  abbrev F : Family
+  F = familyAt t a
+
+  pick-given : (k : ℕ) (page : List ℕ) → k < length F → length (nth F k) ≤ length page → pickRefusal S m t a k words page ≡ 0
+  unfolding pickRefusal
+  pick-given k page l h =
+      pass 1 _ (A .sized) ∙ pass 2 _ (A .clean) ∙ pass 4 _ (A .sound) ∙ pass 5 _ (A .known) ∙ pass 8 _ (enough (a + 1) words (omega (arith, A .room)))
+      ∙ pass 11 _ (countable F (Q .few)) ∙ pass 12 _ (not-past F k l) ∙ pass 15 _ (page-fits page (nth F k) h) ∙ none
+
+  -- what pick leaves
+  pick-gives : {k : ℕ} {page page′ : List ℕ} {r : Picked} → k < length F → 64 ≤ length page → PickPost S m t a k words page r page′
+      → (pickReply r ≡ gives (length (nth F k))) × (take (length (nth F k)) page′ ≡ nth F k)
+  pick-gives {k} {page} {page′} l h P =
+      let s : List ℕ = nth F k in
+      let z = pick-given k page l (omega (arith, h, A .short s (nth-elem F k l))) in (
+        P .result ∙ ap (λ (n : ℕ). reply n (length s)) z,
+        ap (take (length s)) (P .pages ∙ ap (λ (n : ℕ). written n s page) z) ∙ take-at s (drop (length s) page) (length s) refl,
+      )
+
+  -- n is what was read off pick's answer
+  pub picked-page : {k n : ℕ} {page page′ : List ℕ} {r : Picked} → k < length F → 64 ≤ length page → PickPost S m t a k words page r page′
+      → ((x : ℕ) → pickReply r ≡ gives x → n ≡ x) → (n ≤ 64) × (take n page′ ≡ nth F k)
+  picked-page {k} {n} {page} {page′} l h P f =
+      let g = pick-gives l h P in
+      let e : n ≡ length (nth F k) = f (length (nth F k)) (g .0) in
+      (omega (arith, e, A .short (nth F k) (nth-elem F k l)), ap (λ (i : ℕ). take i page′) e ∙ g .1)
+
+  module _ (C : List ℕ) (p : length C ≡ length S) (some : 0 < length F) where
+    abbrev s : List ℕ
+    s = cheapest C F
+
+    in-F : elem s F ≡ true
+    in-F = cheapest-least C F some .member
+
+    not-empty : a ≡ 0 → ⊥
+    not-empty e = omega (arith, some, ap length (ap (familyAt t) e ∙ family-zero (nodesOf t)))
+
+    cheapest-given : (page : List ℕ) → 64 ≤ length page → cheapestRefusal S m C t a words page ≡ 0
+    unfolding cheapestRefusal
+    cheapest-given page h =
+        pass 1 _ (A .sized) ∙ pass 2 _ (A .clean) ∙ pass 3 _ (all-priced S C p) ∙ pass 4 _ (A .sound) ∙ pass 5 _ (A .known)
+        ∙ pass 8 _ (enough (2 * (a + 1)) words (A .room)) ∙ pass 13 _ (something a not-empty)
+        ∙ pass 15 _ (page-fits page s (omega (arith, h, A .short s in-F))) ∙ none
+
+    -- what cheapest leaves
+    cheapest-gives : {page page′ : List ℕ} {r : Priced} → 64 ≤ length page → CheapestPost S m C t a words page r page′
+        → (cheapestReply r ≡ gives (length s, cost C s)) × (take (length s) page′ ≡ s)
+    cheapest-gives {page} {page′} h P =
+        let z = cheapest-given page h in (
+          P .result ∙ ap (λ (n : ℕ). reply n (length s, cost C s)) z,
+          ap (take (length s)) (P .pages ∙ ap (λ (n : ℕ). written n s page) z) ∙ take-at s (drop (length s) page) (length s) refl,
+        )
+
+    -- n is what was read off cheapest's answer
+    pub priced-page : {n : ℕ} {page page′ : List ℕ} {r : Priced} → 64 ≤ length page → CheapestPost S m C t a words page r page′
+        → ((x y : ℕ) → cheapestReply r ≡ gives (x, y) → n ≡ x) → (n ≤ 64) × (take n page′ ≡ s)
+    priced-page {n} {page} {page′} h P f =
+        let g = cheapest-gives h P in
+        let e : n ≡ length s = f (length s) (cost C s) (g .0) in
+        (omega (arith, e, A .short s in-F), ap (λ (i : ℕ). take i page′) e ∙ g .1)
+
+    -- its place: place undoes pick
+    pub place-gives : {l : List ℕ} {words′ : ℕ} {r : Placed} → l ≡ s → words′ ≡ words → PlacePost S m t a l words′ r → placeReply r ≡ gives (position s F)
+    place-gives {l} {words′} {r} e d P =
+        let f = stands s F in-F in
+        let k = f .0 in
+        let q = f .1 .1 in
+        let z = pick-given k s (f .1 .0) (le-of-eq (ap length q)) in
+        let R : PickPost S m t a k words s (Packages (length s)) (written 0 s s) = record {
+          result = sym (ap₂ (λ (n : ℕ) (u : List ℕ). reply n (length u)) z q);
+          pages = sym (ap₂ (λ (n : ℕ) (u : List ℕ). written n u s) z q);
+        } in
+        let w : take (length s) (written 0 s s) ≡ s = take-at s (drop (length s) s) (length s) refl in
+        let g : placeReply r ≡ gives k = place-of-pick R refl words′ (omega (arith, d, A .room)) r (subst (λ (u : List ℕ). PlacePost S m t a u words′ r) (e ∙ sym w) P) in
+        g ∙ ap gives (was-given k (placeRefusal S m t a l words′) (position l F) (sym g ∙ P .result) .1 ∙ ap (λ (u : List ℕ). position u F) e)
+
+-- ---- cover's answer
+
+-- the refusal that cover said
+pub cover-refused : {K : List ℕ} {F : Family} {st : ℕ} {b : List ℕ} {r : Report} {t : List ℕ} (n x : ℕ) → Makes K n F st b r t → outcomeReply (r .outcome) ≡ refused x
+    → (n ≡ x) × (x ≡ 0 → ⊥)
+cover-refused zero x M e = no-refusal (sym e ∙ M .answered refl .outcome)
+cover-refused (suc n) x M e = let q : refused (suc n) ≡ refused x = sym (M .declined (omega arith) .outcome) ∙ e in let z : suc n ≡ x = cc in (z, λ y. omega arith)
+
+pub cover-answered : {K : List ℕ} {F : Family} {st : ℕ} {b : List ℕ} {r : Report} {t : List ℕ} (n a : ℕ) → Makes K n F st b r t → outcomeReply (r .outcome) ≡ gives a
+    → (n ≡ 0) × Answered K F st b r t
+cover-answered zero a M e = (refl, M .answered refl)
+cover-answered (suc n) a M e = no-refusal (sym (M .declined (omega arith) .outcome) ∙ e)
+
+pub answerable : (S : List ℕ) (m limit words : ℕ) {b : List ℕ} {st : ℕ} {r : Report} {t : List ℕ} (a : ℕ) → length b ≡ 5401 → words ≡ 3604 → m ≤ 64
+    → coverRefusal S m b (allItems m) limit words ≡ 0 → Answered (keysOf S) (covering S (allItems m)) st b r t → outcomeReply (r .outcome) ≡ gives a
+    → Answerable S m t a words × (familyAt t a ≡ covering S (allItems m))
+unfolding coverRefusal unsound
+answerable S m limit words {t = t} a l v h z A o =
+    let p1 = passed (oversize m S) 0 _ z in
+    let p2 = passed (stray m S) 1 _ (p1 .1) in
+    let R : Rows S = rows S m (pass 1 _ (p1 .0) ∙ pass 2 _ (p2 .0) ∙ none) in
+    let n : A .number ≡ a = gives-same (sym (A .outcome) ∙ o) in
+    let c = within-capacity (sound-of (keysOf S) t (A .sound)) in
+    let d : allItems m < 2 ^ 64 = lt-of-lt-of-le (omega (arith, pow-pos m)) (pow-mono h) in
+    let f : familyAt t a ≡ covering S (allItems m) = ap (familyAt t) (sym n) ∙ A .holds in (
+      record {
+        sized = p1 .0;
+        clean = p2 .0;
+        sound = ap not (A .sound);
+        known = answer-known t a (omega (arith, n, A .known));
+        room = omega (arith, n, A .known, c, A .long, l, v);
+        short = subst⁻¹ (λ (G : Family). (s : List ℕ) → elem s G ≡ true → length s ≤ 64) f (covering-short S R (allItems m) d);
+      },
+      f,
+    )

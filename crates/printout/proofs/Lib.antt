@@ -1,0 +1,4 @@
+pub mod Putting
+pub mod Asking
+pub mod Sheets
+pub mod Room

@@ -1,0 +1,59 @@
+use Rattle.printout.proofs.Putting.{cost-none, cost-more}
+use Rattle.query.specs.Questions.{cost}
+use lib.Seq.{take-all}
+use lib.ListN.{length, take}
+use Prim.Native.Nat.{_≤_, _-_, _*_}
+use mathlib.Core.Path.{_≡_, ap, _∙_}
+use native.Mathlib.Omega.{arith}
+use borrow.Author.Needs.{needs}
+use Rattle.printout.proofs.cost_of.Statement.{statement}
+use Rattle.printout.proofs.cost_of.Tie as tie
+
+abbrev Inv-loop : tie.InvT-loop
+Inv-loop costs list sum₀ i₀ sum i = (i ≤ length list) × (sum ≡ cost costs (take i list)) × (sum ≤ 65535 * i)
+
+abbrev μ-loop : tie.MeasureT-loop
+μ-loop costs list sum₀ i₀ sum i = length list - i
+
+loop-holds : tie.Need-loop-holds Inv-loop μ-loop
+loop-holds c = (omega arith, cost-none (c .before .before .args .costs .now) (c .before .before .args .list .now), omega arith)
+
+mul-p : tie.Need-mul-p Inv-loop μ-loop
+mul-p c = search needs
+
+shared-slice-read-p : tie.Need-shared-slice-read-p Inv-loop μ-loop
+shared-slice-read-p c = search needs
+
+price-requires : tie.Need-price-requires Inv-loop μ-loop
+price-requires c κs = search needs
+
+add-sum : tie.Need-add-sum Inv-loop μ-loop
+add-sum c = omega (arith, c .price .ensures .1, c .before .before .before .before .before .before .pre)
+
+add-i : tie.Need-add-i Inv-loop μ-loop
+add-i c = search needs
+
+loop-less : tie.Need-loop-less Inv-loop μ-loop
+loop-less c = search needs
+
+loop-again : tie.Need-loop-again Inv-loop μ-loop
+loop-again c = (omega arith, omega (arith, c .before .before .before .loop .inv .1, c .price .ensures .0, cost-more (c .before .before .before .before .before .before .args .costs .now) (c .before .before .before .before .before .before .args .list .now) (c .before .before .before .loop .i) (c .before .before .loop-test .taken)), omega (arith, c .price .ensures .1))
+
+returns : tie.Need-returns Inv-loop μ-loop
+returns c = c .before .loop .inv .1 ∙ ap (cost (c .before .before .before .before .args .costs .now)) (take-all (c .before .loop .i) (c .before .before .before .before .args .list .now) (omega (arith, c .loop-test .left)))
+
+pub cost-of-spec : {M : Type 1} → statement M
+cost-of-spec =
+    tie.close
+    (tie.spec
+    Inv-loop
+    μ-loop
+    loop-holds
+    mul-p
+    shared-slice-read-p
+    price-requires
+    add-sum
+    add-i
+    loop-less
+    loop-again
+    returns)

@@ -1,0 +1,91 @@
+use Rattle.printout.specs.Program.{solved}
+use mathlib.Core.Path.{ap₂}
+use lib.ListN.{length-replicate}
+use Rattle.printout.proofs.Sheets.{from-start, holds-same, read-said, read-gave}
+use lib.Seq.{length-take-le}
+use lib.ListN.{length}
+use Prim.Native.Nat.{ℕ}
+use native.Mathlib.Omega.{arith}
+use mathlib.Core.Path.{sym, ap, _∙_}
+use borrow.Author.Needs.{needs}
+use Rattle.printout.proofs.lines.Statement.{statement}
+use Rattle.printout.proofs.lines.Tie as tie
+
+slice-aggregate-read : tie.Need-slice-aggregate-read
+slice-aggregate-read c = search needs
+
+slice-aggregate-read-2 : tie.Need-slice-aggregate-read-2
+slice-aggregate-read-2 c = search needs
+
+read-requires : tie.Need-read-requires
+read-requires c κs = search needs
+
+enum-known-reading : tie.Need-enum-known-reading
+enum-known-reading c = search needs
+
+put-refused-requires : tie.Need-put-refused-requires
+put-refused-requires c κs = search needs
+
+enum-known-reading-2 : tie.Need-enum-known-reading-2
+enum-known-reading-2 c = search needs
+
+array-share-prefix-packages : tie.Need-array-share-prefix-packages
+array-share-prefix-packages c =
+    let g = read-gave (c .before .before .before .before .before .before .before .before .before .before .args .file .now) (length-replicate {A = ℕ} 512 0) (length-replicate {A = ℕ} 512 0) (c .before .before .before .before .before .read .ensures) _ _ _ (c .before .reading2 .given .1) in
+    omega (arith, g .few, c .before .before .before .before .packages2 .given)
+
+slice-aggregate-put-solution : tie.Need-slice-aggregate-put-solution
+slice-aggregate-put-solution c =
+    let g = read-gave (c .before .before .before .before .before .before .before .before .before .before .before .args .file .now) (length-replicate {A = ℕ} 512 0) (length-replicate {A = ℕ} 512 0) (c .before .before .before .before .before .before .read .ensures) _ _ _ (c .before .before .reading2 .given .1) in
+    sym (length-take-le _ (c .before .before .before .before .before .before .read .last .1 .0) (omega (arith, g .few, c .before .before .before .before .before .packages2 .given)))
+
+array-share-prefix-costs : tie.Need-array-share-prefix-costs
+array-share-prefix-costs c =
+    let g = read-gave (c .before .before .before .before .before .before .before .before .before .before .before .args .file .now) (length-replicate {A = ℕ} 512 0) (length-replicate {A = ℕ} 512 0) (c .before .before .before .before .before .before .read .ensures) _ _ _ (c .before .before .reading2 .given .1) in
+    omega (arith, g .few, c .before .before .before .before .costs2 .given)
+
+slice-aggregate-put-solution-2 : tie.Need-slice-aggregate-put-solution-2
+slice-aggregate-put-solution-2 c =
+    let g = read-gave (c .before .before .before .before .before .before .before .before .before .before .before .before .args .file .now) (length-replicate {A = ℕ} 512 0) (length-replicate {A = ℕ} 512 0) (c .before .before .before .before .before .before .before .read .ensures) _ _ _ (c .before .before .before .reading2 .given .1) in
+    sym (length-take-le _ (c .before .before .before .before .before .before .before .read .last .1 .1 .0) (omega (arith, g .few, c .before .before .before .before .before .costs2 .given)))
+
+put-solution-requires : tie.Need-put-solution-requires
+put-solution-requires c κs =
+    let g = read-gave (c .before .before .before .before .before .before .before .before .before .before .before .before .before .args .file .now) (length-replicate {A = ℕ} 512 0) (length-replicate {A = ℕ} 512 0) (c .before .before .before .before .before .before .before .before .read .ensures) _ _ _ (c .before .before .before .before .reading2 .given .1) in
+    (ap length (g .costs) ∙ g .same-long ∙ sym (ap length (g .items)), g .small)
+
+same-length : tie.Need-same-length
+same-length c = search needs
+
+returns : tie.Need-returns
+returns c =
+    let b = c .before .before .before .before .before .before .before .before .before .before .before .before .before .before .args .file .now in
+    holds-same (read-said b (length-replicate {A = ℕ} 512 0) (length-replicate {A = ℕ} 512 0) (c .before .before .before .before .before .before .before .before .before .read .ensures) _ (c .before .before .before .before .before .reading .given .1)) (from-start (c .before .before .put-refused .ensures))
+
+same-length-2 : tie.Need-same-length-2
+same-length-2 c = search needs
+
+returns-2 : tie.Need-returns-2
+returns-2 c =
+    let g = read-gave (c .before .before .before .before .before .before .before .before .before .before .before .before .before .before .before .before .args .file .now) (length-replicate {A = ℕ} 512 0) (length-replicate {A = ℕ} 512 0) (c .before .before .before .before .before .before .before .before .before .before .before .read .ensures) _ _ _ (c .before .before .before .before .before .before .before .reading2 .given .1) in
+    holds-same (ap₂ (solved _ _) (g .items) (g .costs) ∙ g .text) (c .before .before .put-solution .ensures)
+
+pub lines-spec : {M : Type 1} → statement M
+lines-spec =
+    tie.close
+    (tie.spec
+    slice-aggregate-read
+    slice-aggregate-read-2
+    read-requires
+    enum-known-reading
+    put-refused-requires
+    enum-known-reading-2
+    array-share-prefix-packages
+    slice-aggregate-put-solution
+    array-share-prefix-costs
+    slice-aggregate-put-solution-2
+    put-solution-requires
+    same-length
+    returns
+    same-length-2
+    returns-2)

@@ -1,0 +1,84 @@
+use Rattle.printout.proofs.Sheets.{from-start, holds-same, said, unsaid, few-of}
+use Rattle.printout.proofs.Asking.{count-left, was-given, was-refused}
+use Rattle.printout.specs.Program.{answerText, sheet, Answerable}
+use Rattle.statement.specs.Replies.{countReply}
+use Rattle.statement.specs.Refusals.{countRefusal}
+use Rattle.query.specs.Questions.{familyAt}
+use lib.ListN.{length}
+use Prim.Native.Nat.{ℕ, _+_}
+use mathlib.Core.Path.{sym, ap, _∙_, subst⁻¹}
+use borrow.Author.Needs.{needs}
+use Rattle.printout.proofs.put_answer.Statement.{statement}
+use Rattle.printout.proofs.put_answer.Tie as tie
+
+add-m : tie.Need-add-m
+add-m c = search needs
+
+count-requires : tie.Need-count-requires
+count-requires c κs = search needs
+
+enum-known-counted : tie.Need-enum-known-counted
+enum-known-counted c = search needs
+
+put-refused-requires : tie.Need-put-refused-requires
+put-refused-requires c κs = search needs
+
+enum-known-counted-2 : tie.Need-enum-known-counted-2
+enum-known-counted-2 c = search needs
+
+put-sheet-requires : tie.Need-put-sheet-requires
+put-sheet-requires c κs =
+    let a = c .before .before .before .before .before .before .before .before .before .before .before .before .before .before .before .args in
+    let k = count-left (c .before .before .before .before .before .before .before .before .before .before .before .before .before .before .before .pre .0) in
+    let q = was-given _ (countRefusal (a .packages .now) (a .c .s + a .c .t) (a .table .now) (a .c .answer) (length (a .work .now))) (length (familyAt (a .table .now) (a .c .answer))) (sym (ap countReply (c .before .before .before .counted2 .given .1)) ∙ c .before .before .before .before .before .before .before .count .ensures .result) in (
+      record {
+        answerable = subst⁻¹ (λ (w : ℕ). Answerable (a .packages .now) (a .c .s + a .c .t) (a .table .now) (a .c .answer) w) (c .before .before .before .before .before .before .work .given) (c .before .before .before .before .before .before .before .before .before .before .before .before .before .before .before .pre .0);
+        few = few-of (familyAt (a .table .now) (a .c .answer)) (sym k ∙ q .0);
+      },
+      (c .before .before .before .before .before .before .before .before .before .before .before .before .before .before .before .pre .1 .0, (q .1, c .before .before .before .before .before .before .before .before .before .before .before .before .before .before .before .pre .1 .1)),
+    )
+
+same-length : tie.Need-same-length
+same-length c = search needs
+
+same-length-2 : tie.Need-same-length-2
+same-length-2 c = search needs
+
+returns : tie.Need-returns
+unfolding answerText
+returns c =
+    let a = c .before .before .before .before .before .before .before .before .before .before .before .before .before .before .before .before .before .args in
+    let k = count-left (c .before .before .before .before .before .before .before .before .before .before .before .before .before .before .before .before .before .pre .0) in
+    let q = was-refused _ (countRefusal (a .packages .now) (a .c .s + a .c .t) (a .table .now) (a .c .answer) (length (a .work .now))) (length (familyAt (a .table .now) (a .c .answer))) (sym (ap countReply (c .before .before .before .before .before .counted .given .1)) ∙ c .before .before .before .before .before .before .before .before .before .count .ensures .result) in
+    holds-same (said _ (sheet (a .c .s) (a .c .t) (length (a .packages .now)) (a .costs .now) (familyAt (a .table .now) (a .c .answer)) (a .c .made) (a .c .steps)) (sym k ∙ q .0) (q .1)) (from-start (c .before .before .put-refused .ensures))
+
+same-length-3 : tie.Need-same-length-3
+same-length-3 c = search needs
+
+same-length-4 : tie.Need-same-length-4
+same-length-4 c = search needs
+
+returns-2 : tie.Need-returns-2
+unfolding answerText
+returns-2 c =
+    let a = c .before .before .before .before .before .before .before .before .before .before .before .before .before .before .before .before .before .before .before .before .args in
+    let k = count-left (c .before .before .before .before .before .before .before .before .before .before .before .before .before .before .before .before .before .before .before .before .pre .0) in
+    let q = was-given _ (countRefusal (a .packages .now) (a .c .s + a .c .t) (a .table .now) (a .c .answer) (length (a .work .now))) (length (familyAt (a .table .now) (a .c .answer))) (sym (ap countReply (c .before .before .before .before .before .before .before .before .counted2 .given .1)) ∙ c .before .before .before .before .before .before .before .before .before .before .before .before .count .ensures .result) in
+    holds-same (unsaid (sheet (a .c .s) (a .c .t) (length (a .packages .now)) (a .costs .now) (familyAt (a .table .now) (a .c .answer)) (a .c .made) (a .c .steps)) (sym k ∙ q .0)) (c .before .before .before .before .put-sheet .ensures)
+
+pub put-answer-spec : {M : Type 1} → statement M
+put-answer-spec =
+    tie.close
+    (tie.spec
+    add-m
+    count-requires
+    enum-known-counted
+    put-refused-requires
+    enum-known-counted-2
+    put-sheet-requires
+    same-length
+    same-length-2
+    returns
+    same-length-3
+    same-length-4
+    returns-2)

@@ -1,0 +1,69 @@
+use Rattle.printout.proofs.Putting.{puts-none, puts-then, puts-same, packages-none, packages-more}
+use Rattle.printout.specs.Written.{Puts}
+use Rattle.printout.specs.Text.{packagesText, field}
+use lib.Seq.{take-all}
+use lib.ListN.{length, take}
+use Prim.Native.Nat.{ℕ, _≤_, _-_}
+use mathlib.Core.List.{[], _∷_, _++_}
+use mathlib.Core.Path.{_≡_, ap, _∙_}
+use native.Mathlib.Omega.{arith}
+use borrow.Author.Needs.{needs}
+use Rattle.printout.proofs.put_packages.Statement.{statement}
+use Rattle.printout.proofs.put_packages.Tie as tie
+
+abbrev Inv-loop : tie.InvT-loop
+Inv-loop out₀ at list to₀ i₀ t7 out to i = (i ≤ length list) × (length out ≡ length out₀) × Puts out₀ at out to (packagesText (take i list))
+
+abbrev μ-loop : tie.MeasureT-loop
+μ-loop out₀ at list to₀ i₀ t7 out to i = length list - i
+
+loop-holds : tie.Need-loop-holds Inv-loop μ-loop
+loop-holds c = (omega arith, omega arith, puts-same (packages-none (c .before .before .args .list .now)) (puts-none (c .before .before .args .out .now) (c .before .before .args .at)))
+
+mul-wide : tie.Need-mul-wide Inv-loop μ-loop
+mul-wide c = search needs
+
+shared-slice-read-wide : tie.Need-shared-slice-read-wide Inv-loop μ-loop
+shared-slice-read-wide c = search needs
+
+wide-requires : tie.Need-wide-requires Inv-loop μ-loop
+wide-requires c κs = search needs
+
+slice-aggregate-put-field : tie.Need-slice-aggregate-put-field Inv-loop μ-loop
+slice-aggregate-put-field c = search needs
+
+put-field-requires : tie.Need-put-field-requires Inv-loop μ-loop
+put-field-requires c κs = search needs
+
+add-i : tie.Need-add-i Inv-loop μ-loop
+add-i c = search needs
+
+loop-less : tie.Need-loop-less Inv-loop μ-loop
+loop-less c = omega arith
+
+loop-again : tie.Need-loop-again Inv-loop μ-loop
+loop-again c = (omega arith, omega (arith, c .before .out .given, c .before .before .before .before .before .before .before .before .loop .inv .1), puts-same (ap (λ (p : ℕ). packagesText (take (c .before .before .before .before .before .before .before .before .loop .i) (c .before .before .before .before .before .before .before .before .before .before .before .args .list .now)) ++ field (32 ∷ []) p) (c .before .before .before .before .before .wide .ensures) ∙ packages-more (c .before .before .before .before .before .before .before .before .before .before .before .args .list .now) (c .before .before .before .before .before .before .before .before .loop .i) (c .before .before .before .before .before .before .before .loop-test .taken)) (puts-then (packagesText (take (c .before .before .before .before .before .before .before .before .loop .i) (c .before .before .before .before .before .before .before .before .before .before .before .args .list .now))) (c .before .before .before .before .before .before .before .before .loop .inv .2) (c .before .before .put-field .ensures)))
+
+same-length : tie.Need-same-length Inv-loop μ-loop
+same-length c = c .before .loop .inv .1
+
+returns : tie.Need-returns Inv-loop μ-loop
+returns c = puts-same (ap packagesText (take-all (c .before .loop .i) (c .before .before .before .before .args .list .now) (omega (arith, c .loop-test .left)))) (c .before .loop .inv .2)
+
+pub put-packages-spec : {M : Type 1} → statement M
+put-packages-spec =
+    tie.close
+    (tie.spec
+    Inv-loop
+    μ-loop
+    loop-holds
+    mul-wide
+    shared-slice-read-wide
+    wide-requires
+    slice-aggregate-put-field
+    put-field-requires
+    add-i
+    loop-less
+    loop-again
+    same-length
+    returns)

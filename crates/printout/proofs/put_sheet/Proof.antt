@@ -1,0 +1,71 @@
+use Rattle.printout.proofs.Sheets.{from-start, holds-same, sheet-parts}
+use Rattle.printout.proofs.Putting.{puts-then, puts-same}
+use Rattle.printout.specs.Program.{timetableLines, Listable}
+use Rattle.printout.specs.Text.{head}
+use Rattle.query.specs.Questions.{familyAt}
+use lib.ListN.{length}
+use Prim.Native.Nat.{ℕ, _+_, min}
+use native.Mathlib.Omega.{arith}
+use mathlib.Core.Path.{ap, subst⁻¹}
+use borrow.Author.Needs.{needs}
+use Rattle.printout.proofs.put_sheet.Statement.{statement}
+use Rattle.printout.proofs.put_sheet.Tie as tie
+
+add-m : tie.Need-add-m
+add-m c = search needs
+
+cast-put-head : tie.Need-cast-put-head
+cast-put-head c = search needs
+
+cast-put-head-2 : tie.Need-cast-put-head-2
+cast-put-head-2 c = search needs
+
+cast-put-head-3 : tie.Need-cast-put-head-3
+cast-put-head-3 c = search needs
+
+cast-put-head-4 : tie.Need-cast-put-head-4
+cast-put-head-4 c = search needs
+
+put-head-requires : tie.Need-put-head-requires
+put-head-requires c κs = search needs
+
+least-requires : tie.Need-least-requires
+least-requires c κs = search needs
+
+put-timetables-requires : tie.Need-put-timetables-requires
+put-timetables-requires c κs = (c .before .before .before .before .before .before .before .before .before .before .before .before .before .before .before .before .before .pre .0, omega (arith, c .before .before .least .ensures, c .before .before .before .before .before .before .before .before .before .before .before .before .before .before .before .before .before .pre .1 .1 .0))
+
+put-last-requires : tie.Need-put-last-requires
+put-last-requires c κs = (subst⁻¹ (λ (w : ℕ). Listable (c .before .before .before .before .before .before .before .before .before .before .before .before .before .before .before .before .before .before .before .before .before .before .before .before .args .packages .now) (c .before .before .before .before .before .before .before .before .before .before .before .before .before .before .before .before .before .before .before .before .before .before .before .before .args .c .s + c .before .before .before .before .before .before .before .before .before .before .before .before .before .before .before .before .before .before .before .before .before .before .before .before .args .c .t) (c .before .before .before .before .before .before .before .before .before .before .before .before .before .before .before .before .before .before .before .before .before .before .before .before .args .table .now) (c .before .before .before .before .before .before .before .before .before .before .before .before .before .before .before .before .before .before .before .before .before .before .before .before .args .c .answer) w) (c .before .before .before .before .before .work .given) (c .before .before .before .before .before .before .before .before .before .before .before .before .before .before .before .before .before .before .before .before .before .before .before .before .pre .0), (c .before .before .before .before .before .before .before .before .before .before .before .before .before .before .before .before .before .before .before .before .before .before .before .before .pre .1 .0, c .before .before .before .before .before .before .before .before .before .before .before .before .before .before .before .before .before .before .before .before .before .before .before .before .pre .1 .1 .0))
+
+same-length : tie.Need-same-length
+same-length c = search needs
+
+same-length-2 : tie.Need-same-length-2
+same-length-2 c = search needs
+
+returns : tie.Need-returns
+returns c =
+    let a = c .before .before .before .before .before .before .before .before .before .before .before .before .before .before .before .before .before .before .before .before .before .before .before .before .before .before .before .before .before .args in
+    let C = a .costs .now in
+    let F = familyAt (a .table .now) (a .c .answer) in
+    let q = puts-then (timetableLines C F (min (a .count) 10)) (puts-same (ap (timetableLines C F) (c .before .before .before .before .before .before .before .before .before .before .before .before .before .before .least .ensures)) (c .before .before .before .before .before .before .before .before .before .before .before .put-timetables .ensures)) (c .before .before .before .before .put-last .ensures) in
+    holds-same (sheet-parts C F (a .c .s) (a .c .t) (length (a .packages .now)) (a .c .made) (a .c .steps) (a .count) (c .before .before .before .before .before .before .before .before .before .before .before .before .before .before .before .before .before .before .before .before .before .before .before .before .before .before .before .before .before .pre .1 .1 .0))
+    (from-start (puts-then (head (a .c .s) (a .c .t) (length (a .packages .now)) (a .c .made) (a .c .steps) (a .count)) (c .before .before .before .before .before .before .before .before .before .before .before .before .before .before .before .before .before .put-head .ensures) q))
+
+pub put-sheet-spec : {M : Type 1} → statement M
+put-sheet-spec =
+    tie.close
+    (tie.spec
+    add-m
+    cast-put-head
+    cast-put-head-2
+    cast-put-head-3
+    cast-put-head-4
+    put-head-requires
+    least-requires
+    put-timetables-requires
+    put-last-requires
+    same-length
+    same-length-2
+    returns)

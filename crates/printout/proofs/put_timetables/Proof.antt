@@ -1,0 +1,61 @@
+use Rattle.printout.proofs.Sheets.{lines-none, lines-more}
+use Rattle.printout.proofs.Putting.{puts-none, puts-then, puts-same}
+use Rattle.printout.specs.Program.{timetableLines, Listable}
+use Rattle.printout.specs.Written.{Puts}
+use Rattle.query.specs.Questions.{familyAt}
+use lib.ListN.{length}
+use Prim.Native.Nat.{ℕ, _≤_, _-_}
+use native.Mathlib.Omega.{arith}
+use mathlib.Core.Path.{_≡_, ap, subst⁻¹}
+use Rattle.printout.proofs.put_timetables.Statement.{statement}
+use Rattle.printout.proofs.put_timetables.Tie as tie
+
+abbrev Inv-loop : tie.InvT-loop
+Inv-loop m packages costs t a n work₀ out₀ at to₀ k₀ work out to k = (k ≤ n) × (length work ≡ length work₀) × (length out ≡ length out₀) × Puts out₀ at out to (timetableLines costs (familyAt t a) k)
+
+abbrev μ-loop : tie.MeasureT-loop
+μ-loop m packages costs t a n work₀ out₀ at to₀ k₀ work out to k = n - k
+
+loop-holds : tie.Need-loop-holds Inv-loop μ-loop
+loop-holds c = (omega arith, omega arith, omega arith, puts-same (lines-none (c .before .before .before .before .before .args .costs .now) (familyAt (c .before .before .before .before .before .args .t .now) (c .before .before .before .before .before .args .a))) (puts-none (c .before .before .before .before .before .args .out .now) (c .before .before .before .before .before .args .at)))
+
+put-nth-requires : tie.Need-put-nth-requires Inv-loop μ-loop
+put-nth-requires c κs = (subst⁻¹ (λ (w : ℕ). Listable (c .before .before .before .before .before .before .before .before .before .args .packages .now) (c .before .before .before .before .before .before .before .before .before .args .m) (c .before .before .before .before .before .before .before .before .before .args .t .now) (c .before .before .before .before .before .before .before .before .before .args .a) w) (c .before .before .before .loop .inv .1) (c .before .before .before .before .before .before .before .before .before .pre .0), omega (arith, c .before .before .before .before .before .before .before .before .before .pre .1))
+
+add-k : tie.Need-add-k Inv-loop μ-loop
+add-k c = omega arith
+
+loop-less : tie.Need-loop-less Inv-loop μ-loop
+loop-less c = omega arith
+
+loop-again : tie.Need-loop-again Inv-loop μ-loop
+loop-again c =
+    let C = c .before .before .before .before .before .before .before .before .before .before .before .before .before .before .args .costs .now in
+    let F = familyAt (c .before .before .before .before .before .before .before .before .before .before .before .before .before .before .args .t .now) (c .before .before .before .before .before .before .before .before .before .before .before .before .before .before .args .a) in
+    (omega arith, omega (arith, c .before .before .before .work .given, c .before .before .before .before .before .before .before .before .loop .inv .1), omega (arith, c .before .out .given, c .before .before .before .before .before .before .before .before .loop .inv .2), puts-same (lines-more C F (c .before .before .before .before .before .before .before .before .loop .k)) (puts-then (timetableLines C F (c .before .before .before .before .before .before .before .before .loop .k)) (c .before .before .before .before .before .before .before .before .loop .inv .3) (c .before .before .before .before .put-nth .ensures)))
+
+same-length : tie.Need-same-length Inv-loop μ-loop
+same-length c = c .before .loop .inv .1
+
+same-length-2 : tie.Need-same-length-2 Inv-loop μ-loop
+same-length-2 c = c .before .loop .inv .2
+
+returns : tie.Need-returns Inv-loop μ-loop
+returns c =
+    let e : c .before .loop .k ≡ c .before .before .before .before .before .before .before .args .n = omega (arith, c .loop-test .left) in
+    puts-same (ap (timetableLines (c .before .before .before .before .before .before .before .args .costs .now) (familyAt (c .before .before .before .before .before .before .before .args .t .now) (c .before .before .before .before .before .before .before .args .a))) e) (c .before .loop .inv .3)
+
+pub put-timetables-spec : {M : Type 1} → statement M
+put-timetables-spec =
+    tie.close
+    (tie.spec
+    Inv-loop
+    μ-loop
+    loop-holds
+    put-nth-requires
+    add-k
+    loop-less
+    loop-again
+    same-length
+    same-length-2
+    returns)
