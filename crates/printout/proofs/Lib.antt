@@ -2,3 +2,4 @@ pub mod Putting
 pub mod Asking
 pub mod Sheets
 pub mod Room
+pub mod Prefix

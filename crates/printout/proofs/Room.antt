@@ -22,7 +22,7 @@ use Rattle.guard.proofs.GuardLaws.{rows}
 use Rattle.bids.specs.Format.{schools, slots, packagesOf, costsOf, refusal}
 use Rattle.bids.proofs.Refused.{neither}
 use Rattle.printout.specs.Text.{decimalIn, decimal, field, head, packagesText, timetableLine, cheapestLine, noneLine, refusedLine, slotsWord, schoolsWord, packagesWord, nodesWord, stepsWord, timetablesWord, costWord, cheapestWord, refusedWord, newline}
-use Rattle.printout.specs.Written.{Holds}
+use Rattle.printout.specs.Written.{Holds, Whole}
 use Rattle.printout.specs.Program.{unless, timetableLines, lastLine, sheet, answerText, blank, solved, printed}
 use Rattle.printout.proofs.Asking.{covering-short}
 
@@ -123,5 +123,5 @@ unfolding printed
 text-fits b = unless-short (refusal b) (solved (schools b) (slots b) (packagesOf b) (costsOf b)) (λ z. solved-short (schools b) (slots b) (packagesOf b) (costsOf b))
 
 -- so such a buffer holds just the text
-pub whole : (b : List ℕ) {out : List ℕ} {r : ℕ} → 16384 ≤ length out → Holds out r (printed b) → (r ≡ length (printed b)) × (take r out ≡ printed b)
-whole b l h = h .text (omega (arith, text-fits b))
+pub whole : (b : List ℕ) {out : List ℕ} {r : ℕ} → length out ≡ 16384 → Holds out r (printed b) → Whole 16384 out r (printed b)
+whole b l h = record { long = l; inside = h .inside; text = h .text (omega (arith, text-fits b)) .1 }

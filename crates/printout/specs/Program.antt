@@ -5,7 +5,7 @@ use mathlib.Core.Bool.{true, false}
 use mathlib.Core.List.{List, [], _∷_, _++_}
 use Prim.Native.Nat.{ℕ, zero, suc, _+_, _*_, _≤_, min}
 use lib.Dec.{eqb}
-use lib.ListN.{length, replicate}
+use lib.ListN.{length, replicate, take}
 use Rattle.zdd.specs.Table.{Family, nodesOf, elem}
 use Rattle.zdd.specs.Branches.{missing}
 use Rattle.exact_cover.specs.Cover.{covering}
@@ -51,6 +51,11 @@ solved s t S C =
 -- the text for the file b
 unfoldable pub printed : List ℕ → List ℕ
 printed b = unless (refusal b) (solved (schools b) (slots b) (packagesOf b) (costsOf b))
+
+-- what a program may print that has read n bytes of a file into its buffer, as many as the file has and no more than the buffer holds: the text for
+-- every file that begins so
+abbrev pub PrintedFor : (buffer : List ℕ) (n : ℕ) (text : List ℕ) → Type 0
+PrintedFor buffer n text = (b : List ℕ) → take (length buffer) b ≡ take n buffer → text ≡ printed b
 
 -- ---- what the steps of the program know
 

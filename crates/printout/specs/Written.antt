@@ -12,3 +12,9 @@ pub record Holds (out : List ℕ) (at : ℕ) (ts : List ℕ) : Type 0 where
 -- the text xs was put behind what the buffer held
 abbrev pub Puts : List ℕ → ℕ → List ℕ → ℕ → List ℕ → Type 0
 Puts out at out′ at′ xs = (ts : List ℕ) → Holds out at ts → Holds out′ at′ (ts ++ xs)
+
+-- the first `at` bytes of a buffer of `room` bytes are the text ts, all of it
+pub record Whole (room : ℕ) (out : List ℕ) (at : ℕ) (ts : List ℕ) : Type 0 where
+  pub long : length out ≡ room
+  pub inside : at ≤ length out
+  pub text : take at out ≡ ts

@@ -6,7 +6,7 @@ ghost use Prim.Native.Nat.{ℕ, suc, _+_, _^_, _<_, _≤_, min};
 ghost use lib.ListN.{length, getD};
 ghost use Rattle.query.specs.Questions.{familyAt, nth, cost};
 ghost use Rattle.printout.specs.Text.{decimalIn, decimal, field, head, packagesText, timetableLine, cheapestLine, refusedLine};
-ghost use Rattle.printout.specs.Written.{Puts, Holds};
+ghost use Rattle.printout.specs.Written.{Puts, Holds, Whole};
 ghost use Rattle.printout.specs.Program.{timetableLines, lastLine, sheet, answerText, solved, printed, Answerable, Listable};
 ghost use Rattle.statement.specs.Examples.{allItems};
 ghost use Rattle.statement.specs.Replies.{gives, pickReply, placeReply, cheapestReply};
@@ -370,9 +370,9 @@ fn put_solution(s: u32, t: u32, packages: &[u64], costs: &[u16], out: &mut [u8])
     }
 }
 
-// What the program prints for a file, to the start of the buffer; returns how long it is.
-pub fn lines(file: &[u8], out: &mut [u8]) -> usize
-    ensures { λ r. ⌜ Holds (now (out .exit)) r (printed (now (file .entry))) ⌝ }
+// What the program prints for a file, whole, to the start of the buffer, which is long enough for every text (proofs/Room); returns how long it is.
+pub fn lines(file: &[u8], out: &mut [u8; 16384]) -> usize
+    ensures { λ r. ⌜ Whole 16384 (now (out .exit)) r (printed (now (file .entry))) ⌝ }
 {
     let mut packages = [0u64; 512];
     let mut costs = [0u16; 512];

@@ -1,16 +1,8 @@
 // What the program prints for the files of data/: one for each refusal, and some that are answered.
-fn show(fd: i32) {
-    let mut file = [0u8; 6286];
-    let n = io::read_full(fd, &mut file);
-    let mut text = [0u8; 16384];
-    let k = printout::lines(&file[..n], &mut text);
-    io::write_all(1, &text[..k]);
-}
-
 fn case(name: &[u8]) {
     io::write_all(1, name);
     io::write_all(1, b"\n");
-    show(os::open_read(name));
+    console::answer(os::open_read(name));
 }
 
 fn refused_by_header() {

@@ -1,12 +1,11 @@
-use Rattle.printout.specs.Program.{solved}
-use mathlib.Core.Path.{ap₂}
-use lib.ListN.{length-replicate}
-use Rattle.printout.proofs.Sheets.{from-start, holds-same, read-said, read-gave}
-use lib.Seq.{length-take-le}
-use lib.ListN.{length}
 use Prim.Native.Nat.{ℕ}
+use lib.Seq.{length-take-le}
+use lib.ListN.{length, length-replicate}
 use native.Mathlib.Omega.{arith}
-use mathlib.Core.Path.{sym, ap, _∙_}
+use mathlib.Core.Path.{sym, ap, ap₂, _∙_}
+use Rattle.printout.proofs.Sheets.{from-start, holds-same, read-said, read-gave}
+use Rattle.printout.proofs.Room.{whole}
+use Rattle.printout.specs.Program.{solved}
 use borrow.Author.Needs.{needs}
 use Rattle.printout.proofs.lines.Statement.{statement}
 use Rattle.printout.proofs.lines.Tie as tie
@@ -31,44 +30,39 @@ enum-known-reading-2 c = search needs
 
 array-share-prefix-packages : tie.Need-array-share-prefix-packages
 array-share-prefix-packages c =
-    let g = read-gave (c .before .before .before .before .before .before .before .before .before .before .args .file .now) (length-replicate {A = ℕ} 512 0) (length-replicate {A = ℕ} 512 0) (c .before .before .before .before .before .read .ensures) _ _ _ (c .before .reading2 .given .1) in
+    let g = read-gave (c .before .before .before .before .before .before .before .before .before .args .file .now) (length-replicate {A = ℕ} 512 0) (length-replicate {A = ℕ} 512 0) (c .before .before .before .before .before .read .ensures) _ _ _ (c .before .reading2 .given .1) in
     omega (arith, g .few, c .before .before .before .before .packages2 .given)
 
 slice-aggregate-put-solution : tie.Need-slice-aggregate-put-solution
 slice-aggregate-put-solution c =
-    let g = read-gave (c .before .before .before .before .before .before .before .before .before .before .before .args .file .now) (length-replicate {A = ℕ} 512 0) (length-replicate {A = ℕ} 512 0) (c .before .before .before .before .before .before .read .ensures) _ _ _ (c .before .before .reading2 .given .1) in
+    let g = read-gave (c .before .before .before .before .before .before .before .before .before .before .args .file .now) (length-replicate {A = ℕ} 512 0) (length-replicate {A = ℕ} 512 0) (c .before .before .before .before .before .before .read .ensures) _ _ _ (c .before .before .reading2 .given .1) in
     sym (length-take-le _ (c .before .before .before .before .before .before .read .last .1 .0) (omega (arith, g .few, c .before .before .before .before .before .packages2 .given)))
 
 array-share-prefix-costs : tie.Need-array-share-prefix-costs
 array-share-prefix-costs c =
-    let g = read-gave (c .before .before .before .before .before .before .before .before .before .before .before .args .file .now) (length-replicate {A = ℕ} 512 0) (length-replicate {A = ℕ} 512 0) (c .before .before .before .before .before .before .read .ensures) _ _ _ (c .before .before .reading2 .given .1) in
+    let g = read-gave (c .before .before .before .before .before .before .before .before .before .before .args .file .now) (length-replicate {A = ℕ} 512 0) (length-replicate {A = ℕ} 512 0) (c .before .before .before .before .before .before .read .ensures) _ _ _ (c .before .before .reading2 .given .1) in
     omega (arith, g .few, c .before .before .before .before .costs2 .given)
 
 slice-aggregate-put-solution-2 : tie.Need-slice-aggregate-put-solution-2
 slice-aggregate-put-solution-2 c =
-    let g = read-gave (c .before .before .before .before .before .before .before .before .before .before .before .before .args .file .now) (length-replicate {A = ℕ} 512 0) (length-replicate {A = ℕ} 512 0) (c .before .before .before .before .before .before .before .read .ensures) _ _ _ (c .before .before .before .reading2 .given .1) in
+    let g = read-gave (c .before .before .before .before .before .before .before .before .before .before .before .args .file .now) (length-replicate {A = ℕ} 512 0) (length-replicate {A = ℕ} 512 0) (c .before .before .before .before .before .before .before .read .ensures) _ _ _ (c .before .before .before .reading2 .given .1) in
     sym (length-take-le _ (c .before .before .before .before .before .before .before .read .last .1 .1 .0) (omega (arith, g .few, c .before .before .before .before .before .costs2 .given)))
 
 put-solution-requires : tie.Need-put-solution-requires
 put-solution-requires c κs =
-    let g = read-gave (c .before .before .before .before .before .before .before .before .before .before .before .before .before .args .file .now) (length-replicate {A = ℕ} 512 0) (length-replicate {A = ℕ} 512 0) (c .before .before .before .before .before .before .before .before .read .ensures) _ _ _ (c .before .before .before .before .reading2 .given .1) in
+    let g = read-gave (c .before .before .before .before .before .before .before .before .before .before .before .before .args .file .now) (length-replicate {A = ℕ} 512 0) (length-replicate {A = ℕ} 512 0) (c .before .before .before .before .before .before .before .before .read .ensures) _ _ _ (c .before .before .before .before .reading2 .given .1) in
     (ap length (g .costs) ∙ g .same-long ∙ sym (ap length (g .items)), g .small)
-
-same-length : tie.Need-same-length
-same-length c = search needs
 
 returns : tie.Need-returns
 returns c =
-    let b = c .before .before .before .before .before .before .before .before .before .before .before .before .before .before .args .file .now in
-    holds-same (read-said b (length-replicate {A = ℕ} 512 0) (length-replicate {A = ℕ} 512 0) (c .before .before .before .before .before .before .before .before .before .read .ensures) _ (c .before .before .before .before .before .reading .given .1)) (from-start (c .before .before .put-refused .ensures))
-
-same-length-2 : tie.Need-same-length-2
-same-length-2 c = search needs
+    let b = c .before .before .before .before .before .before .before .before .before .before .before .args .file .now in
+    whole b (omega (arith, c .put-refused .kept)) (holds-same (read-said b (length-replicate {A = ℕ} 512 0) (length-replicate {A = ℕ} 512 0) (c .before .before .before .before .before .before .before .read .ensures) _ (c .before .before .before .reading .given .1)) (from-start (c .put-refused .ensures)))
 
 returns-2 : tie.Need-returns-2
 returns-2 c =
-    let g = read-gave (c .before .before .before .before .before .before .before .before .before .before .before .before .before .before .before .before .args .file .now) (length-replicate {A = ℕ} 512 0) (length-replicate {A = ℕ} 512 0) (c .before .before .before .before .before .before .before .before .before .before .before .read .ensures) _ _ _ (c .before .before .before .before .before .before .before .reading2 .given .1) in
-    holds-same (ap₂ (solved _ _) (g .items) (g .costs) ∙ g .text) (c .before .before .put-solution .ensures)
+    let b = c .before .before .before .before .before .before .before .before .before .before .before .before .before .args .file .now in
+    let g = read-gave b (length-replicate {A = ℕ} 512 0) (length-replicate {A = ℕ} 512 0) (c .before .before .before .before .before .before .before .before .before .read .ensures) _ _ _ (c .before .before .before .before .before .reading2 .given .1) in
+    whole b (omega (arith, c .put-solution .kept)) (holds-same (ap₂ (solved _ _) (g .items) (g .costs) ∙ g .text) (c .put-solution .ensures))
 
 pub lines-spec : {M : Type 1} → statement M
 lines-spec =
@@ -85,7 +79,5 @@ lines-spec =
     array-share-prefix-costs
     slice-aggregate-put-solution-2
     put-solution-requires
-    same-length
     returns
-    same-length-2
     returns-2)
