@@ -3,7 +3,7 @@ use mathlib.Core.Path.{_≡_, refl, ap, subst, subst⁻¹}
 use mathlib.Core.Logic.{_⊎_, inl, inr, ⊎-elim}
 use mathlib.Core.Bool.{Bool, true, false, not, _&&_, _||_}
 use mathlib.Core.List.{List, [], _∷_, List·Memᴰ·cases-cons, List·Memᴰ·not-nil}
-use Prim.Native.Nat.{ℕ, _+_, _/_, _<_}
+use Prim.Native.Nat.{ℕ, zero, suc, _+_, _/_, _<_}
 use native.Mathlib.Nat.{eq-zero-or-pos}
 use native.Mathlib.Omega.{arith}
 use lib.ListN.{length}
@@ -19,7 +19,7 @@ use Rattle.statement.specs.Replies.{Reply, refused, gives, outcomeReply}
 use Rattle.query.specs.Questions.{familyAt}
 use Rattle.statement.specs.Refusals.{firstOf, oversize, stray, unsound, unknownAnswer, coverRefusal, pairRefusal, packageRefusal}
 use Rattle.statement.specs.Postconditions.{Makes}
-use Rattle.history.specs.Histories.{Call, cover, either, both, only, «with», without, itemsOf, operands, Step, Chosen, listing, makes}
+use Rattle.history.specs.Histories.{Call, cover, either, both, only, «with», without, itemsOf, operands, Step, Calls, History, start, next, Chosen, listing, makes}
 use Rattle.statement.proofs.FirstOf.{passed}
 
 pub refusalOf : (S t : List ℕ) → Call → ℕ
@@ -160,3 +160,25 @@ module _ (S t : List ℕ) (c : Call) (r : Report) (t′ : List ℕ) (step : Step
       (λ (z : refusalOf S t c ≡ 0). contract .answered z .long)
       (λ (l : 0 < refusalOf S t c). ap length (contract .declined l .table))
       (eq-zero-or-pos (refusalOf S t c))
+
+  -- it has as many nodes more as were made
+  pub grown : count t′ ≡ count t + r .made
+  grown =
+      ⊎-elim
+      (λ (z : refusalOf S t c ≡ 0). contract .answered z .grown)
+      (λ (l : 0 < refusalOf S t c). let D = contract .declined l in omega (arith, ap count (D .table), D .made))
+      (eq-zero-or-pos (refusalOf S t c))
+
+-- ---- what it says of a history
+
+-- how many nodes the calls made
+pub nodesMade : Calls → ℕ
+nodesMade [] = 0
+nodesMade (e ∷ h) = nodesMade h + e .1 .made
+
+-- the table that they leave has as many
+pub nodes-made : {S : List ℕ} {h : Calls} {t : List ℕ} → History S h t → count t ≡ nodesMade h
+unfolding nodesMade
+nodes-made (start zero) = refl
+nodes-made (start (suc n)) = refl
+nodes-made {S} (next {h} {t} H c r t′ a s) = omega (arith, grown S t c r t′ s, nodes-made H)

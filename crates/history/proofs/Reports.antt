@@ -46,14 +46,17 @@ stored out i w r h e =
       as-long = length-set o2 (3 * i + 2) (r .made) ∙ l2 ∙ l1;
     }
 
+-- equal reports, equal calls
+pub calls-reported : (script out out′ : List ℕ) (n : ℕ) → ((i : ℕ) → i < n → reportAt out i ≡ reportAt out′ i) → calls script out n ≡ calls script out′ n
+unfolding calls
+calls-reported script out out′ zero e = refl
+calls-reported script out out′ (suc n) e =
+    ap₂ (λ (r : Report) (h : Calls). (callAt script n, r) ∷ h) (e n (omega arith)) (calls-reported script out out′ n (λ i l. e i (omega arith)))
+
 -- the first reports are read off the first words
 pub calls-same : (script out out′ : List ℕ) (n i : ℕ) → 3 * i ≤ n → take n out′ ≡ take n out → calls script out′ i ≡ calls script out i
-unfolding calls
-calls-same script out out′ n zero h e = refl
-calls-same script out out′ n (suc i) h e =
-    ap₂ (λ (r : Report) (l : Calls). (callAt script i, r) ∷ l)
-    (rw (word (3 * i) (omega arith), word (3 * i + 1) (omega arith), word (3 * i + 2) (omega arith)))
-    (calls-same script out out′ n i (omega arith) e)
+calls-same script out out′ n i h e = calls-reported script out′ out i (λ j l.
+    rw (word (3 * j) (omega arith), word (3 * j + 1) (omega arith), word (3 * j + 2) (omega arith)))
   where
     word : (j : ℕ) → j < n → getD out′ j 0 ≡ getD out j 0
     word j l = sym (getD-take n out′ j 0 l) ∙ ap (λ (x : List ℕ). getD x j 0) e ∙ getD-take n out j 0 l
