@@ -4,10 +4,12 @@ use mathlib.Core.Logic.{⊎-elim}
 use mathlib.Core.Bool.{true, false}
 use mathlib.Core.List.{List, [], _∷_}
 use Prim.Native.Nat.{ℕ, _+_, _*_, _/_, _≤_, _<_}
+use native.Mathlib.Nat.{not-suc-le-zero}
 use native.Mathlib.Omega.{arith}
 use lib.Dec.{leb}
 use lib.ListN.{length, set, drop, replicate, length-set, length-replicate}
 use lib.Seq.{drop-drop}
+use borrow.Author.Count.{below-more}
 use borrow.Author.Tests.{leb-true}
 use Rattle.base.proofs.Bools.{or-cases}
 use Rattle.zdd.specs.Table.{count, has, _∈_}
@@ -16,14 +18,18 @@ use Rattle.statement.specs.Replies.{Reply, refused, gives, outcomeReply}
 use Rattle.history.specs.Histories.{Call, operands, Step, Calls, given, Allowed, History, start, next}
 use Rattle.history.specs.Script.{callAt, calls, passes, every, runs, runnable, Ran}
 use Rattle.history.specs.Parts.{marked, noted, Stored}
-use Rattle.history.proofs.Contract.{operand-known, answer-below, as-long}
+use Rattle.history.proofs.Contract.{operand-known, answer-below, as-long, nodes-made}
 use Rattle.history.proofs.Demand.{demand3}
-use Rattle.history.proofs.Requests.{every-at, every-same, Runs, runs-same}
+use Rattle.history.proofs.Requests.{every-at, every-same, Runs, may-run, runs-same}
 use Rattle.history.proofs.Reports.{calls-none, calls-same, calls-next}
 use Rattle.history.proofs.Marks.{Marks, marks-none, marks-more, marks-give, marked-passes, has-in}
 
+-- call j can be run on each table that the calls h leave
+abbrev pub Ready : (S script : List ℕ) (places room j : ℕ) → Calls → Type 0
+Ready S script places room j h = (u : List ℕ) → History S h u → runs script places room j (passes h u) ≡ true
+
 -- after i calls: t and out are the table and the words of the reports, g has the marks; t₀ and out₀ are those before the first
-pub record Running (S script : List ℕ) (t₀ out₀ : List ℕ) (i : ℕ) (g t out : List ℕ) : Type 0 where
+pub record Running (S script : List ℕ) (room : ℕ) (t₀ out₀ : List ℕ) (i : ℕ) (g t out : List ℕ) : Type 0 where
   pub history : History S (calls script out i) t
   pub marks : Marks g (given (calls script out i))
   pub numbers : length g ≡ 65536
@@ -32,10 +38,11 @@ pub record Running (S script : List ℕ) (t₀ out₀ : List ℕ) (i : ℕ) (g t
   pub rest : drop (3 * i) out ≡ drop (3 * i) out₀
   pub asked : i ≤ length script / 5
   pub placed : i ≤ length out₀ / 3
+  pub ready : (j : ℕ) → j < i → Ready S script (length out₀ / 3) room j (calls script out j)
 
-pub running-start : (S script t out g : List ℕ) (words n : ℕ) → n ≡ 65536 → g ≡ set (set (replicate n 0) 1 1) 0 1 → t ≡ replicate words 0
-    → Running S script t out 0 g t out
-running-start S script t out g words n z q e = record {
+pub running-start : (S script : List ℕ) (room : ℕ) (t out g : List ℕ) (words n : ℕ) → n ≡ 65536 → g ≡ set (set (replicate n 0) 1 1) 0 1 → t ≡ replicate words 0
+    → Running S script room t out 0 g t out
+running-start S script room t out g words n z q e = record {
   history = subst⁻¹ (λ (h : Calls). History S h t) (calls-none script out) (subst⁻¹ (λ (u : List ℕ). History S [] u) e (start words));
   marks = subst⁻¹ (λ (h : Calls). Marks g (given h)) (calls-none script out)
       (subst⁻¹ (λ (u : List ℕ). Marks u (0 ∷ 1 ∷ [])) q
@@ -46,6 +53,7 @@ running-start S script t out g words n z q e = record {
   rest = refl;
   asked = omega arith;
   placed = omega arith;
+  ready = λ j l. absurd (not-suc-le-zero l);
 }
   where
     g1 : List ℕ
@@ -66,17 +74,15 @@ allowed h t c (gives a) e k = λ x i. ⊎-elim
     (λ (p : leb (count t + 2) x ≡ true). absurd (omega (arith, leb-true (count t + 2) x p, k a refl x i)))
     (or-cases (has x (given h)) (leb (count t + 2) x) (every-at (passes h t) (operands c) e x i))
 
-module _ {S script t₀ out₀ : List ℕ} {i : ℕ} {g t out : List ℕ} (R : Running S script t₀ out₀ i g t out) where
+module _ {S script : List ℕ} {room : ℕ} {t₀ out₀ : List ℕ} {i : ℕ} {g t out : List ℕ} (R : Running S script room t₀ out₀ i g t out) where
   -- the marks test what the promise says
-  pub same-test : (room : ℕ) → runs script (length out₀ / 3) room i (marked g (count t)) ≡ runnable script out room t i
-  same-test room =
-      runs-same script (length out₀ / 3) room i (marked g (count t)) (passes (calls script out i) t) (marked-passes g t (calls script out i) (R .numbers) (R .marks))
-      ∙ ap (λ (n : ℕ). runs script (n / 3) room i (passes (calls script out i) t)) (sym (R .wide))
+  same-test : (u : List ℕ) → runs script (length out₀ / 3) room i (marked g (count u)) ≡ runs script (length out₀ / 3) room i (passes (calls script out i) u)
+  same-test u = runs-same script (length out₀ / 3) room i _ _ (marked-passes g u (calls script out i) (R .numbers) (R .marks))
 
-  pub running-next : {r : Report} {t′ out′ g′ : List ℕ} {room : ℕ} → Runs script (length out₀ / 3) room i (marked g (count t))
+  pub running-next : {r : Report} {t′ out′ g′ : List ℕ} → runs script (length out₀ / 3) room i (marked g (count t)) ≡ true
       → Step S t (callAt script i) r t′ → Stored out i r out′ → g′ ≡ noted (outcomeReply (r .outcome)) g
-      → Running S script t₀ out₀ (i + 1) g′ t′ out′
-  running-next {r} {t′} {out′} {g′} {room} ok step put wrote = record {
+      → Running S script room t₀ out₀ (i + 1) g′ t′ out′
+  running-next {r} {t′} {out′} {g′} test step put wrote = record {
     history = subst⁻¹ (λ (h : Calls). History S h t′) after (next (R .history) (callAt script i) r t′
         (allowed (calls script out i) t (callAt script i) (outcomeReply (r .outcome))
         (sym (every-same (marked g (count t)) (passes (calls script out i) t) (operands (callAt script i)) (marked-passes g t (calls script out i) (R .numbers) (R .marks))) ∙ ok .pass)
@@ -89,8 +95,23 @@ module _ {S script t₀ out₀ : List ℕ} {i : ℕ} {g t out : List ℕ} (R : R
     rest = rw (three) (put .behind ∙ sym (drop-drop 3 (3 * i) out) ∙ ap (drop 3) (R .rest) ∙ drop-drop 3 (3 * i) out₀);
     asked = omega (arith, ok .there);
     placed = omega (arith, ok .placed);
+    ready = below-more (λ (j : ℕ). Ready S script (length out₀ / 3) room j (calls script out′ j)) i
+        (λ j l. subst⁻¹ (Ready S script (length out₀ / 3) room j) (kept j (omega arith)) (R .ready j l))
+        (subst⁻¹ (Ready S script (length out₀ / 3) room i) (kept i (omega arith)) now-ready);
   }
     where
+      ok : Runs script (length out₀ / 3) room i (marked g (count t))
+      ok = may-run script (length out₀ / 3) room i (marked g (count t)) test
+
+      now-ready : Ready S script (length out₀ / 3) room i (calls script out i)
+      now-ready u H =
+          sym (same-test u)
+          ∙ ap (λ (n : ℕ). runs script (length out₀ / 3) room i (marked g n)) (nodes-made H ∙ sym (nodes-made (R .history)))
+          ∙ test
+
+      kept : (j : ℕ) → j ≤ i → calls script out′ j ≡ calls script out j
+      kept j l = calls-same script out out′ (3 * i) j (omega arith) (put .front)
+
       three : 3 * (i + 1) ≡ 3 * i + 3
       three = omega arith
 
@@ -98,15 +119,14 @@ module _ {S script t₀ out₀ : List ℕ} {i : ℕ} {g t out : List ℕ} (R : R
       after =
           calls-next script out′ i
           ∙ ap (λ (x : Report). (callAt script i, x) ∷ calls script out′ i) (put .says)
-          ∙ ap (λ (h : Calls). (callAt script i, r) ∷ h) (calls-same script out out′ (3 * i) i (omega arith) (put .front))
+          ∙ ap (λ (h : Calls). (callAt script i, r) ∷ h) (kept i (omega arith))
 
       mark-long : (o : Reply ℕ) → length (noted o g) ≡ length g
       mark-long (refused n) = refl
       mark-long (gives a) = length-set g a 1
 
-  pub ran : (room : ℕ) (t₁ : List ℕ) → length t₀ ≡ length t₁ → runs script (length out₀ / 3) room i (marked g (count t)) ≡ false
-      → Ran S script room t₁ out₀ i t out
-  ran room t₁ l e = record {
+  pub ran : (t₁ : List ℕ) → length t₀ ≡ length t₁ → runs script (length out₀ / 3) room i (marked g (count t)) ≡ false → Ran S script room t₁ out₀ i t out
+  ran t₁ l e = record {
     history = R .history;
     demanded = demand3 S (calls script out i) t (R .history);
     long = R .long ∙ l;
@@ -114,5 +134,9 @@ module _ {S script t₀ out₀ : List ℕ} {i : ℕ} {g t out : List ℕ} (R : R
     rest = R .rest;
     asked = R .asked;
     placed = R .placed;
-    stopped = sym (same-test room) ∙ e;
+    ready = λ j h u H. places j u ∙ R .ready j (omega arith) u H;
+    stopped = places i t ∙ sym (same-test t) ∙ e;
   }
+    where
+      places : (j : ℕ) (u : List ℕ) → runnable script out room u j ≡ runs script (length out₀ / 3) room j (passes (calls script out j) u)
+      places j u = ap (λ (n : ℕ). runs script (n / 3) room j (passes (calls script out j) u)) (R .wide)

@@ -3,7 +3,7 @@
 use mathlib.Core.Path.{_≡_}
 use mathlib.Core.Bool.{Bool, true, false, cond, _&&_, _||_}
 use mathlib.Core.List.{List, [], _∷_}
-use Prim.Native.Nat.{ℕ, zero, suc, _+_, _-_, _*_, _/_, _≤_}
+use Prim.Native.Nat.{ℕ, zero, suc, _+_, _-_, _*_, _/_, _≤_, _<_}
 use lib.Dec.{eqb, leb, ltb}
 use lib.ListN.{length, getD, drop}
 use Rattle.zdd.specs.Table.{count, has}
@@ -106,7 +106,9 @@ pub record Ran (S script : List ℕ) (room : ℕ) (t out : List ℕ) (n : ℕ) (
   pub long : length t′ ≡ length t
   pub wide : length out′ ≡ length out
   pub rest : drop (3 * n) out′ ≡ drop (3 * n) out
-  -- the script has these calls, and there was a place for each report; the next call may not be run, or there is none
+  -- the script has these calls, and there was a place for each report
   pub asked : n ≤ length script / 5
   pub placed : n ≤ length out / 3
+  -- each of these calls could be run, on whatever table the calls before it left; the next one may not be run, or there is none
+  pub ready : (i : ℕ) → i < n → (u : List ℕ) → History S (calls script out′ i) u → runnable script out′ room u i ≡ true
   pub stopped : runnable script out′ room t′ n ≡ false

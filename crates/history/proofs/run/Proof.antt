@@ -11,7 +11,7 @@ use Rattle.history.proofs.run.Statement.{statement}
 use Rattle.history.proofs.run.Tie as tie
 
 abbrev Inv-loop : tie.InvT-loop
-Inv-loop packages t₀ work₀ script out₀ given₀ places room i₀ t work out given i = (Running packages script t₀ out₀ i given t out) × (length work ≡ length work₀)
+Inv-loop packages t₀ work₀ script out₀ given₀ places room i₀ t work out given i = (Running packages script room t₀ out₀ i given t out) × (length work ≡ length work₀)
 
 abbrev μ-loop : tie.MeasureT-loop
 μ-loop packages t₀ work₀ script out₀ given₀ places room i₀ t work out given i = length out₀ / 3 - i
@@ -23,7 +23,7 @@ mark-first-requires : tie.Need-mark-first-requires Inv-loop μ-loop
 mark-first-requires c κs = search needs
 
 loop-holds : tie.Need-loop-holds Inv-loop μ-loop
-loop-holds c = (running-start _ _ _ _ _ (length (c .before .before .before .before .before .before .before .before .before .before .before .args .t .now)) 65536 refl (c .mark-first .ensures) (c .before .before .before .before .clear .ensures), refl)
+loop-holds c = (running-start _ _ _ _ _ _ (length (c .before .before .before .before .before .before .before .before .before .before .before .args .t .now)) 65536 refl (c .mark-first .ensures) (c .before .before .before .before .clear .ensures), refl)
 
 ready-requires : tie.Need-ready-requires Inv-loop μ-loop
 ready-requires c κs = search needs
@@ -44,7 +44,7 @@ loop-less : tie.Need-loop-less Inv-loop μ-loop
 loop-less c = let k = may-run _ _ _ _ _ (sym (c .before .before .before .before .before .before .before .before .before .before .before .before .before .before .ready .ensures) ∙ c .before .before .before .before .before .before .before .before .before .before .before .before .before .if1 .taken) in omega (arith, k .placed)
 
 loop-again : tie.Need-loop-again Inv-loop μ-loop
-loop-again c = (running-next (c .before .before .before .before .before .before .before .before .before .before .before .before .before .before .before .before .before .loop .inv .0) (may-run _ _ _ _ _ (sym (c .before .before .before .before .before .before .before .before .before .before .before .before .before .before .ready .ensures) ∙ c .before .before .before .before .before .before .before .before .before .before .before .before .before .if1 .taken)) (c .before .before .before .before .before .before .before .before .before .before .call .ensures) (c .before .before .before .before .store .ensures) (c .mark .ensures), c .before .before .before .before .before .before .before .before .before .before .call .kept .1 .1 .0 ∙ c .before .before .before .before .before .before .before .before .before .before .before .before .before .before .before .before .before .loop .inv .1)
+loop-again c = (running-next (c .before .before .before .before .before .before .before .before .before .before .before .before .before .before .before .before .before .loop .inv .0) (sym (c .before .before .before .before .before .before .before .before .before .before .before .before .before .before .ready .ensures) ∙ c .before .before .before .before .before .before .before .before .before .before .before .before .before .if1 .taken) (c .before .before .before .before .before .before .before .before .before .before .call .ensures) (c .before .before .before .before .store .ensures) (c .mark .ensures), c .before .before .before .before .before .before .before .before .before .before .call .kept .1 .1 .0 ∙ c .before .before .before .before .before .before .before .before .before .before .before .before .before .before .before .before .before .loop .inv .1)
 
 same-length : tie.Need-same-length Inv-loop μ-loop
 same-length c = c .before .before .before .before .loop .inv .0 .long ∙ ap length (c .before .before .before .before .before .before .before .before .before .clear .ensures) ∙ length-replicate _ _
@@ -56,7 +56,7 @@ same-length-3 : tie.Need-same-length-3 Inv-loop μ-loop
 same-length-3 c = c .before .before .before .before .loop .inv .0 .wide
 
 returns : tie.Need-returns Inv-loop μ-loop
-returns c = ran (c .before .before .before .before .loop .inv .0) _ _ (ap length (c .before .before .before .before .before .before .before .before .before .clear .ensures) ∙ length-replicate _ _) (sym (c .before .ready .ensures) ∙ c .if1 .left)
+returns c = ran (c .before .before .before .before .loop .inv .0) _ (ap length (c .before .before .before .before .before .before .before .before .before .clear .ensures) ∙ length-replicate _ _) (sym (c .before .ready .ensures) ∙ c .if1 .left)
 
 pub run-spec : {M : Type 1} → statement M
 run-spec =
