@@ -1,4 +1,4 @@
--- The third demand, a history that meets its hypotheses, and the laws of the runner.
+-- The third demand, a history that meets its hypotheses, and the laws of the runner: `Determined` has what follows from its promise.
 pub mod Contract
 pub mod Demand
 mod Inhabited
@@ -7,3 +7,4 @@ pub mod Reports
 pub mod Marks
 pub mod Empty
 pub mod Running
+pub mod Determined
