@@ -118,7 +118,7 @@ stray b s t n = some (λ k. strayb b s t k) n
 unfoldable pub packageTwice : List ℕ → ℕ → ℕ → Bool
 packageTwice b s n = some (λ k. ltb (packageIn b s k (packageAt s k)) k) n
 
--- 28 unfit: the engine says 1 or 2, by its own tests, with M = S + T
+-- 28 unfit: the engine says 1 or 2, with M = S + T. These are its own two tests; proofs/Engine: `engine::check` says 1 or 2 exactly where they hold
 unfoldable pub unfit : List ℕ → Bool
 unfit b = engine.oversize (schools b + slots b) (packagesOf b) || engine.stray (schools b + slots b) (packagesOf b)
 

@@ -8,11 +8,11 @@ use native.Mathlib.Nat.{eq-zero-or-pos}
 use native.Mathlib.Omega.{arith}
 use lib.ListN.{length, take}
 use lib.Seq.{take-all}
-use Rattle.bids.specs.Format.{schools, slots, packagesOf, costsOf, refusal}
+use Rattle.bids.specs.Format.{refusal}
 use Rattle.bids.proofs.Prefix.{enough}
 use Rattle.bids.proofs.Refused.{accepted-sized}
 use Rattle.printout.specs.Written.{Whole}
-use Rattle.printout.specs.Program.{unless, solved, printed, PrintedFor}
+use Rattle.printout.specs.Program.{printed, PrintedFor}
 use Rattle.printout.proofs.Sheets.{said}
 
 -- THEOREM

@@ -8,7 +8,7 @@ use native.Mathlib.Omega.{arith}
 use borrow.Author.Tests.{ltb-false}
 use lib.Dec.{ltb, eqb}
 use lib.Pow.{pow-pos, pow-mono}
-use lib.ListN.{length, take, length-append}
+use lib.ListN.{length, length-append}
 use Rattle.zdd.specs.Table.{Family, elem, nodesOf}
 use Rattle.zdd.specs.Branches.{missing}
 use Rattle.zdd.proofs.Ordered.{nth-elem}

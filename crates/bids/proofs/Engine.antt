@@ -1,0 +1,52 @@
+-- THEOREM: what the engine says to a file's packages, by the contract of `engine::check` alone. It says 1 or 2, on whatever table, exactly where the file
+-- is unfit (28), and that no accepted file is. Assumes nothing.
+use mathlib.Core.Path.{_≡_, refl}
+use mathlib.Core.Logic.{_⊎_, inl, inr, ⊎-elim, _↔_}
+use mathlib.Core.Bool.{Bool, true, false, _||_}
+use mathlib.Core.List.{List, [], _∷_}
+use Prim.Native.Nat.{ℕ, _+_}
+use native.Mathlib.Omega.{arith}
+use contract.Lifetimes.{Lfts}
+use denote.Triple.Clauses.{AtExit}
+use borrow.Fn.Kinds.{Dens, resT, endedOf}
+use Rattle.statement.specs.Refusals.{firstOf, oversize, stray, unsound, checkRefusal}
+use Rattle.statement.specs.Replies.{Reply, refused, reply, soundnessReply}
+use Rattle.statement.specs.Postconditions.{CheckPost}
+use Rattle.engine.proofs.check.Kinds as check
+use Rattle.engine.proofs.check.Reads as check-reads
+use Rattle.base.proofs.Bools.{never}
+use Rattle.bids.specs.Format.{schools, slots, unfit, refusal, packagesOf}
+use Rattle.bids.proofs.Fit.{fit}
+use Rattle.bids.proofs.Refused.{accepted-sized, accepted-listed}
+
+-- what `engine::check` ensures is `CheckPost` of M, the packages and the table that it is lent
+check-ensures : (κs : Lfts 2) (a : Dens κs check.ps) (r : resT check.r κs .Denot) (e : AtExit (endedOf 2 check.ps check.r) κs)
+    → check-reads.Learnt κs a r e → CheckPost (a .1 .0 .now) (a .0) (a .1 .1 .0 .now) r
+check-ensures κs a r e p = p
+
+-- by the tests of the check: o and s are the first two, u the third
+one-or-two : (o s u : Bool) (x : Reply (Unit {0})) → x ≡ reply (firstOf ((o, 1) ∷ (s, 2) ∷ (u, 4) ∷ [])) tt
+    → ((o || s) ≡ true) ↔ ((x ≡ refused 1) ⊎ (x ≡ refused 2))
+unfolding firstOf
+one-or-two true s u x q = (λ _. inl q, λ _. refl)
+one-or-two false true u x q = (λ _. inr q, λ _. refl)
+one-or-two false false true x q = (λ z. absurd (never z refl), λ z. absurd (⊎-elim (other 4 1 q (λ z. omega arith)) (other 4 2 q (λ z. omega arith)) z))
+  where
+    other : (n k : ℕ) → x ≡ refused n → (n ≡ k → ⊥) → x ≡ refused k → ⊥
+    other n k y f z = let w : n ≡ k = cc in f w
+one-or-two false false false x q = (λ z. absurd (never z refl), λ z. absurd (⊎-elim (given 1) (given 2) z))
+  where
+    given : (n : ℕ) → x ≡ refused n → ⊥
+    given n y = let z : _≡_ {A = ℕ} 0 1 = cc in omega arith
+
+module _ (b : List ℕ) (κs : Lfts 2) (a : Dens κs check.ps) (r : resT check.r κs .Denot) (e : AtExit (endedOf 2 check.ps check.r) κs) (said : check-reads.Learnt κs a r e)
+    (items : a .0 ≡ schools b + slots b) (lent : a .1 .0 .now ≡ packagesOf b) where
+  -- THEOREM
+  pub unfit-is-one-or-two : (unfit b ≡ true) ↔ ((soundnessReply r ≡ refused 1) ⊎ (soundnessReply r ≡ refused 2))
+  unfolding unfit checkRefusal
+  unfit-is-one-or-two = one-or-two (oversize (schools b + slots b) (packagesOf b)) (stray (schools b + slots b) (packagesOf b)) (unsound (packagesOf b) (a .1 .1 .0 .now)) (soundnessReply r)
+      (rw (items, lent) at (check-ensures κs a r e said .result))
+
+  -- THEOREM
+  pub accepted-is-neither : refusal b ≡ 0 → (soundnessReply r ≡ refused 1) ⊎ (soundnessReply r ≡ refused 2) → ⊥
+  accepted-is-neither z y = never (unfit-is-one-or-two .1 y) (fit b (accepted-listed b z) (accepted-sized b z refl refl refl))
