@@ -6,7 +6,7 @@ pub struct Index {
 }
 
 fn hash(label: u32, lo: u32, hi: u32) -> usize {
-    ((label as u64 * 40503 + lo as u64 * 2654435 + hi as u64 * 69069) % 65536) as usize
+    ((label as u64 * 951274213 + lo as u64 * 663608941 + hi as u64 * 444758373) / 65536 % 65536) as usize
 }
 
 impl Index {

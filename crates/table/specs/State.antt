@@ -2,7 +2,7 @@
 use mathlib.Core.Path.{_≡_}
 use mathlib.Core.Bool.{Bool, true, false}
 use mathlib.Core.List.{List}
-use Prim.Native.Nat.{ℕ, suc, _+_, _-_, _*_, _%_, _<_, _≤_}
+use Prim.Native.Nat.{ℕ, suc, _+_, _-_, _*_, _/_, _%_, _<_, _≤_}
 use lib.ListN.{length, getD, take}
 use Rattle.zdd.specs.Table.{Node, blank, join, count, capacity, nodesOf, family, key, Over, Fine, Sound, soundb}
 use Rattle.buckets.specs.Chain.{Index}
@@ -16,7 +16,7 @@ pub record Tells (P : Type 0) (r : Bool) : Type 0 where
 
 -- the bucket of a triple
 unfoldable pub hashOf : Node → ℕ
-hashOf x = (x .label * 40503 + x .lo * 2654435 + x .hi * 69069) % 65536
+hashOf x = (x .label * 951274213 + x .lo * 663608941 + x .hi * 444758373) / 65536 % 65536
 
 -- the bucket of number k
 unfoldable pub bucket : List Node → ℕ → ℕ

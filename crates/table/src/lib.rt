@@ -5,11 +5,12 @@ ghost use lib.ListN.{length, getD, set};
 ghost use Rattle.zdd.specs.Table.{node, blank, count, nodesOf, Over, Fine};
 ghost use Rattle.table.specs.State.{Tells, hashOf, Room, Fresh, IndexedTo, Indexed, Found, Labelled, Entered, Checked, Absent, Unique, Rolled};
 
-// The bucket of a triple.
+// The bucket of a triple: bits 16 to 31 of the sum, on which the low bits of all three numbers have their effect.
 fn hash(label: u32, lo: u32, hi: u32) -> usize
     ensures { λ r. ⌜ (r ≡ hashOf (node label lo hi)) × (r < 65536) ⌝ }
 {
-    (((label as u64) * 40503 + (lo as u64) * 2654435 + (hi as u64) * 69069) % 65536) as usize
+    (((label as u64) * 951274213 + (lo as u64) * 663608941 + (hi as u64) * 444758373) / 65536
+        % 65536) as usize
 }
 
 // Whether the node at index i is the triple.
