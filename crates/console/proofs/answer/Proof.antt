@@ -27,7 +27,7 @@ slice-aggregate-write-2 : tie.Need-slice-aggregate-write-2
 slice-aggregate-write-2 c = sym (c .before .before .lines .ensures .long)
 
 write-requires : tie.Need-write-requires
-write-requires c κs = (c .before .before .lines .ensures .inside, printed-for (c .before .before .before .before .before .before .read-full .last .1 .0) (c .before .before .before .before .before .before .read-full .result) (omega (arith, c .before .before .before .before .before .before .read-full .kept)) (c .before .before .lines .ensures))
+write-requires c κs = (omega (arith, c .before .before .lines .ensures .inside, c .before .before .lines .ensures .long, c .before .before .before .before .before .before .read-full .kept, c .before .before .before .before .before .before .read-full .ensures), printed-for (c .before .before .before .before .before .before .read-full .last .1 .0) (c .before .before .before .before .before .before .read-full .result) (omega (arith, c .before .before .before .before .before .before .read-full .kept)) (c .before .before .lines .ensures))
 
 returns : tie.Need-returns
 returns c = search needs
