@@ -1,4 +1,4 @@
--- Exact cover. S is the list of the packages, each a set of items (a number of `items`); a package is named by its number p, its place in S.
+-- Exact cover. S is the list of the packages, each a set of items as a number (`itemset`); a package is named by its number p, its place in S.
 -- A timetable is a set of packages, written as the list of their numbers in precedence; a family is a list of timetables (`zdd`). Assumes nothing.
 use mathlib.Core.Bool.{Bool, true, false, not, _&&_, _||_}
 use mathlib.Core.List.{List, [], _∷_, _++_, map}

@@ -31,12 +31,12 @@ pub record Child (K t : List ℕ) (label lo hi : ℕ) : Type 0 where
   pub lo-known : lo < count t + 2
   pub fine : 0 < hi → Fine K (nodesOf t) (count t) (node label lo hi)
 
--- what node ensures, whatever the keys
+-- what make ensures, whatever the keys
 abbrev pub Noded : List ℕ → List ℕ → List ℕ → List ℕ → ℕ → ℕ → ℕ → ℕ → Type 0
 Noded t t′ heads′ next′ label lo hi r =
     (K : List ℕ) → Child K t label lo hi → Gives K t t′ heads′ next′ r (join label (family (nodesOf t) hi) (family (nodesOf t) lo))
 
--- r is known and holds F; or r is 65537, which says nothing
+-- the number r is known and holds F
 pub record Answers (ns : List Node) (r : ℕ) (F : Family) : Type 0 where
   pub known : r < suc (suc (length ns))
   pub holds : family ns r ≡ F

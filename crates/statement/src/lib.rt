@@ -1,5 +1,5 @@
-// The public calls' answers. What a call promises is in specs/: `Refusals` (when it is refused), `Postconditions` (one record for each call),
-// `Histories` (the demand on a list of calls).
+// The public calls' answers. What a call promises is in specs/: `Refusals` (when it is refused), `Postconditions` (one record for each call). The demand
+// on a list of calls is in the crate `history`.
 ghost use mathlib.Core.List.{List};
 ghost use Prim.Native.Nat.{ℕ};
 ghost use Rattle.statement.specs.Postconditions.{Declined};
