@@ -38,7 +38,7 @@ package-record-requires : tie.Need-package-record-requires Inv-loop μ-loop
 package-record-requires c κs = omega (arith, c .before .before .before .before .before .pre .0)
 
 below-requires : tie.Need-below-requires Inv-loop μ-loop
-below-requires c κs = c .before .before .before .before .before .before .pre .1
+below-requires c κs = omega (arith, c .before .before .before .before .before .before .pre .1)
 
 returns-2 : tie.Need-returns-2 Inv-loop μ-loop
 unfolding stray
