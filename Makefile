@@ -12,7 +12,7 @@ build = target/c
 archive = target/staticlib/libcapi.a
 header = include/mogedorn.h
 
-.PHONY: lib install example stack test-rust bench clean-c
+.PHONY: lib install example stack test-rust bench words bucket clean-c
 
 # Proves the library and writes the archive.
 lib:
@@ -44,6 +44,14 @@ test-rust: $(archive)
 # Against the same algorithm in Rust and, where libbrial-dev is installed, against CUDD.
 bench: $(archive)
 	MOGEDORN_LIB='$(abspath target/staticlib)' $(CARGO) run --quiet --release --manifest-path bench/Cargo.toml --target-dir target/bench
+
+# How many working words either, both and only want.
+words: $(archive)
+	MOGEDORN_LIB='$(abspath target/staticlib)' $(CARGO) run --quiet --release --manifest-path bench/Cargo.toml --target-dir target/bench --bin words
+
+# What a table costs whose nodes share one bucket of the index.
+bucket: $(archive)
+	MOGEDORN_LIB='$(abspath target/staticlib)' $(CARGO) run --quiet --release --manifest-path bench/Cargo.toml --target-dir target/bench --bin bucket
 
 $(build)/week: examples/week.c $(header) $(archive)
 	mkdir -p $(build)

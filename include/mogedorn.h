@@ -17,15 +17,18 @@
  *   m                        M, the number of items: 0 to 64
  *   packages, packages_len   the N packages, 0 to 512: bit i of a package is item i, and none is empty
  *   table, table_len         the node table, all zeros at first; c nodes need 1 + 3 c words, and no more than 65534 nodes count. Keep it as the calls
- *                            leave it. Every call checks the whole table first, in time linear in its nodes
+ *                            leave it. Every call checks the whole table first and reads every word: lend no longer a table than is needed
  *   work, work_len           working words: their contents mean nothing before and after a call. With too few the call is refused (8)
  *   answer, a, b             numbers that earlier calls on this table gave, or 0 (no timetable) or 1 (the empty timetable alone)
  *   page, page_len           where a timetable is written: its packages in precedence, at the start. The rest of the page is unchanged
  *
  * A refused call leaves table, page and buffers as they were. The first line of the table of refusals that applies is given, and only then.
  *
- * Stack. Measured by `make stack`: each entry on a stack filled with a pattern, on inputs that make it go deepest, the lowest changed byte counted; here
- * rounded up. Lend a thread that much and what its own code takes. The recursion is bounded: by 64 items in cover, by 512 packages in the others.
+ * Stack and time are not proved, only that every call ends. Stack: measured by `make stack`: each entry on a stack filled with a pattern, on inputs that make
+ * it go deepest, the lowest changed byte counted; here rounded up. Lend a thread that much and what its own code takes. The recursion is bounded: by 64 items in
+ * cover, by 512 packages in the others. Time: cover is bounded by its step limit; count, pick, place, cheapest, with and without go through the table; either,
+ * both and only may take very long where too few words are lent for large answers, see there. A table made on purpose to fill one bucket of the node index is
+ * checked in quadratic time: 65,534 nodes in 4.6 s.
  */
 #ifndef MOGEDORN_H
 #define MOGEDORN_H
@@ -107,7 +110,10 @@ uint32_t mogedorn_check(uint32_t m, const uint64_t *packages, size_t packages_le
 mogedorn_report mogedorn_cover(uint32_t m, const uint64_t *packages, size_t packages_len, uint32_t *table, size_t table_len, uint64_t d, uint32_t limit,
                                uint64_t *work, size_t work_len);
 
-/* The timetables of a or b; of a and b; of a and not of b. At least 2 working words. Refusals 1, 2, 4, 5, 8, 10. Stack: 1166 KB. */
+/* The timetables of a or b; of a and b; of a and not of b. At least 2 working words. Refusals 1, 2, 4, 5, 8, 10. Stack: 1166 KB.
+   Results of pairs of nodes are remembered in the working words where these are 65,536 or more (the greatest power of two of them), otherwise in 65,536 words
+   of the call's own. With too few for two large answers results are computed again and again. Lend a * b / p words or more, where a and b are here the nodes of
+   the two answers and p the packages on them; README has measured times. */
 mogedorn_report mogedorn_either(uint32_t m, const uint64_t *packages, size_t packages_len, uint32_t *table, size_t table_len, uint32_t a, uint32_t b,
                                 uint64_t *work, size_t work_len);
 mogedorn_report mogedorn_both(uint32_t m, const uint64_t *packages, size_t packages_len, uint32_t *table, size_t table_len, uint32_t a, uint32_t b,
