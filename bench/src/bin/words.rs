@@ -22,8 +22,8 @@ const ENDS: usize = 16;
 
 /// The first numbers of the draws.
 const DRAWS: [u64; 3] = [1, 2, 3];
-const DEPTHS: [usize; 10] = [16, 24, 32, 36, 40, 44, 56, 112, 168, 224];
-const WORDS: [usize; 6] = [2, 1 << 17, 1 << 18, 1 << 20, 1 << 21, 1 << 22];
+const DEPTHS: [usize; 7] = [16, 24, 32, 56, 112, 168, 224];
+const WORDS: [usize; 5] = [2, 1 << 17, 1 << 18, 1 << 20, 1 << 22];
 
 /// A fixed sequence of numbers that look random.
 struct Draw(u64);
