@@ -9,11 +9,42 @@ use statement::Picked;
 use statement::Placed;
 use statement::Priced;
 
-fn text(s: &[u8]) {
-    io::write_all(1, s);
+// The texts, one after the other: the calls by their numbers, 0 to 3, and three more.
+const TEXTS: [u8; 41] = *b"countpickplacecheapest refused cost; page";
+
+const STARTS: [usize; 8] = [0, 5, 9, 14, 22, 30, 35, 41];
+
+const REFUSED: usize = 4;
+
+const COST: usize = 5;
+
+const PAGE: usize = 6;
+
+// The lesser of the two.
+fn least(x: usize, y: usize) -> usize
+    ensures { λ r. ⌜ r ≤ y ⌝ }
+{
+    if x < y {
+        return x;
+    }
+    y
+}
+
+fn text(i: usize) {
+    let s = TEXTS;
+    let starts = STARTS;
+    let n = i % 7;
+    let b = least(starts[n + 1], 41);
+    let a = least(starts[n], b);
+    io::write_all(1, &s[a..b]);
+}
+
+fn mark(c: u8) {
+    io::write_all(1, &[c]);
 }
 
 fn number(n: u64) {
+    mark(b' ');
     io::print_decimal(1, n);
 }
 
@@ -21,37 +52,9 @@ fn half(n: u16) {
     number(n as u64);
 }
 
-fn word(n: u32) {
-    number(n as u64);
-}
-
-fn size(n: usize) {
-    number(n as u64);
-}
-
 fn refused(n: u8) {
-    text(b"refused ");
+    text(REFUSED);
     number(n as u64);
-}
-
-fn numbers(list: &[u16]) {
-    let mut i: usize = 0;
-    while i < list.len() {
-        text(b" ");
-        half(list[i]);
-        i += 1;
-    }
-}
-
-fn page_after(page: &[u16; 66]) {
-    text(b"; page");
-    let mut i: usize = 0;
-    while i < 5 {
-        text(b" ");
-        half(page[i]);
-        i += 1;
-    }
-    text(b"\n");
 }
 
 fn tell_counted(r: Counted) {
@@ -63,7 +66,7 @@ fn tell_counted(r: Counted) {
 
 fn tell_picked(r: Picked) {
     match r {
-        Picked::Packages(n) => size(n),
+        Picked::Packages(n) => number(n as u64),
         Picked::Refused(n) => refused(n),
     }
 }
@@ -78,235 +81,305 @@ fn tell_placed(r: Placed) {
 fn tell_priced(r: Priced) {
     match r {
         Priced::Cheapest { packages, cost } => {
-            size(packages);
-            text(b" cost ");
-            word(cost);
+            number(packages as u64);
+            text(COST);
+            number(cost as u64);
         }
         Priced::Refused(n) => refused(n),
     }
 }
 
-fn count(m: u32, packages: &[u64], t: &[u32], answer: u32, words: usize)
-    requires { ⌜ words ≤ 264 ⌝ }
-{
-    let mut work = [7u64; 264];
-    let r = engine::count(m, packages, t, answer, &mut work[..words]);
-    text(b"count ");
-    word(answer);
-    text(b": ");
-    tell_counted(r);
-    text(b"\n");
+// The first n.
+fn numbers(list: [u16; 66], n: usize) {
+    let end = least(n, 66);
+    let mut i: usize = 0;
+    while i < end {
+        half(list[i]);
+        i += 1;
+    }
 }
 
-fn pick(m: u32, packages: &[u64], t: &[u32], answer: u32, k: u64, words: usize, room: usize)
-    requires { ⌜ words ≤ 264 ⌝ }
-    requires { ⌜ room ≤ 66 ⌝ }
-{
+// ---- the cases
+
+// A row, by its digits: the call; the table (0 the figure's, 1 a spoilt one, 2 the chains); M; the answer; the working words; the length of the page; and
+// of pick which of KS, of place how many packages and these, of cheapest how many costs and which of COSTS.
+const CASES: [u64; 71] = [
+    // Count: each known number with the least words; then each refusal, where those behind it apply too.
+    0_0_06_000_001_00_0_00_00_00,
+    0_0_06_001_002_00_0_00_00_00,
+    0_0_06_002_003_00_0_00_00_00,
+    0_0_06_003_004_00_0_00_00_00,
+    0_0_06_004_005_00_0_00_00_00,
+    0_0_06_005_006_00_0_00_00_00,
+    0_1_65_006_000_00_0_00_00_00,
+    0_1_05_006_000_00_0_00_00_00,
+    0_1_06_006_000_00_0_00_00_00,
+    0_0_06_006_000_00_0_00_00_00,
+    0_0_06_005_005_00_0_00_00_00,
+    // Pick.
+    1_0_06_005_006_02_0_00_00_00,
+    1_0_06_005_006_03_0_00_00_01,
+    1_0_06_005_006_66_0_00_00_01,
+    1_0_06_001_002_00_0_00_00_00,
+    1_1_65_006_000_00_0_00_00_02,
+    1_1_05_006_000_00_0_00_00_02,
+    1_1_06_006_000_00_0_00_00_02,
+    1_0_06_006_000_00_0_00_00_02,
+    1_0_06_005_005_00_0_00_00_02,
+    1_0_06_005_006_00_0_00_00_02,
+    1_0_06_000_006_00_0_00_00_00,
+    1_0_06_005_006_02_0_00_00_01,
+    1_0_06_005_006_01_0_00_00_00,
+    // Place.
+    2_0_06_005_006_00_2_00_02_00,
+    2_0_06_005_006_00_3_01_04_02,
+    2_0_06_001_002_00_0_00_00_00,
+    2_1_65_006_000_00_1_05_00_00,
+    2_1_05_006_000_00_1_05_00_00,
+    2_1_06_006_000_00_1_05_00_00,
+    2_0_06_006_000_00_1_05_00_00,
+    2_0_06_005_005_00_1_05_00_00,
+    2_0_06_005_005_00_3_01_02_04,
+    2_0_06_005_005_00_3_00_02_02,
+    2_0_06_005_005_00_2_00_03_00,
+    2_0_06_005_006_00_2_00_03_00,
+    2_0_06_005_006_00_1_00_00_00,
+    2_0_06_005_006_00_3_00_04_02,
+    2_0_06_005_006_00_0_00_00_00,
+    2_0_06_000_001_00_0_00_00_00,
+    // Cheapest.
+    3_0_06_005_012_02_5_00_00_00,
+    3_0_06_005_012_02_5_00_00_01,
+    3_0_06_005_012_03_5_00_00_02,
+    3_0_06_004_010_66_5_00_00_03,
+    3_0_06_001_004_00_5_00_00_04,
+    3_1_65_006_000_00_1_00_00_04,
+    3_1_05_006_000_00_1_00_00_04,
+    3_1_06_006_000_00_1_00_00_04,
+    3_1_06_006_000_00_5_00_00_04,
+    3_0_06_006_000_00_5_00_00_04,
+    3_0_06_005_011_00_5_00_00_04,
+    3_0_06_000_001_00_5_00_00_04,
+    3_0_06_000_002_00_5_00_00_04,
+    3_0_06_005_012_01_5_00_00_04,
+    // The chains. Numbers below 131 that it does not reach hold more than 2^64 timetables.
+    0_2_64_064_065_00_0_00_00_00,
+    0_2_64_065_066_00_0_00_00_00,
+    0_2_64_067_068_00_0_00_00_00,
+    0_2_64_130_131_00_0_00_00_00,
+    0_2_64_131_132_00_0_00_00_00,
+    0_2_64_132_133_00_0_00_00_00,
+    1_2_64_131_132_64_0_00_00_00,
+    1_2_64_131_132_63_0_00_00_00,
+    1_2_64_131_132_66_0_00_00_03,
+    1_2_64_131_132_66_0_00_00_04,
+    1_2_64_131_132_01_0_00_00_05,
+    1_2_64_131_132_00_0_00_00_06,
+    1_2_64_065_066_00_0_00_00_00,
+    2_2_64_131_132_00_1_02_00_00,
+    2_2_64_131_132_00_1_65_00_00,
+    2_2_64_131_132_00_0_00_00_00,
+    2_2_64_065_066_00_1_00_00_00,
+];
+
+const KS: [u64; 7] = [
+    0,
+    1,
+    2,
+    9223372036854775807,
+    9223372036854775808,
+    18446744073709551614,
+    18446744073709551615,
+];
+
+const COSTS: [[u16; 5]; 5] = [
+    [3, 2, 2, 0, 2],
+    [3, 1, 2, 0, 2],
+    [4, 1, 2, 0, 2],
+    [65535, 65535, 65535, 0, 65535],
+    [1, 1, 1, 1, 1],
+];
+
+struct Case {
+    call: usize,
+    table: usize,
+    m: u32,
+    answer: u32,
+    words: usize,
+    page: usize,
+    rest: usize,
+}
+
+fn row(i: usize) -> Case {
+    let x = CASES[i % 71];
+    Case {
+        call: (x / 1000000000000000000 % 10) as usize,
+        table: (x / 100000000000000000 % 10) as usize,
+        m: (x / 1000000000000000 % 100) as u32,
+        answer: (x / 1000000000000 % 1000) as u32,
+        words: (x / 1000000000 % 1000) as usize,
+        page: (x / 10000000 % 100) as usize,
+        rest: (x % 10000000) as usize,
+    }
+}
+
+fn key(rest: usize) -> u64 {
+    KS[rest % 7]
+}
+
+fn list(rest: usize) -> [u16; 66] {
+    let mut l = [0u16; 66];
+    l[0] = (rest / 10000 % 100) as u16;
+    l[1] = (rest / 100 % 100) as u16;
+    l[2] = (rest % 100) as u16;
+    l
+}
+
+fn costs(rest: usize) -> [u16; 5] {
+    COSTS[rest % 5]
+}
+
+// ---- the calls
+
+fn count(packages: &[u64], t: &[u32], c: Case) {
+    let words = least(c.words, 264);
+    let mut work = [7u64; 264];
+    let r = engine::count(c.m, packages, t, c.answer, &mut work[0..words]);
+    mark(b':');
+    tell_counted(r);
+}
+
+fn page_after(page: [u16; 66]) {
+    text(PAGE);
+    numbers(page, 5);
+}
+
+fn pick(packages: &[u64], t: &[u32], c: Case, k: u64) {
+    number(k);
+    mark(b':');
+    let words = least(c.words, 264);
+    let room = least(c.page, 66);
     let mut work = [7u64; 264];
     let mut page = [9u16; 66];
     let r = engine::pick(
-        m,
+        c.m,
         packages,
         t,
-        answer,
+        c.answer,
         k,
-        &mut work[..words],
-        &mut page[..room],
+        &mut work[0..words],
+        &mut page[0..room],
     );
-    text(b"pick ");
-    word(answer);
-    text(b" ");
-    number(k);
-    text(b": ");
     tell_picked(r);
-    page_after(&page);
+    page_after(page);
 }
 
-fn place(m: u32, packages: &[u64], t: &[u32], answer: u32, list: &[u16], words: usize)
-    requires { ⌜ words ≤ 264 ⌝ }
-{
+fn place(packages: &[u64], t: &[u32], c: Case, list: [u16; 66]) {
+    let n = least(c.rest / 1000000, 66);
+    mark(b',');
+    numbers(list, n);
+    mark(b':');
+    let words = least(c.words, 264);
     let mut work = [7u64; 264];
-    let r = engine::place(m, packages, t, answer, list, &mut work[..words]);
-    text(b"place ");
-    word(answer);
-    text(b",");
-    numbers(list);
-    text(b": ");
+    let r = engine::place(c.m, packages, t, c.answer, &list[0..n], &mut work[0..words]);
     tell_placed(r);
-    text(b"\n");
 }
 
-fn cheapest(
-    m: u32,
-    packages: &[u64],
-    costs: &[u16],
-    t: &[u32],
-    answer: u32,
-    words: usize,
-    room: usize,
-)
-    requires { ⌜ words ≤ 264 ⌝ }
-    requires { ⌜ room ≤ 66 ⌝ }
-{
+fn cheapest(packages: &[u64], t: &[u32], c: Case, costs: [u16; 5]) {
+    mark(b':');
+    let n = least(c.rest / 1000000, 5);
+    let words = least(c.words, 264);
+    let room = least(c.page, 66);
     let mut work = [7u64; 264];
     let mut page = [9u16; 66];
     let r = engine::cheapest(
-        m,
+        c.m,
         packages,
-        costs,
+        &costs[0..n],
         t,
-        answer,
-        &mut work[..words],
-        &mut page[..room],
+        c.answer,
+        &mut work[0..words],
+        &mut page[0..room],
     );
-    text(b"cheapest ");
-    word(answer);
-    text(b": ");
     tell_priced(r);
-    page_after(&page);
+    page_after(page);
 }
 
-// Each known number with the least words; then each refusal, where those behind it apply too.
-fn counts(packages: &[u64], t: &[u32], spoilt: &[u32]) {
-    count(6, packages, t, 0, 1);
-    count(6, packages, t, 1, 2);
-    count(6, packages, t, 2, 3);
-    count(6, packages, t, 3, 4);
-    count(6, packages, t, 4, 5);
-    count(6, packages, t, 5, 6);
-    count(65, packages, spoilt, 6, 0);
-    count(5, packages, spoilt, 6, 0);
-    count(6, packages, spoilt, 6, 0);
-    count(6, packages, t, 6, 0);
-    count(6, packages, t, 5, 5);
+fn ask(packages: &[u64], t: &[u32], c: Case) {
+    if c.call == 0 {
+        return count(packages, t, c);
+    }
+    if c.call == 1 {
+        return pick(packages, t, c, key(c.rest));
+    }
+    if c.call == 2 {
+        return place(packages, t, c, list(c.rest));
+    }
+    cheapest(packages, t, c, costs(c.rest))
 }
 
-fn picks(packages: &[u64], t: &[u32], spoilt: &[u32]) {
-    pick(6, packages, t, 5, 0, 6, 2);
-    pick(6, packages, t, 5, 1, 6, 3);
-    pick(6, packages, t, 5, 1, 6, 66);
-    pick(6, packages, t, 1, 0, 2, 0);
-    pick(65, packages, spoilt, 6, 2, 0, 0);
-    pick(5, packages, spoilt, 6, 2, 0, 0);
-    pick(6, packages, spoilt, 6, 2, 0, 0);
-    pick(6, packages, t, 6, 2, 0, 0);
-    pick(6, packages, t, 5, 2, 5, 0);
-    pick(6, packages, t, 5, 2, 6, 0);
-    pick(6, packages, t, 0, 0, 6, 0);
-    pick(6, packages, t, 5, 1, 6, 2);
-    pick(6, packages, t, 5, 0, 6, 1);
+// ---- the tables
+
+fn on_figure(c: Case) {
+    let packages = [23u64, 3, 40, 44, 20];
+    let t = [4u32, 2, 0, 1, 4, 0, 2, 1, 0, 3, 0, 4, 2, 0, 0, 0];
+    ask(&packages, &t, c);
 }
 
-fn places(packages: &[u64], t: &[u32], spoilt: &[u32]) {
-    place(6, packages, t, 5, &[0, 2], 6);
-    place(6, packages, t, 5, &[1, 4, 2], 6);
-    place(6, packages, t, 1, &[], 2);
-    place(65, packages, spoilt, 6, &[5], 0);
-    place(5, packages, spoilt, 6, &[5], 0);
-    place(6, packages, spoilt, 6, &[5], 0);
-    place(6, packages, t, 6, &[5], 0);
-    place(6, packages, t, 5, &[5], 5);
-    place(6, packages, t, 5, &[1, 2, 4], 5);
-    place(6, packages, t, 5, &[0, 2, 2], 5);
-    place(6, packages, t, 5, &[0, 3], 5);
-    place(6, packages, t, 5, &[0, 3], 6);
-    place(6, packages, t, 5, &[0], 6);
-    place(6, packages, t, 5, &[0, 4, 2], 6);
-    place(6, packages, t, 5, &[], 6);
-    place(6, packages, t, 0, &[], 1);
-}
-
-fn prices(packages: &[u64], t: &[u32], spoilt: &[u32]) {
-    cheapest(6, packages, &[3, 2, 2, 0, 2], t, 5, 12, 2);
-    cheapest(6, packages, &[3, 1, 2, 0, 2], t, 5, 12, 2);
-    cheapest(6, packages, &[4, 1, 2, 0, 2], t, 5, 12, 3);
-    cheapest(6, packages, &[65535, 65535, 65535, 0, 65535], t, 4, 10, 66);
-    cheapest(6, packages, &[1, 1, 1, 1, 1], t, 1, 4, 0);
-    cheapest(65, packages, &[1], spoilt, 6, 0, 0);
-    cheapest(5, packages, &[1], spoilt, 6, 0, 0);
-    cheapest(6, packages, &[1], spoilt, 6, 0, 0);
-    cheapest(6, packages, &[1, 1, 1, 1, 1], spoilt, 6, 0, 0);
-    cheapest(6, packages, &[1, 1, 1, 1, 1], t, 6, 0, 0);
-    cheapest(6, packages, &[1, 1, 1, 1, 1], t, 5, 11, 0);
-    cheapest(6, packages, &[1, 1, 1, 1, 1], t, 0, 1, 0);
-    cheapest(6, packages, &[1, 1, 1, 1, 1], t, 0, 2, 0);
-    cheapest(6, packages, &[1, 1, 1, 1, 1], t, 5, 12, 1);
+fn on_spoilt(c: Case) {
+    ask(&[23, 3, 40, 44, 20], &[1, 0, 0, 0], c);
 }
 
 // Item 0 in packages 0, 1 and 2; item i in package i + 2: precedence is the order of the numbers.
-fn chain_packages(packages: &mut [u64; 66]) {
-    let mut i: u32 = 0;
+fn chain_packages() -> [u64; 66] {
+    let mut packages = [1u64; 66];
+    let mut i: usize = 0;
     while i < 64 {
-        packages[base::wide(i) + 2] = 1 << i;
+        packages[i + 2] = 1 << i;
         i += 1;
     }
-    packages[0] = 1;
-    packages[1] = 1;
+    packages
 }
 
-fn node(t: &mut [u32; 394], k: u32, label: u32, lo: u32, hi: u32)
-    requires { ⌜ 2 ≤ k ⌝ }
-    requires { ⌜ k ≤ 132 ⌝ }
-{
-    let w = 1 + 3 * (base::wide(k) - 2);
-    t[w] = label;
-    t[w + 1] = lo;
-    t[w + 2] = hi;
-}
-
-// All subsets.
-fn doubles(t: &mut [u32; 394]) {
-    let mut j: u32 = 2;
-    while j <= 67 {
-        node(t, j, 67 - j, j - 1, j - 1);
-        j += 1;
-    }
-}
-
-// The non-empty ones.
-fn sums(t: &mut [u32; 394]) {
-    node(t, 68, 65, 0, 1);
-    let mut i: u32 = 2;
-    while i <= 65 {
-        node(t, 67 + i, 66 - i, 66 + i, i);
+// Node i has the number i + 2: the chain of all subsets, and behind it that of the non-empty ones, whose first node has the lo 0.
+fn chains() -> [u32; 394] {
+    let mut t = [0u32; 394];
+    t[0] = 131;
+    let mut i: u32 = 0;
+    while i < 131 {
+        let w = 3 * base::wide(i) + 1;
+        t[w] = (131 - i) % 66;
+        t[w + 1] = i + 1;
+        t[w + 2] = i % 66 + 1;
         i += 1;
     }
+    t[200] = 0;
+    t
 }
 
-// Numbers below 131 that it does not reach hold more than 2^64 timetables.
-fn chains(packages: &[u64; 66], t: &[u32; 394]) {
-    count(64, packages, t, 64, 65);
-    count(64, packages, t, 65, 66);
-    count(64, packages, t, 67, 68);
-    count(64, packages, t, 130, 131);
-    count(64, packages, t, 131, 132);
-    count(64, packages, t, 132, 133);
-    pick(64, packages, t, 131, 0, 132, 64);
-    pick(64, packages, t, 131, 0, 132, 63);
-    pick(64, packages, t, 131, 9223372036854775807, 132, 66);
-    pick(64, packages, t, 131, 9223372036854775808, 132, 66);
-    pick(64, packages, t, 131, 18446744073709551614, 132, 1);
-    pick(64, packages, t, 131, 18446744073709551615, 132, 0);
-    pick(64, packages, t, 65, 0, 66, 0);
-    place(64, packages, t, 131, &[2], 132);
-    place(64, packages, t, 131, &[65], 132);
-    place(64, packages, t, 131, &[], 132);
-    place(64, packages, t, 65, &[0], 66);
+fn on_chains(c: Case) {
+    let packages = chain_packages();
+    let t = chains();
+    ask(&packages, &t, c);
+}
+
+fn run(c: Case) {
+    text(c.call);
+    number(c.answer as u64);
+    if c.table == 0 {
+        return on_figure(c);
+    }
+    if c.table == 1 {
+        return on_spoilt(c);
+    }
+    on_chains(c)
 }
 
 fn main() {
-    let packages: [u64; 5] = [23, 3, 40, 44, 20];
-    let t: [u32; 16] = [4, 2, 0, 1, 4, 0, 2, 1, 0, 3, 0, 4, 2, 0, 0, 0];
-    let spoilt: [u32; 4] = [1, 0, 0, 0];
-    counts(&packages, &t, &spoilt);
-    picks(&packages, &t, &spoilt);
-    places(&packages, &t, &spoilt);
-    prices(&packages, &t, &spoilt);
-    let mut singles = [0u64; 66];
-    chain_packages(&mut singles);
-    let mut chain = [0u32; 394];
-    chain[0] = 131;
-    doubles(&mut chain);
-    sums(&mut chain);
-    chains(&singles, &chain);
+    let mut i: usize = 0;
+    while i < 71 {
+        run(row(i));
+        mark(b'\n');
+        i += 1;
+    }
 }
