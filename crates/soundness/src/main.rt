@@ -1,181 +1,293 @@
 // Runs the soundness check over hand-made tables, good and damaged, and prints 0 for sound or the number of the refusal.
+//
+// Cases are rows of a table that one loop goes through, and packages and tables go by value: a proof grows with the calls and what each borrows.
 ghost use Prim.Native.Nat.{_≤_, _<_};
-ghost use lib.ListN.{length};
 use statement::Soundness;
 
-fn said(s: Soundness) -> u64 {
-    match s {
-        Soundness::Sound => 0,
-        Soundness::Refused(number) => number as u64,
+// ---- the packages
+
+const FIGURE: u32 = 0;
+
+const HIGHEST: u32 = 1;
+
+const ONES: u32 = 2;
+
+const EMPTY: u32 = 3;
+
+const GAP: u32 = 4;
+
+const STRAY: u32 = 5;
+
+// Five packages of each kind; those behind them are as the fifth.
+const PACKAGES: [[u64; 5]; 6] = [
+    [0b010111, 0b000011, 0b101000, 0b101100, 0b010100], // figure 1 of document 000, numbered from 0
+    [9223372036854775808, 0, 0, 0, 0], // item 63
+    [1, 1, 1, 1, 1],
+    [0, 0, 0, 0, 0],
+    [3, 0, 4, 4, 4], // the second is empty
+    [3, 64, 4, 4, 4], // the second has item 6
+];
+
+fn five(kind: u32) -> [u64; 5] {
+    PACKAGES[base::wide(kind) % 6]
+}
+
+fn packages(kind: u32) -> [u64; 513] {
+    let row = five(kind);
+    let mut p = [row[4]; 513];
+    p[0] = row[0];
+    p[1] = row[1];
+    p[2] = row[2];
+    p[3] = row[3];
+    p
+}
+
+// ---- the tables
+
+const DIAGRAM: u32 = 0;
+
+const ZEROS: u32 = 1;
+
+const TWICE: u32 = 2;
+
+const LEAF: u32 = 3;
+
+const TWOS: u32 = 4;
+
+const FULL: u32 = 5;
+
+// The first words of each kind but the last; zeros follow.
+const TABLES: [[u32; 16]; 5] = [
+    // The diagram of figure 1: 2 is {2}; 3 is {4, 2}; 4 is {1, 4, 2}; 5 is {0, 2} and {1, 4, 2}. Room for one node more.
+    [4, 2, 0, 1, 4, 0, 2, 1, 0, 3, 0, 4, 2, 0, 0, 0],
+    [0, 0, 0, 0, 0, 0, 0, 0, 0, 0, 0, 0, 0, 0, 0, 0],
+    // A triple twice.
+    [2, 2, 0, 1, 2, 0, 1, 0, 0, 0, 0, 0, 0, 0, 0, 0],
+    // One node: 2 is {0}.
+    [1, 0, 0, 1, 0, 0, 0, 0, 0, 0, 0, 0, 0, 0, 0, 0],
+    // No table in 4 words: n is above the capacity.
+    [2, 2, 2, 2, 0, 0, 0, 0, 0, 0, 0, 0, 0, 0, 0, 0],
+];
+
+fn first(kind: u32) -> [u32; 16] {
+    TABLES[base::wide(kind) % 5]
+}
+
+// Word i of a table of another kind.
+fn small(kind: u32, i: usize) -> u32 {
+    let row = first(kind);
+    if i < 16 {
+        return row[i];
+    }
+    0
+}
+
+// Word i of the full table. It has labels 511 to 508, with every pair of children whose labels are later: 2 + 12 + 240 + 65,280 nodes. The word is of node k,
+// whose children are below the width.
+fn full(i: u32) -> u32 {
+    if i == 0 {
+        return 65534;
+    }
+    if 196602 < i {
+        return 0;
+    }
+    let k = (i + 5) / 3;
+    if k < 4 {
+        return part(i, k, 511, 2);
+    }
+    if k < 16 {
+        return part(i, k, 510, 4);
+    }
+    if k < 256 {
+        return part(i, k, 509, 16);
+    }
+    part(i, k, 508, 256)
+}
+
+// The label, lo or hi of node k, by the word's number.
+fn part(i: u32, k: u32, label: u32, width: u32) -> u32
+    requires { ⌜ 0 < width ⌝ }
+{
+    match i % 3 {
+        1 => label,
+        2 => k % width,
+        _ => k / width,
     }
 }
 
-fn show(what: &[u8], m: u32, packages: &[u64], t: &[u32]) {
-    io::write_all(1, what);
-    io::write_all(1, b": ");
-    let s = engine::check(m, packages, t);
-    io::print_decimal(1, said(s));
-    io::write_all(1, b"\n");
-}
+// ---- the cases
 
-// Figure 1 of document 000, numbered from 0.
-fn figure() -> [u64; 5] {
-    [0b010111, 0b000011, 0b101000, 0b101100, 0b010100]
-}
+// No word is changed: it is behind the last.
+const NONE: u32 = 196613;
 
-// Its diagram: 2 is {2}; 3 is {4, 2}; 4 is {1, 4, 2}; 5 is {0, 2} and {1, 4, 2}. Room for one node more.
-fn diagram() -> [u32; 16] {
-    [4, 2, 0, 1, 4, 0, 2, 1, 0, 3, 0, 4, 2, 0, 0, 0]
-}
+// M; how many packages, and of which kind; how many words, and of which table; the word that is changed in it, and what it becomes.
+const CASES: [[u32; 7]; 38] = [
+    [6, 5, FIGURE, 16, DIAGRAM, NONE, 0],
+    [6, 5, FIGURE, 16, ZEROS, NONE, 0],
+    [6, 5, FIGURE, 1, ZEROS, NONE, 0],
+    [6, 5, FIGURE, 0, DIAGRAM, NONE, 0],
+    [6, 5, FIGURE, 10, TWICE, NONE, 0],
+    // Each clause broken once. n above the nodes written, above the capacity, of 32 bits, and below the nodes.
+    [6, 5, FIGURE, 16, DIAGRAM, 0, 5],
+    [6, 5, FIGURE, 16, DIAGRAM, 0, 6],
+    [6, 5, FIGURE, 16, DIAGRAM, 0, 4294967295],
+    [6, 5, FIGURE, 16, DIAGRAM, 0, 3],
+    // Label N.
+    [6, 5, FIGURE, 16, DIAGRAM, 1, 5],
+    // lo the node itself, and a later number.
+    [6, 5, FIGURE, 16, DIAGRAM, 11, 5],
+    [6, 5, FIGURE, 16, DIAGRAM, 11, 6],
+    // hi the node itself, and 0.
+    [6, 5, FIGURE, 16, DIAGRAM, 12, 5],
+    [6, 5, FIGURE, 16, DIAGRAM, 12, 0],
+    // lo with the same label, and an earlier one; hi with an earlier label.
+    [6, 5, FIGURE, 16, DIAGRAM, 10, 1],
+    [6, 5, FIGURE, 16, DIAGRAM, 10, 2],
+    [6, 5, FIGURE, 16, DIAGRAM, 7, 2],
+    // A nonzero word behind the last node, and at the end.
+    [6, 5, FIGURE, 16, DIAGRAM, 13, 1],
+    [6, 5, FIGURE, 16, DIAGRAM, 14, 1],
+    [6, 5, FIGURE, 16, DIAGRAM, 15, 1],
+    // Refusals 1 and 2 come before 4, and 1 before 2. Label 511 is the last that 512 packages have.
+    [64, 1, HIGHEST, 4, LEAF, NONE, 0],
+    [65, 1, HIGHEST, 4, LEAF, NONE, 0],
+    [65, 1, EMPTY, 4, TWOS, NONE, 0],
+    [1, 512, ONES, 4, LEAF, 1, 511],
+    [1, 513, ONES, 4, LEAF, 1, 511],
+    [1, 513, EMPTY, 4, TWOS, NONE, 0],
+    [6, 3, GAP, 4, TWOS, NONE, 0],
+    [6, 3, STRAY, 4, TWOS, NONE, 0],
+    [7, 3, STRAY, 4, TWOS, NONE, 0],
+    [0, 0, EMPTY, 4, ZEROS, NONE, 0],
+    [0, 1, ONES, 4, ZEROS, NONE, 0],
+    // A table of 65,534 nodes, in a slice that is just long enough and in longer ones. A scan of the table for each node would take seconds.
+    [1, 512, ONES, 196603, FULL, NONE, 0],
+    [1, 512, ONES, 196602, FULL, NONE, 0],
+    [1, 512, ONES, 196613, FULL, NONE, 0],
+    [1, 512, ONES, 196613, FULL, 196612, 7],
+    [1, 512, ONES, 196613, FULL, 0, 65535],
+    [1, 512, ONES, 196613, FULL, 0, 65533],
+    [1, 512, ONES, 196613, FULL, 196602, 254],
+];
 
-// The same table with one word changed: what the check says of it.
-fn show_damaged(at: usize, word: u32) {
-    let mut t = diagram();
-    if at < 16 {
-        t[at] = word;
-        io::write_all(1, b"word ");
-        io::print_decimal(1, at as u64);
-        io::write_all(1, b" set to ");
-        io::print_decimal(1, word as u64);
-        show(b"", 6, &figure(), &t);
+// What the cases are called, a line for each.
+const NAMES: [u8; 665] = *b"the diagram of figure 1
+all zeros
+one word
+no word
+a triple twice
+word 0 set to 5
+word 0 set to 6
+word 0 set to 4294967295
+word 0 set to 3
+word 1 set to 5
+word 11 set to 5
+word 11 set to 6
+word 12 set to 5
+word 12 set to 0
+word 10 set to 1
+word 10 set to 2
+word 7 set to 2
+word 13 set to 1
+word 14 set to 1
+word 15 set to 1
+64 items
+65 items
+65 items and an empty package
+512 packages
+513 packages
+513 empty packages
+an empty package
+an item of M
+the same with M one more
+M 0 and no package
+M 0 and a package
+65534 nodes
+one word less
+ten words more
+ten words more, the last not 0
+65535 nodes
+65533 nodes and one behind them
+65534 nodes, the last as an earlier one
+";
+
+// Word i of the table of this case.
+fn word(c: [u32; 7], i: u32) -> u32 {
+    if i == c[5] {
+        return c[6];
     }
+    if c[4] == FULL {
+        return full(i);
+    }
+    small(c[4], base::wide(i))
 }
 
-// Each clause broken once: n above the nodes written, above the capacity, of 32 bits, and below the nodes; label N; lo the node itself and a later number; hi
-// the node itself and 0; lo with the same label and an earlier one; hi with an earlier label; a nonzero word behind the last node, and at the end.
-fn clauses() {
-    let at: [usize; 15] = [0, 0, 0, 0, 1, 11, 11, 12, 12, 10, 10, 7, 13, 14, 15];
-    let word: [u32; 15] = [5, 6, 4294967295, 3, 5, 5, 6, 5, 0, 1, 2, 2, 1, 1, 1];
-    let mut i: usize = 0;
-    while i < 15 {
-        show_damaged(at[i], word[i]);
+fn table(c: [u32; 7]) -> [u32; 196613] {
+    let mut t = [0u32; 196613];
+    let mut i: u32 = 0;
+    while i < 196613 {
+        t[base::wide(i)] = word(c, i);
         i += 1;
     }
+    t
 }
 
-fn small() {
-    show(b"the diagram of figure 1", 6, &figure(), &diagram());
-    show(b"all zeros", 6, &figure(), &[0u32; 16]);
-    show(b"one word", 6, &figure(), &[0u32; 1]);
-    show(b"no word", 6, &figure(), &diagram()[..0]);
-    show(
-        b"a triple twice",
-        6,
-        &figure(),
-        &[2, 2, 0, 1, 2, 0, 1, 0, 0, 0],
-    );
-}
-
-// Refusals 1 and 2 come before 4, and 1 before 2.
-fn limits() {
-    show(b"64 items", 64, &[9223372036854775808u64], &[1, 0, 0, 1]);
-    show(b"65 items", 65, &[9223372036854775808u64], &[1, 0, 0, 1]);
-    show(b"65 items and an empty package", 65, &[0u64], &[2u32; 4]);
-    show(b"512 packages", 1, &[1u64; 512], &[1, 511, 0, 1]);
-    show(b"513 packages", 1, &[1u64; 513], &[1, 511, 0, 1]);
-    show(b"513 empty packages", 1, &[0u64; 513], &[2u32; 4]);
-}
-
-fn strays() {
-    show(b"an empty package", 6, &[3u64, 0, 4], &[2u32; 4]);
-    show(b"an item of M", 6, &[3u64, 64, 4], &[2u32; 4]);
-    show(b"the same with M one more", 7, &[3u64, 64, 4], &[2u32; 4]);
-    show(b"M 0 and no package", 0, &figure()[..0], &[0u32; 4]);
-    show(b"M 0 and a package", 0, &[1u64], &[0u32; 4]);
-}
-
-// A table that is full has labels 511 to 508, with every pair of children whose labels are later: 2 + 12 + 240 + 65,280 nodes. The children of node k
-// are below this number.
-fn width(k: u32) -> u32
-    requires { ⌜ 2 ≤ k ⌝ }
-    ensures { λ r. ⌜ (0 < r) × (r ≤ k) ⌝ }
+// The lesser of the two.
+fn least(x: u32, y: usize) -> usize
+    ensures { λ r. ⌜ r ≤ y ⌝ }
 {
-    if k < 4 {
-        return 2;
+    let n = base::wide(x);
+    if n < y {
+        return n;
     }
-    if k < 16 {
-        return 4;
-    }
-    if k < 256 {
-        return 16;
-    }
-    256
+    y
 }
 
-fn label(k: u32) -> u32 {
-    if k < 4 {
-        return 511;
-    }
-    if k < 16 {
-        return 510;
-    }
-    if k < 256 {
-        return 509;
-    }
-    508
+fn check(c: [u32; 7]) -> Soundness {
+    let p = packages(c[2]);
+    let t = table(c);
+    let n = least(c[1], 513);
+    let words = least(c[3], 196613);
+    engine::check(c[0], &p[0..n], &t[0..words])
 }
 
-// Node k of that table.
-fn put(t: &mut [u32], k: u32)
-    requires { ⌜ (2 ≤ k) × (k < 65536) × (196603 ≤ length (now t)) ⌝ }
-{
-    let n = width(k);
-    let lo = (k - n) % n;
-    let hi = (k - n) / n;
-    let w = 3 * base::wide(k) - 5;
-    t[w] = label(k);
-    t[w + 1] = lo;
-    t[w + 2] = hi + 1;
-}
-
-fn fill(t: &mut [u32])
-    requires { ⌜ 196603 ≤ length (now t) ⌝ }
-{
-    let mut k: u32 = 2;
-    while k < 65536 {
-        put(t, k);
-        k += 1;
-    }
-    t[0] = 65534;
-}
-
-// The check of the first n words, over 512 packages.
-fn show_first(what: &[u8], t: &[u32], n: usize) {
-    if n <= t.len() {
-        show(what, 1, &[1u64; 512], &t[..n]);
+// 0 for sound, or the number of the refusal, which is below 10.
+fn digit(s: Soundness) -> u8 {
+    match s {
+        Soundness::Sound => b'0',
+        Soundness::Refused(number) => b'0' + number % 10,
     }
 }
 
-fn change(t: &mut [u32], at: usize, word: u32) {
-    if at < t.len() {
-        t[at] = word;
-    }
+fn row(i: usize) -> [u32; 7] {
+    CASES[i % 38]
 }
 
-// A table of 65,534 nodes, in a slice that is just long enough and in longer ones. A scan of the table for each node would take seconds.
-fn large() {
-    let mut space = [0u32; 196613];
-    let t: &mut [u32] = &mut space;
-    fill(t);
-    show_first(b"65534 nodes", t, 196603);
-    show_first(b"one word less", t, 196602);
-    show_first(b"ten words more", t, 196613);
-    change(t, 196612, 7);
-    show_first(b"ten words more, the last not 0", t, 196613);
-    change(t, 196612, 0);
-    change(t, 0, 65535);
-    show_first(b"65535 nodes", t, 196613);
-    change(t, 0, 65533);
-    show_first(b"65533 nodes and one behind them", t, 196613);
-    change(t, 0, 65534);
-    change(t, 196602, 254);
-    show_first(b"65534 nodes, the last as an earlier one", t, 196613);
+fn answer(i: usize) {
+    let s = check(row(i));
+    io::write_all(1, &[b':', b' ', digit(s), b'\n']);
 }
 
+fn letter(i: usize) -> u8 {
+    NAMES[i % 665]
+}
+
+fn mark(c: u8) {
+    io::write_all(1, &[c]);
+}
+
+// At the end of each name its case is checked.
 fn main() {
-    small();
-    clauses();
-    limits();
-    strays();
-    large();
+    let mut i: usize = 0;
+    let mut at: usize = 0;
+    while at < 665 {
+        let c = letter(at);
+        at += 1;
+        if c != b'\n' {
+            mark(c);
+            continue;
+        }
+        answer(i);
+        i += 1;
+    }
 }
