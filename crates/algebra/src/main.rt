@@ -1,62 +1,93 @@
 // The calls either, both, only, with and without on tables made by hand: every pair of answers of a small table, with room to spare, with room for
 // exactly the nodes that are missing, and with one place fewer; each refusal; and answers of 2^400 timetables, which only remembered results end.
+//
+// Tables and packages go by value, and cases are rows of a table: a proof is as long as there are borrows and calls.
+ghost use Prim.Native.Nat.{_≤_, _<_};
 use statement::Counted;
 use statement::Outcome;
 use statement::Report;
 
-fn word(text: &[u8]) {
-    io::write_all(1, text);
+// The lesser of the two.
+fn least(x: usize, y: usize) -> usize
+    ensures { λ r. ⌜ r ≤ y ⌝ }
+{
+    if x < y {
+        return x;
+    }
+    y
+}
+
+// ---- what is printed
+
+// The texts, one after the other: the calls by their numbers, 0 to 4, and two more.
+const TEXTS: [u8; 42] = *b"either both only with without  sum  count ";
+
+const STARTS: [usize; 8] = [0, 7, 12, 17, 22, 30, 35, 42];
+
+const SUM: usize = 5;
+
+const COUNT: usize = 6;
+
+fn text(i: usize) {
+    let s = TEXTS;
+    let starts = STARTS;
+    let n = i % 7;
+    let b = least(starts[n + 1], 42);
+    let a = least(starts[n], b);
+    io::write_all(1, &s[a..b]);
+}
+
+fn mark(c: u8) {
+    io::write_all(1, &[c]);
 }
 
 fn number(n: u32) {
     io::print_decimal(1, n as u64);
 }
 
-// A number that stands for the words, so that a change of one shows.
-fn checksum(t: &[u32]) -> u64 {
-    let mut sum: u64 = 0;
-    let mut i: usize = 0;
-    while i < t.len() {
-        sum = (sum * 65599 + t[i] as u64) % 4294967291;
-        i += 1;
-    }
-    sum
+fn refused(r: u8) {
+    mark(b'r');
+    number(r as u32);
 }
 
-fn wipe(t: &mut [u32]) {
-    let mut i: usize = 0;
-    while i < t.len() {
-        t[i] = 0;
-        i += 1;
+// How a call ended: "answer+made", or the number of the refusal after an r. It gives the answer, 0 where there is none.
+fn ended(o: Outcome, made: u32) -> u32 {
+    match o {
+        Outcome::Answer(k) => {
+            number(k);
+            mark(b'+');
+            number(made);
+            k
+        }
+        Outcome::Refused(r) => {
+            refused(r);
+            0
+        }
     }
 }
 
-// The node after the last; its number, or 0 where there is no room.
-fn node(t: &mut [u32], label: u32, lo: u32, hi: u32) -> u32 {
-    if t.len() < 4 {
-        return 0;
+fn counted(c: Counted) {
+    match c {
+        Counted::Count(n) => {
+            io::print_decimal(1, n);
+        }
+        Counted::Refused(r) => refused(r),
     }
-    let n = t[0];
-    if n > 65533 {
-        return 0;
-    }
-    let w = 3 * base::wide(n) + 1;
-    if t.len() < w + 3 {
-        return 0;
-    }
-    t[w] = label;
-    t[w + 1] = lo;
-    t[w + 2] = hi;
-    t[0] = n + 1;
-    n + 2
 }
 
-// either, both, only, with, without: 0 to 4. The second operand of the last two is a package.
+fn print_sum(sum: u64) {
+    text(SUM);
+    io::print_decimal(1, sum);
+}
+
+// ---- one call
+
+// The second operand of with and without is a package.
 fn call(
     m: u32,
     packages: &[u64],
     t: &mut [u32],
-    op: u32,
+    op: usize,
     a: u32,
     b: u32,
     work: &mut [u64],
@@ -76,288 +107,383 @@ fn call(
     engine::without(m, packages, t, a, b, work)
 }
 
-// The call with so many working words, at most 70,000. Each says beforehand that 401 and 602 make 1, which is not to be believed.
-fn lent(m: u32, packages: &[u64], t: &mut [u32], op: u32, a: u32, b: u32, words: usize) -> Report {
-    if words > 70000 {
-        return statement::declined(0);
-    }
-    let mut work = [1722321338369u64; 70000];
-    call(m, packages, t, op, a, b, &mut work[..words])
+// M, how many packages and words of the table are lent, the call with its operands, and how many working words.
+struct Question {
+    m: u32,
+    packages: usize,
+    room: usize,
+    op: usize,
+    a: u32,
+    b: u32,
+    words: usize,
 }
 
-fn name(op: u32) {
-    if op == 0 {
-        word(b"either ");
-    }
-    if op == 1 {
-        word(b"both ");
-    }
-    if op == 2 {
-        word(b"only ");
-    }
-    if op == 3 {
-        word(b"with ");
-    }
-    if op == 4 {
-        word(b"without ");
-    }
+struct Reply {
+    table: [u32; 12001],
+    answer: u32,
+    made: u32,
 }
 
-// How a call ended: "answer+made", or the number of the refusal after an r. It gives the answer, 0 where there is none.
-fn ended(o: Outcome, made: u32) -> u32 {
-    match o {
-        Outcome::Answer(k) => {
-            number(k);
-            word(b"+");
-            number(made);
-            k
-        }
-        Outcome::Refused(r) => {
-            word(b"r");
-            number(r as u32);
-            0
-        }
-    }
-}
-
-fn told(r: Report) -> u32 {
+fn lend(packages: [u64; 513], t: [u32; 12001], memory: [u64; 70000], q: Question) -> Reply {
+    let n = least(q.packages, 513);
+    let room = least(q.room, 12001);
+    let words = least(q.words, 70000);
+    let mut table = t;
+    let mut work = memory;
+    let r = call(
+        q.m,
+        &packages[0..n],
+        &mut table[0..room],
+        q.op,
+        q.a,
+        q.b,
+        &mut work[0..words],
+    );
     let o = r.outcome;
-    ended(o, r.made)
+    let made = r.made;
+    let answer = ended(o, made);
+    Reply {
+        table,
+        answer,
+        made,
+    }
 }
 
-fn counted(c: Counted) {
-    match c {
-        Counted::Count(n) => {
-            io::print_decimal(1, n);
+fn widen(x: u32) -> u64
+    ensures { λ r. ⌜ r < 4294967296 ⌝ }
+{
+    x as u64
+}
+
+// A number that stands for the first words, so that a change of one shows.
+fn checksum(t: [u32; 12001], room: usize) -> u64 {
+    let n = least(room, 12001);
+    let mut sum: u64 = 0;
+    let mut i: usize = 0;
+    while i < n {
+        sum = (sum * 65599 + widen(t[i])) % 4294967291;
+        i += 1;
+    }
+    sum
+}
+
+// A call that made nothing has changed nothing.
+fn compare(made: u32, before: u64, after: u64) {
+    if made == 0 {
+        if before != after {
+            mark(b'!');
         }
-        Counted::Refused(r) => {
-            word(b"r");
-            number(r as u32);
-        }
+    }
+}
+
+struct Tried {
+    table: [u32; 12001],
+    answer: u32,
+    made: u32,
+    sum: u64,
+}
+
+// Each working word says beforehand that 401 and 602 make 1, which is not to be believed.
+fn attempt(packages: [u64; 513], t: [u32; 12001], q: Question) -> Tried {
+    let r = lend(packages, t, [1722321338369u64; 70000], q);
+    let table = r.table;
+    let made = r.made;
+    let sum = checksum(table, q.room);
+    compare(made, checksum(t, q.room), sum);
+    Tried {
+        table,
+        answer: r.answer,
+        made,
+        sum,
     }
 }
 
 // ---- every pair of the small table
 
 // Eight nodes over six packages in the precedence 0, 1, 5, 2, 3, 4; number 6 holds {0,2,4}, {0,3}, {1,4}, number 9 {0,3}, {5,2}, {5}, {3}.
-fn small(t: &mut [u32; 601]) {
-    wipe(t);
-    node(t, 4, 0, 1);
-    node(t, 3, 0, 1);
-    node(t, 2, 3, 2);
-    node(t, 1, 0, 2);
-    node(t, 0, 5, 4);
-    node(t, 2, 1, 1);
-    node(t, 5, 3, 7);
-    node(t, 0, 8, 3);
+const SMALL: [u32; 25] = [
+    8,
+    4,
+    0,
+    1,
+    3,
+    0,
+    1,
+    2,
+    3,
+    2,
+    1,
+    0,
+    2,
+    0,
+    5,
+    4,
+    2,
+    1,
+    1,
+    5,
+    3,
+    7,
+    0,
+    8,
+    3,
+];
+
+fn small() -> [u32; 12001] {
+    let words = SMALL;
+    let mut t = [0u32; 12001];
+    let mut i: usize = 0;
+    while i < 25 {
+        t[i] = words[i];
+        i += 1;
+    }
+    t
 }
 
-// The call on a table of so many words, the first ones of t.
-fn cut(packages: &[u64], t: &mut [u32], room: usize, op: u32, a: u32, b: u32) -> Report {
-    if t.len() < room {
-        return statement::declined(0);
-    }
-    lent(3, packages, &mut t[..room], op, a, b, 2)
+// The six packages, the fourth of them as given, and others up to 513.
+fn six(fourth: u64) -> [u64; 513] {
+    let mut packages = [1u64; 513];
+    packages[1] = 3;
+    packages[2] = 2;
+    packages[3] = fourth;
+    packages[4] = 4;
+    packages[5] = 5;
+    packages
 }
 
-// The call on the small table with room for so many words, fewer than there are.
-fn tight(packages: &[u64], t: &mut [u32; 601], op: u32, a: u32, b: u32, room: usize) {
-    small(t);
-    let before = checksum(t);
-    let r = cut(packages, t, room, op, a, b);
-    let made = r.made;
-    word(b"/");
-    told(r);
-    if made == 0 {
-        if checksum(t) != before {
-            word(b"changed");
-        }
-    }
+fn on_small(room: usize, op: usize, a: u32, b: u32) -> Tried {
+    let q = Question {
+        m: 3,
+        packages: 6,
+        room,
+        op,
+        a,
+        b,
+        words: 2,
+    };
+    attempt(six(6), small(), q)
 }
 
 // The call with room to spare; where it makes nodes, also with room for exactly those and with one place fewer, which leaves every word as it was.
 // It gives the checksum of the table after the first.
-fn pair(packages: &[u64], t: &mut [u32; 601], op: u32, a: u32, b: u32) -> u64 {
-    small(t);
-    let r = lent(3, packages, t, op, a, b, 2);
+fn pair(op: usize, a: u32, b: u32) -> u64 {
+    mark(b' ');
+    let r = on_small(601, op, a, b);
     let made = r.made;
-    let sum = checksum(t);
-    word(b" ");
-    told(r);
     if made == 0 {
-        return sum;
+        return r.sum;
     }
     if made > 100 {
         return 0;
     }
     let room = 3 * base::wide(made) + 25;
-    tight(packages, t, op, a, b, room);
-    tight(packages, t, op, a, b, room - 3);
-    sum
+    mark(b'/');
+    on_small(room, op, a, b);
+    mark(b'/');
+    on_small(room - 3, op, a, b);
+    r.sum
 }
 
-fn row(packages: &[u64], t: &mut [u32; 601], op: u32, a: u32, last: u32) {
-    name(op);
+fn row(op: usize, a: u32, last: u32) {
+    text(op);
     number(a);
-    word(b":");
+    mark(b':');
     let mut all: u64 = 0;
     let mut b: u32 = 0;
     while b < last {
-        let sum = pair(packages, t, op, a, b);
+        let sum = pair(op, a, b);
         all = (all % 4294967291 * 65599 + sum % 4294967291) % 4294967291;
         b += 1;
     }
-    word(b" sum ");
-    io::print_decimal(1, all);
-    word(b"\n");
+    print_sum(all);
+    mark(b'\n');
 }
 
-fn sweep(packages: &[u64], t: &mut [u32; 601], op: u32, last: u32) {
-    let mut a: u32 = 0;
-    while a < 10 {
-        row(packages, t, op, a, last);
-        a += 1;
+// Row n is of the call n / 10 and the answer n % 10. The second operands are those below `last`.
+fn rows(first: u32, end: u32, last: u32) {
+    let mut n: u32 = first;
+    while n < end {
+        row(base::wide(n / 10), n % 10, last);
+        n += 1;
     }
 }
 
 // ---- one call on a line
 
-// The call, the table's checksum after it, and how many timetables the answer holds. A call that made nothing has changed nothing.
-fn line(m: u32, packages: &[u64], t: &mut [u32], op: u32, a: u32, b: u32, words: usize) -> u32 {
+// How many timetables the answer holds.
+fn print_count(packages: [u64; 513], t: [u32; 12001], q: Question, answer: u32) {
+    let n = least(q.packages, 513);
+    let room = least(q.room, 12001);
     let mut tally = [0u64; 4096];
-    let before = checksum(t);
-    name(op);
-    number(a);
-    word(b" ");
-    number(b);
-    word(b": ");
-    let r = lent(m, packages, t, op, a, b, words);
-    let made = r.made;
-    let k = told(r);
-    let after = checksum(t);
-    word(b" sum ");
-    io::print_decimal(1, after);
-    word(b" count ");
-    let c = engine::count(m, packages, t, k, &mut tally);
+    let c = engine::count(q.m, &packages[0..n], &t[0..room], answer, &mut tally);
+    text(COUNT);
     counted(c);
-    if made == 0 {
-        if before != after {
-            word(b" changed");
-        }
+    mark(b'\n');
+}
+
+fn heading(op: usize, a: u32, b: u32) {
+    text(op);
+    number(a);
+    mark(b' ');
+    number(b);
+    mark(b':');
+    mark(b' ');
+}
+
+// The call, the table's checksum after it, and how many timetables the answer holds. It gives the table.
+fn line(packages: [u64; 513], t: [u32; 12001], q: Question) -> [u32; 12001] {
+    heading(q.op, q.a, q.b);
+    let r = attempt(packages, t, q);
+    print_sum(r.sum);
+    let table = r.table;
+    print_count(packages, table, q, r.answer);
+    table
+}
+
+// ---- refusals
+
+// A row, by its digits: word 600 of the small table and word 0; M; how many packages, and the fourth of them; how many words of the table are lent; the call and
+// its operands; the working words.
+const CASES: [u64; 21] = [
+    // 1, 2 and 4, alone and before those behind them.
+    0_8_65_006_6_601_0_06_00008_2,
+    0_8_03_513_6_601_1_06_00008_2,
+    0_8_02_006_6_601_2_06_00008_2,
+    0_8_03_006_0_601_3_10_00006_2,
+    1_8_03_006_6_601_4_10_00006_2,
+    1_8_03_006_6_000_0_06_00008_2,
+    // 5, 6, 8 and 10, alone and before those behind them. Twenty-five words are the small table with no place free.
+    0_8_03_006_6_601_0_10_00006_2,
+    0_8_03_006_6_601_1_06_00010_1,
+    0_8_03_006_6_601_3_10_00006_2,
+    0_8_03_006_6_601_3_06_00006_1,
+    0_8_03_006_6_601_4_06_65535_2,
+    0_8_03_006_6_025_0_06_00009_1,
+    0_8_03_006_6_025_4_06_00000_0,
+    0_8_03_006_6_025_0_06_00009_2,
+    0_8_03_006_6_027_4_09_00005_2,
+    // A table of one word has no place at all: the answers are 0 and 1.
+    0_0_03_006_6_001_0_00_00001_2,
+    0_0_03_006_6_001_1_00_00001_2,
+    0_0_03_006_6_001_2_01_00000_2,
+    0_0_03_006_6_001_3_01_00000_2,
+    0_0_03_006_6_001_4_01_00005_2,
+    0_0_03_006_6_001_0_01_00002_2,
+];
+
+fn asked(x: u64) -> Question {
+    Question {
+        m: (x / 10000000000000000 % 100) as u32,
+        packages: (x / 10000000000000 % 1000) as usize,
+        room: (x / 1000000000 % 1000) as usize,
+        op: (x / 100000000 % 10) as usize,
+        a: (x / 1000000 % 100) as u32,
+        b: (x / 10 % 100000) as u32,
+        words: (x % 10) as usize,
     }
-    word(b"\n");
-    k
 }
 
-// A line on a table of so many words, the first ones of t.
-fn within(packages: &[u64], t: &mut [u32], room: usize, op: u32, a: u32, b: u32, words: usize) {
-    if t.len() < room {
-        return;
+fn run_case(x: u64) {
+    let mut t = small();
+    t[0] = (x / 1000000000000000000 % 10) as u32;
+    t[600] = (x / 10000000000000000000) as u32;
+    line(six(x / 1000000000000 % 10), t, asked(x));
+}
+
+fn case(i: usize) -> u64 {
+    CASES[i % 21]
+}
+
+fn cases() {
+    let mut i: usize = 0;
+    while i < 21 {
+        run_case(case(i));
+        i += 1;
     }
-    line(3, packages, &mut t[..room], op, a, b, words);
-}
-
-// Refusals 1, 2 and 4, alone and before those behind them.
-fn first_refusals(packages: &[u64], t: &mut [u32; 601]) {
-    let many = [1u64; 513];
-    let empty = [1u64, 2, 4, 0, 1, 2];
-    small(t);
-    line(65, packages, t, 0, 6, 8, 2);
-    line(3, &many, t, 1, 6, 8, 2);
-    line(2, packages, t, 2, 6, 8, 2);
-    line(3, &empty, t, 3, 10, 6, 2);
-    t[600] = 1;
-    line(3, packages, t, 4, 10, 6, 2);
-    within(packages, t, 0, 0, 6, 8, 2);
-}
-
-// Refusals 5, 6, 8 and 10, alone and before those behind them. Twenty-five words are the small table with no place free.
-fn other_refusals(packages: &[u64], t: &mut [u32; 601]) {
-    small(t);
-    within(packages, t, 601, 0, 10, 6, 2);
-    within(packages, t, 601, 1, 6, 10, 1);
-    within(packages, t, 601, 3, 10, 6, 2);
-    within(packages, t, 601, 3, 6, 6, 1);
-    within(packages, t, 601, 4, 6, 65535, 2);
-    within(packages, t, 25, 0, 6, 9, 1);
-    within(packages, t, 25, 4, 6, 0, 0);
-    within(packages, t, 25, 0, 6, 9, 2);
-    within(packages, t, 27, 4, 9, 5, 2);
-}
-
-// A table of one word has no place at all: the answers are 0 and 1.
-fn no_place(packages: &[u64], t: &mut [u32; 601]) {
-    t[0] = 0;
-    within(packages, t, 1, 0, 0, 1, 2);
-    within(packages, t, 1, 1, 0, 1, 2);
-    within(packages, t, 1, 2, 1, 0, 2);
-    within(packages, t, 1, 3, 1, 0, 2);
-    within(packages, t, 1, 4, 1, 5, 2);
-    within(packages, t, 1, 0, 1, 2, 2);
 }
 
 // ---- 400 packages, several to an item
 
 // Package i holds the item 4i / 25, rounded down.
-fn items(packages: &mut [u64; 400]) {
+fn items() -> [u64; 513] {
+    let mut packages = [0u64; 513];
     let mut i: usize = 0;
     while i < 400 {
         packages[i] = 1 << (i * 4 / 25);
         i += 1;
     }
+    packages
 }
 
-// All sets of the packages: each node's lo is its hi.
-fn chain(t: &mut [u32; 12001]) -> u32 {
-    wipe(t);
+// All sets of the packages, number 401: each node's lo is its hi.
+fn chain() -> [u32; 12001] {
+    let mut t = [0u32; 12001];
+    t[0] = 400;
+    let mut w: usize = 1;
     let mut k: u32 = 1;
-    let mut i: u32 = 400;
-    while i > 0 {
-        i -= 1;
-        k = node(t, i, k, k);
+    while k < 401 {
+        t[w] = 400 - k;
+        t[w + 1] = k;
+        t[w + 2] = k;
+        w += 3;
+        k += 1;
     }
-    k
+    t
 }
 
-// All sets, those with and those without some package, and what is made of them.
-fn long(packages: &[u64; 400], t: &mut [u32; 12001], words: usize) {
-    let c = chain(t);
-    line(64, packages, t, 0, c, c, words);
-    line(64, packages, t, 1, c, c, words);
-    line(64, packages, t, 2, c, c, words);
-    let w = line(64, packages, t, 3, c, 200, words);
-    let v = line(64, packages, t, 4, c, 200, words);
-    line(64, packages, t, 0, w, v, words);
-    line(64, packages, t, 1, w, v, words);
-    line(64, packages, t, 2, c, w, words);
-    line(64, packages, t, 2, c, v, words);
-    let x = line(64, packages, t, 3, c, 100, words);
-    line(64, packages, t, 0, w, x, words);
-    line(64, packages, t, 0, x, w, words);
-    line(64, packages, t, 1, x, w, words);
-    line(64, packages, t, 2, x, w, words);
-    line(64, packages, t, 2, w, x, words);
-    let y = line(64, packages, t, 4, x, 300, words);
-    line(64, packages, t, 0, y, v, words);
-    line(64, packages, t, 1, v, y, words);
-    line(64, packages, t, 2, v, y, words);
+// A row, by its digits: a call and its operands. All sets (401), those with 200 (602) and without (802), those with 100 (903), of these those without 300 (1606),
+// and what is made of them.
+const STEPS: [u32; 19] = [
+    0_0401_0401,
+    1_0401_0401,
+    2_0401_0401,
+    3_0401_0200,
+    4_0401_0200,
+    0_0602_0802,
+    1_0602_0802,
+    2_0401_0602,
+    2_0401_0802,
+    3_0401_0100,
+    0_0602_0903,
+    0_0903_0602,
+    1_0903_0602,
+    2_0903_0602,
+    2_0602_0903,
+    4_0903_0300,
+    0_1606_0802,
+    1_0802_1606,
+    2_0802_1606,
+];
+
+fn step(i: usize, words: usize) -> Question {
+    let x = STEPS[i % 19];
+    Question {
+        m: 64,
+        packages: 400,
+        room: 12001,
+        op: base::wide(x / 100000000),
+        a: x / 10000 % 10000,
+        b: x % 10000,
+        words,
+    }
+}
+
+fn steps(words: usize) {
+    let packages = items();
+    let mut t = chain();
+    let mut i: usize = 0;
+    while i < 19 {
+        let after = line(packages, t, step(i, words));
+        t = after;
+        i += 1;
+    }
 }
 
 fn main() {
-    let packages = [1u64, 3, 2, 6, 4, 5];
-    let mut t = [0u32; 601];
-    sweep(&packages, &mut t, 0, 10);
-    sweep(&packages, &mut t, 1, 10);
-    sweep(&packages, &mut t, 2, 10);
-    sweep(&packages, &mut t, 3, 6);
-    sweep(&packages, &mut t, 4, 6);
-    first_refusals(&packages, &mut t);
-    other_refusals(&packages, &mut t);
-    no_place(&packages, &mut t);
-    let mut singles = [0u64; 400];
-    items(&mut singles);
-    let mut u = [0u32; 12001];
+    rows(0, 30, 10);
+    rows(30, 50, 6);
+    cases();
     // The memory is a local array, and then the lent words.
-    long(&singles, &mut u, 2);
-    long(&singles, &mut u, 70000);
+    steps(2);
+    steps(70000);
 }

@@ -1,43 +1,59 @@
-use native.Mathlib.Omega.{arith}
-use lib.ListN.{length}
 use Prim.Native.Nat.{_-_, _<_}
 use borrow.Author.Needs.{needs}
 use Rattle.algebra.proofs.checksum.Statement.{statement}
 use Rattle.algebra.proofs.checksum.Tie as tie
+use Rattle.algebra.proofs.checksum.Reads as reads
+use Rattle.algebra.proofs.checksum.Lts as lts
+use Rattle.algebra.proofs.least.Reads as least-reads
+use Rattle.algebra.proofs.widen.Reads as widen-reads
 
 abbrev Inv-loop : tie.InvT-loop
-Inv-loop t sum₀ i₀ sum i = sum < 4294967291
+Inv-loop room t n sum₀ i₀ sum i = sum < 4294967291
 
 abbrev μ-loop : tie.MeasureT-loop
-μ-loop t sum₀ i₀ sum i = length t - i
+μ-loop room t n sum₀ i₀ sum i = n - i
 
+-- src/main.rt:157:9
+least-requires : tie.Need-least-requires Inv-loop μ-loop
+least-requires c κs = search needs
+
+-- src/main.rt:160:5
 loop-holds : tie.Need-loop-holds Inv-loop μ-loop
-loop-holds c = omega arith
+loop-holds c = search needs
 
+-- src/main.rt:161:16
 mul-sum : tie.Need-mul-sum Inv-loop μ-loop
-mul-sum c = omega arith
+mul-sum c = search needs
 
-mul-sum-2 : tie.Need-mul-sum-2 Inv-loop μ-loop
-mul-sum-2 c = omega (arith, c .before .before .good .0 .1)
+-- src/main.rt:161:36
+mul-widen : tie.Need-mul-widen Inv-loop μ-loop
+mul-widen c = search needs
 
-shared-slice-read-sum : tie.Need-shared-slice-read-sum Inv-loop μ-loop
-shared-slice-read-sum c = search needs
+-- src/main.rt:161:36
+array-read-widen : tie.Need-array-read-widen Inv-loop μ-loop
+array-read-widen c = search needs
 
-cast-sum : tie.Need-cast-sum Inv-loop μ-loop
-cast-sum c = omega (arith, c .shared-slice-known .given (c .before .before .loop .i))
+-- src/main.rt:161:30
+widen-requires : tie.Need-widen-requires Inv-loop μ-loop
+widen-requires c κs = search needs
 
+-- src/main.rt:161:16
 add-sum : tie.Need-add-sum Inv-loop μ-loop
-add-sum c = omega (arith, c .shared-slice-known .given (c .before .before .loop .i))
+add-sum c = search needs
 
+-- src/main.rt:162:9
 add-i : tie.Need-add-i Inv-loop μ-loop
 add-i c = search needs
 
+-- src/main.rt:160:5
 loop-less : tie.Need-loop-less Inv-loop μ-loop
-loop-less c = omega arith
+loop-less c = search needs
 
+-- src/main.rt:160:5
 loop-again : tie.Need-loop-again Inv-loop μ-loop
-loop-again c = omega arith
+loop-again c = search needs
 
+-- src/main.rt:156:1
 returns : tie.Need-returns Inv-loop μ-loop
 returns c = search needs
 
@@ -47,11 +63,12 @@ checksum-spec =
     (tie.spec
     Inv-loop
     μ-loop
+    least-requires
     loop-holds
     mul-sum
-    mul-sum-2
-    shared-slice-read-sum
-    cast-sum
+    mul-widen
+    array-read-widen
+    widen-requires
     add-sum
     add-i
     loop-less
