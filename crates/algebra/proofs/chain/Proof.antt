@@ -3,8 +3,6 @@ use mathlib.Core.Path.{_≡_}
 use borrow.Author.Needs.{needs}
 use Rattle.algebra.proofs.chain.Statement.{statement}
 use Rattle.algebra.proofs.chain.Tie as tie
-use Rattle.algebra.proofs.chain.Reads as reads
-use Rattle.algebra.proofs.chain.Lts as lts
 
 abbrev Inv-loop : tie.InvT-loop
 Inv-loop t₀ w₀ k₀ t w k = (w + 2 ≡ 3 * k) × (0 < k) × (k ≤ 401)
@@ -12,67 +10,51 @@ Inv-loop t₀ w₀ k₀ t w k = (w + 2 ≡ 3 * k) × (0 < k) × (k ≤ 401)
 abbrev μ-loop : tie.MeasureT-loop
 μ-loop t₀ w₀ k₀ t w k = 401 - k
 
--- src/main.rt:394:5
 array-write-t : tie.Need-array-write-t Inv-loop μ-loop
 array-write-t c = search needs
 
--- src/main.rt:397:5
 loop-holds : tie.Need-loop-holds Inv-loop μ-loop
 loop-holds c = search needs
 
--- src/main.rt:398:16
 sub-t : tie.Need-sub-t Inv-loop μ-loop
 sub-t c = search needs
 
--- src/main.rt:398:9
 mul-t : tie.Need-mul-t Inv-loop μ-loop
 mul-t c = search needs
 
--- src/main.rt:398:9
 array-write-t-2 : tie.Need-array-write-t-2 Inv-loop μ-loop
 array-write-t-2 c = search needs
 
--- src/main.rt:399:11
 add-t : tie.Need-add-t Inv-loop μ-loop
 add-t c = search needs
 
--- src/main.rt:399:9
 mul-t-2 : tie.Need-mul-t-2 Inv-loop μ-loop
 mul-t-2 c = search needs
 
--- src/main.rt:399:9
 array-write-t-3 : tie.Need-array-write-t-3 Inv-loop μ-loop
 array-write-t-3 c = search needs
 
--- src/main.rt:400:11
 add-t-2 : tie.Need-add-t-2 Inv-loop μ-loop
 add-t-2 c = search needs
 
--- src/main.rt:400:9
 mul-t-3 : tie.Need-mul-t-3 Inv-loop μ-loop
 mul-t-3 c = search needs
 
--- src/main.rt:400:9
 array-write-t-4 : tie.Need-array-write-t-4 Inv-loop μ-loop
 array-write-t-4 c = search needs
 
--- src/main.rt:401:9
 add-w : tie.Need-add-w Inv-loop μ-loop
 add-w c = search needs
 
--- src/main.rt:402:9
 add-k : tie.Need-add-k Inv-loop μ-loop
 add-k c = search needs
 
--- src/main.rt:397:5
 loop-less : tie.Need-loop-less Inv-loop μ-loop
 loop-less c = search needs
 
--- src/main.rt:397:5
 loop-again : tie.Need-loop-again Inv-loop μ-loop
 loop-again c = search needs
 
--- src/main.rt:392:1
 returns : tie.Need-returns Inv-loop μ-loop
 returns c = search needs
 

@@ -2,10 +2,6 @@ use Prim.Native.Nat.{_-_, _≤_}
 use borrow.Author.Needs.{needs}
 use Rattle.algebra.proofs.rows.Statement.{statement}
 use Rattle.algebra.proofs.rows.Tie as tie
-use Rattle.algebra.proofs.rows.Reads as reads
-use Rattle.algebra.proofs.rows.Lts as lts
-use Rattle.algebra.proofs.row.Reads as row-reads
-use Rattle.base.proofs.wide.Reads as wide-reads
 
 abbrev Inv-loop : tie.InvT-loop
 Inv-loop first end last n₀ n = 0 ≤ n
@@ -13,31 +9,24 @@ Inv-loop first end last n₀ n = 0 ≤ n
 abbrev μ-loop : tie.MeasureT-loop
 μ-loop first end last n₀ n = end - n
 
--- src/main.rt:278:5
 loop-holds : tie.Need-loop-holds Inv-loop μ-loop
 loop-holds c = search needs
 
--- src/main.rt:279:13
 wide-requires : tie.Need-wide-requires Inv-loop μ-loop
 wide-requires c κs = search needs
 
--- src/main.rt:279:9
 row-requires : tie.Need-row-requires Inv-loop μ-loop
 row-requires c κs = search needs
 
--- src/main.rt:280:9
 add-n : tie.Need-add-n Inv-loop μ-loop
 add-n c = search needs
 
--- src/main.rt:278:5
 loop-less : tie.Need-loop-less Inv-loop μ-loop
 loop-less c = search needs
 
--- src/main.rt:278:5
 loop-again : tie.Need-loop-again Inv-loop μ-loop
 loop-again c = search needs
 
--- src/main.rt:276:1
 returns : tie.Need-returns Inv-loop μ-loop
 returns c = search needs
 

@@ -2,8 +2,6 @@ use Prim.Native.Nat.{_-_, _≤_}
 use borrow.Author.Needs.{needs}
 use Rattle.algebra.proofs.small.Statement.{statement}
 use Rattle.algebra.proofs.small.Tie as tie
-use Rattle.algebra.proofs.small.Reads as reads
-use Rattle.algebra.proofs.small.Lts as lts
 
 abbrev Inv-loop : tie.InvT-loop
 Inv-loop words t₀ i₀ t i = i ≤ 25
@@ -11,39 +9,30 @@ Inv-loop words t₀ i₀ t i = i ≤ 25
 abbrev μ-loop : tie.MeasureT-loop
 μ-loop words t₀ i₀ t i = 25 - i
 
--- src/main.rt:209:5
 loop-holds : tie.Need-loop-holds Inv-loop μ-loop
 loop-holds c = search needs
 
--- src/main.rt:210:16
 mul-t : tie.Need-mul-t Inv-loop μ-loop
 mul-t c = search needs
 
--- src/main.rt:210:16
 array-read-t : tie.Need-array-read-t Inv-loop μ-loop
 array-read-t c = search needs
 
--- src/main.rt:210:9
 mul-t-2 : tie.Need-mul-t-2 Inv-loop μ-loop
 mul-t-2 c = search needs
 
--- src/main.rt:210:9
 array-write-t : tie.Need-array-write-t Inv-loop μ-loop
 array-write-t c = search needs
 
--- src/main.rt:211:9
 add-i : tie.Need-add-i Inv-loop μ-loop
 add-i c = search needs
 
--- src/main.rt:209:5
 loop-less : tie.Need-loop-less Inv-loop μ-loop
 loop-less c = search needs
 
--- src/main.rt:209:5
 loop-again : tie.Need-loop-again Inv-loop μ-loop
 loop-again c = search needs
 
--- src/main.rt:205:1
 returns : tie.Need-returns Inv-loop μ-loop
 returns c = search needs
 

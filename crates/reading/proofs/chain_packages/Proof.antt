@@ -2,8 +2,6 @@ use Prim.Native.Nat.{_-_, _≤_}
 use borrow.Author.Needs.{needs}
 use Rattle.reading.proofs.chain_packages.Statement.{statement}
 use Rattle.reading.proofs.chain_packages.Tie as tie
-use Rattle.reading.proofs.chain_packages.Reads as reads
-use Rattle.reading.proofs.chain_packages.Lts as lts
 
 abbrev Inv-loop : tie.InvT-loop
 Inv-loop packages₀ i₀ packages i = i ≤ 64
@@ -11,39 +9,30 @@ Inv-loop packages₀ i₀ packages i = i ≤ 64
 abbrev μ-loop : tie.MeasureT-loop
 μ-loop packages₀ i₀ packages i = 64 - i
 
--- src/main.rt:319:5
 loop-holds : tie.Need-loop-holds Inv-loop μ-loop
 loop-holds c = search needs
 
--- src/main.rt:320:27
 shl-packages : tie.Need-shl-packages Inv-loop μ-loop
 shl-packages c = search needs
 
--- src/main.rt:320:18
 add-packages : tie.Need-add-packages Inv-loop μ-loop
 add-packages c = search needs
 
--- src/main.rt:320:9
 mul-packages : tie.Need-mul-packages Inv-loop μ-loop
 mul-packages c = search needs
 
--- src/main.rt:320:9
 array-write-packages : tie.Need-array-write-packages Inv-loop μ-loop
 array-write-packages c = search needs
 
--- src/main.rt:321:9
 add-i : tie.Need-add-i Inv-loop μ-loop
 add-i c = search needs
 
--- src/main.rt:319:5
 loop-less : tie.Need-loop-less Inv-loop μ-loop
 loop-less c = search needs
 
--- src/main.rt:319:5
 loop-again : tie.Need-loop-again Inv-loop μ-loop
 loop-again c = search needs
 
--- src/main.rt:316:1
 returns : tie.Need-returns Inv-loop μ-loop
 returns c = search needs
 

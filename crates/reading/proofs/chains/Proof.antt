@@ -2,9 +2,6 @@ use Prim.Native.Nat.{_-_, _≤_}
 use borrow.Author.Needs.{needs}
 use Rattle.reading.proofs.chains.Statement.{statement}
 use Rattle.reading.proofs.chains.Tie as tie
-use Rattle.reading.proofs.chains.Reads as reads
-use Rattle.reading.proofs.chains.Lts as lts
-use Rattle.base.proofs.wide.Reads as wide-reads
 
 abbrev Inv-loop : tie.InvT-loop
 Inv-loop t₀ i₀ t i = i ≤ 131
@@ -12,87 +9,66 @@ Inv-loop t₀ i₀ t i = i ≤ 131
 abbrev μ-loop : tie.MeasureT-loop
 μ-loop t₀ i₀ t i = 131 - i
 
--- src/main.rt:329:5
 array-write-t : tie.Need-array-write-t Inv-loop μ-loop
 array-write-t c = search needs
 
--- src/main.rt:331:5
 loop-holds : tie.Need-loop-holds Inv-loop μ-loop
 loop-holds c = search needs
 
--- src/main.rt:332:21
 wide-requires : tie.Need-wide-requires Inv-loop μ-loop
 wide-requires c κs = search needs
 
--- src/main.rt:332:17
 mul-w : tie.Need-mul-w Inv-loop μ-loop
 mul-w c = search needs
 
--- src/main.rt:332:17
 add-w : tie.Need-add-w Inv-loop μ-loop
 add-w c = search needs
 
--- src/main.rt:333:17
 sub-t : tie.Need-sub-t Inv-loop μ-loop
 sub-t c = search needs
 
--- src/main.rt:333:9
 mul-t : tie.Need-mul-t Inv-loop μ-loop
 mul-t c = search needs
 
--- src/main.rt:333:9
 array-write-t-2 : tie.Need-array-write-t-2 Inv-loop μ-loop
 array-write-t-2 c = search needs
 
--- src/main.rt:334:20
 add-t : tie.Need-add-t Inv-loop μ-loop
 add-t c = search needs
 
--- src/main.rt:334:11
 add-t-2 : tie.Need-add-t-2 Inv-loop μ-loop
 add-t-2 c = search needs
 
--- src/main.rt:334:9
 mul-t-2 : tie.Need-mul-t-2 Inv-loop μ-loop
 mul-t-2 c = search needs
 
--- src/main.rt:334:9
 array-write-t-3 : tie.Need-array-write-t-3 Inv-loop μ-loop
 array-write-t-3 c = search needs
 
--- src/main.rt:335:20
 add-t-3 : tie.Need-add-t-3 Inv-loop μ-loop
 add-t-3 c = search needs
 
--- src/main.rt:335:11
 add-t-4 : tie.Need-add-t-4 Inv-loop μ-loop
 add-t-4 c = search needs
 
--- src/main.rt:335:9
 mul-t-3 : tie.Need-mul-t-3 Inv-loop μ-loop
 mul-t-3 c = search needs
 
--- src/main.rt:335:9
 array-write-t-4 : tie.Need-array-write-t-4 Inv-loop μ-loop
 array-write-t-4 c = search needs
 
--- src/main.rt:336:9
 add-i : tie.Need-add-i Inv-loop μ-loop
 add-i c = search needs
 
--- src/main.rt:331:5
 loop-less : tie.Need-loop-less Inv-loop μ-loop
 loop-less c = search needs
 
--- src/main.rt:331:5
 loop-again : tie.Need-loop-again Inv-loop μ-loop
 loop-again c = search needs
 
--- src/main.rt:338:5
 array-write-t-5 : tie.Need-array-write-t-5 Inv-loop μ-loop
 array-write-t-5 c = search needs
 
--- src/main.rt:327:1
 returns : tie.Need-returns Inv-loop μ-loop
 returns c = search needs
 

@@ -2,11 +2,6 @@ use Prim.Native.Nat.{_-_, _≤_}
 use borrow.Author.Needs.{needs}
 use Rattle.reading.proofs.main.Statement.{statement}
 use Rattle.reading.proofs.main.Tie as tie
-use Rattle.reading.proofs.main.Reads as reads
-use Rattle.reading.proofs.main.Lts as lts
-use Rattle.reading.proofs.mark.Reads as mark-reads
-use Rattle.reading.proofs.row.Reads as row-reads
-use Rattle.reading.proofs.run.Reads as run-reads
 
 abbrev Inv-loop : tie.InvT-loop
 Inv-loop i₀ i = i ≤ 71
@@ -14,35 +9,27 @@ Inv-loop i₀ i = i ≤ 71
 abbrev μ-loop : tie.MeasureT-loop
 μ-loop i₀ i = 71 - i
 
--- src/main.rt:383:5
 loop-holds : tie.Need-loop-holds Inv-loop μ-loop
 loop-holds c = search needs
 
--- src/main.rt:384:13
 row-requires : tie.Need-row-requires Inv-loop μ-loop
 row-requires c κs = search needs
 
--- src/main.rt:384:9
 run-requires : tie.Need-run-requires Inv-loop μ-loop
 run-requires c κs = search needs
 
--- src/main.rt:385:9
 mark-requires : tie.Need-mark-requires Inv-loop μ-loop
 mark-requires c κs = search needs
 
--- src/main.rt:386:9
 add-i : tie.Need-add-i Inv-loop μ-loop
 add-i c = search needs
 
--- src/main.rt:383:5
 loop-less : tie.Need-loop-less Inv-loop μ-loop
 loop-less c = search needs
 
--- src/main.rt:383:5
 loop-again : tie.Need-loop-again Inv-loop μ-loop
 loop-again c = search needs
 
--- src/main.rt:381:1
 returns : tie.Need-returns Inv-loop μ-loop
 returns c = search needs
 
