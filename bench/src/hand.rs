@@ -5,7 +5,8 @@ pub struct Index {
     next: [u32; 65536],
 }
 
-fn hash(label: u32, lo: u32, hi: u32) -> usize {
+/// The bucket of a triple.
+pub fn hash(label: u32, lo: u32, hi: u32) -> usize {
     ((label as u64 * 951274213 + lo as u64 * 663608941 + hi as u64 * 444758373) / 65536 % 65536) as usize
 }
 

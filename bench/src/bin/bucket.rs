@@ -3,13 +3,12 @@
 #[path = "../../../tests/rust/src/ffi.rs"]
 #[allow(dead_code)]
 mod ffi;
+#[path = "../hand.rs"]
+#[allow(dead_code)]
+mod hand;
 
+use hand::hash;
 use std::time::Instant;
-
-/// `table::hash`.
-fn hash(label: u32, lo: u32, hi: u32) -> u64 {
-    (label as u64 * 951274213 + lo as u64 * 663608941 + hi as u64 * 444758373) / 65536 % 65536
-}
 
 /// A sound table of at most so many nodes, 192 for each package, whose lo and hi are numbers of later packages. All but those of the last four packages,
 /// which the others need to choose from, are in bucket 0.
