@@ -11,7 +11,7 @@ use Rattle.statement.specs.declared.Counted.{Counted}
 use Rattle.statement.specs.declared.Picked.{Picked}
 use Rattle.statement.specs.declared.Placed.{Placed}
 use Rattle.statement.specs.declared.Priced.{Priced}
-use Rattle.statement.specs.Replies.{Reply, refused, gives, reply, soundnessReply, countReply, pickReply, placeReply, cheapestReply}
+use Rattle.statement.specs.Replies.{Reply, refused, reply, soundnessReply, countReply, pickReply, placeReply, cheapestReply}
 use Rattle.statement.specs.Refusals.{checkRefusal, countRefusal, pickRefusal, placeRefusal, cheapestRefusal}
 use Rattle.statement.specs.Postconditions.{Makes, CheckPost, CountPost, PickPost, PlacePost, CheapestPost}
 use Rattle.query.specs.Questions.{familyAt, nth, position, cost, cheapest}

@@ -1,24 +1,16 @@
 -- What the memo holds stays so when the table grows and when an answer is stored. Assumes nothing.
-use mathlib.Core.Path.{_≡_, refl, sym, ap, _∙_, subst, subst⁻¹}
-use mathlib.Core.Bool.{Bool, true, false}
-use mathlib.Core.Logic.{⊎-elim}
-use mathlib.Core.List.{List, [], _∷_, _++_}
-use Prim.Native.Nat.{ℕ, zero, suc, _+_, _-_, _*_, _%_, _<_, _≤_}
-use native.Mathlib.Nat.{eq-zero-or-pos}
+use mathlib.Core.Path.{_≡_, sym, ap, _∙_}
+use mathlib.Core.Bool.{Bool, false}
+use mathlib.Core.List.{List}
+use Prim.Native.Nat.{ℕ, _+_, _*_, _<_}
 use native.Mathlib.Omega.{arith}
-use native.Mathlib.Decide.{decLt, ℕ-discrete}
-use lib.Dec.{eqb}
-use lib.ListN.{length, getD, set, drop, length-set, length-drop}
-use lib.Seq.{getD-set-same, getD-set-other, getD-drop}
-use borrow.Author.Tests.{eqb-true, eqb-false}
-use Rattle.base.proofs.Bools.{by-test}
-use Rattle.zdd.specs.Table.{Node, blank, Family, join, count, capacity, nodesOf, family, Fine, Nodes, Sound}
-use Rattle.zdd.proofs.Words.{length-nodes}
-use Rattle.zdd.specs.Work.{Got}
-use Rattle.zdd.proofs.Got.{got-eq, got-there, got-made, got-full}
+use native.Mathlib.Decide.{ℕ-discrete}
+use lib.ListN.{getD, set, length-set}
+use lib.Seq.{getD-set-same, getD-set-other}
+use Rattle.zdd.specs.Table.{count, nodesOf, family}
 use Rattle.exact_cover.specs.Cover.{covering}
-use Rattle.table.specs.State.{Grown, May, Made}
-use Rattle.table.proofs.GrownLaws.{grown-more, grown-nodes, grown-family}
+use Rattle.table.specs.State.{Grown}
+use Rattle.table.proofs.GrownLaws.{grown-more, grown-family}
 use Rattle.compile.specs.State.{Held}
 
 -- ---- the memo

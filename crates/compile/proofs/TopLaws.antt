@@ -1,28 +1,22 @@
 -- The laws of the whole: the package index is built, the memo is cleared, and search's contract gives cover's. Assumes nothing.
-use mathlib.Core.Path.{_≡_, refl, sym, ap, _∙_, subst, subst⁻¹}
+use mathlib.Core.Path.{_≡_, refl, sym, ap, _∙_, subst}
 use mathlib.Core.Bool.{Bool, true, false}
-use mathlib.Core.List.{List, [], _∷_}
-use mathlib.Core.Logic.{⊎-elim}
-use Prim.Native.Nat.{ℕ, zero, suc, _+_, _-_, _*_, _/_, _%_, _<_, _≤_}
+use mathlib.Core.List.{List}
+use Prim.Native.Nat.{ℕ, zero, suc, _+_, _-_, _*_, _/_, _<_, _≤_}
 use native.Mathlib.Omega.{arith}
-use native.Mathlib.Decide.{ℕ-discrete}
 use lib.Dec.{ltb}
 use lib.ListN.{length, getD, set, length-set, replicate, length-replicate}
-use lib.Seq.{getD-set-same, getD-set-other}
 use borrow.Author.Tests.{lt-ltb, le-ltb}
 use Rattle.base.specs.Words.{Cleared}
 use Rattle.itemset.specs.Items.{lowest}
 use Rattle.base.proofs.Bools.{never}
-use Rattle.zdd.specs.Table.{count, capacity, nodesOf, family, Sound}
-use Rattle.zdd.specs.Branches.{missing}
-use Rattle.zdd.specs.Work.{Got}
+use Rattle.zdd.specs.Table.{count, Sound}
 use Rattle.zdd.proofs.Got.{got-known, got-flag, got-made-exactly}
-use Rattle.exact_cover.specs.Cover.{row, Rows, keysOf, covering}
+use Rattle.exact_cover.specs.Cover.{row, Rows, keysOf}
 use Rattle.exact_cover.specs.Steps.{Walk, search, steps}
 use Rattle.buckets.specs.Chain.{Index}
-use Rattle.table.specs.State.{Grown, Indexed, Rolled}
 use Rattle.buckets.proofs.ChainLaws as chain
-use Rattle.compile.specs.State.{lowOf, Packs, Held, Ready, Is, Done, Blank, Answered, Covered}
+use Rattle.compile.specs.State.{lowOf, Packs, Held, Is, Done, Blank, Covered}
 
 -- ---- the package index
 

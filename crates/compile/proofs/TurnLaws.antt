@@ -1,22 +1,20 @@
 -- The laws of search and trial: what trial's loop keeps, and each of its steps. Assumes nothing.
 use mathlib.Core.Path.{_≡_, refl, sym, ap, _∙_, subst, subst⁻¹}
-use mathlib.Core.Bool.{Bool, true, false, _&&_}
-use mathlib.Core.List.{List, [], _∷_}
-use Prim.Native.Nat.{ℕ, zero, suc, _+_, _-_, _*_, _%_, _^_, _<_, _≤_}
+use mathlib.Core.Bool.{Bool, true, false}
+use mathlib.Core.List.{List}
+use Prim.Native.Nat.{ℕ, suc, _+_, _-_, _*_, _%_, _^_, _<_, _≤_}
 use native.Mathlib.Nat.{mod-lt}
 use native.Mathlib.Omega.{arith}
-use native.Mathlib.Decide.{ℕ-discrete}
 use lib.Dec.{eqb}
 use lib.ListN.{length, getD, set, length-set}
-use borrow.Author.Tests.{eqb-true}
 use Rattle.itemset.specs.Items.{insideb, without, lowest, holds}
 use Rattle.base.proofs.Bools.{by-test, never, is-false, and-both}
 use Rattle.itemset.proofs.Laws.{lowest-inside, lowest-holds, lowest-lt}
-use Rattle.zdd.specs.Table.{Node, node, Family, join, key, count, capacity, nodesOf, family, Nodes, Sound}
+use Rattle.zdd.specs.Table.{node, Family, join, key, count, capacity, nodesOf, family}
 use Rattle.zdd.proofs.Words.{length-nodes}
 use Rattle.zdd.proofs.Grow.{family-one}
 use Rattle.zdd.specs.Work.{From, Got}
-use Rattle.zdd.proofs.Nowaste.{nowaste-keeps, nowaste-length}
+use Rattle.zdd.proofs.Nowaste.{nowaste-keeps}
 use Rattle.zdd.proofs.Room.{worked-calm, same-capacity}
 use Rattle.zdd.proofs.Split.{from-over}
 use Rattle.zdd.proofs.Got.{got-eq, got-there, got-idle}
@@ -28,11 +26,11 @@ use Rattle.exact_cover.proofs.Listing.{covering-zero}
 use Rattle.exact_cover.proofs.Fuel.{search-known, search-new}
 use Rattle.exact_cover.proofs.Partial.{left, left-from, partial-from}
 use Rattle.exact_cover.proofs.Trial.{Trial, trial-start, trial-skip, trial-take, trial-none, trial-end}
-use Rattle.buckets.specs.Chain.{Last, Index}
+use Rattle.buckets.specs.Chain.{Last}
 use Rattle.table.specs.State.{Grown, Indexed, May, Made, Unique}
 use Rattle.table.proofs.GrownLaws.{grown-refl, grown-trans, grown-more}
 use Rattle.compile.specs.State.{lowOf, Packs, Held, Ready, Is, tried, Done}
-use Rattle.compile.proofs.WalkLaws.{sub, search-enters, onward, onward-skip, onward-take, onward-pass, onward-more, onward-end, onward-all, is-enter, is-known, is-new, is-store, known-empty}
+use Rattle.compile.proofs.WalkLaws.{sub, search-enters, onward, onward-skip, onward-take, onward-more, onward-end, onward-all, is-enter, is-known, is-new, is-store, known-empty}
 use Rattle.table.proofs.GotLaws.{made-got}
 use Rattle.compile.proofs.MemoLaws.{held-grown, held-store}
 

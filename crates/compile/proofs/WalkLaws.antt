@@ -1,5 +1,5 @@
 -- The laws of the walk: its entries grow, a loop passes over what is no candidate, and a memo's words keep its keys. Assumes nothing.
-use mathlib.Core.Path.{_≡_, refl, sym, ap, _∙_, subst}
+use mathlib.Core.Path.{_≡_, refl, sym, ap, _∙_}
 use mathlib.Core.Bool.{Bool, true, false, _||_}
 use mathlib.Core.List.{List, [], _∷_}
 use Prim.Native.Nat.{ℕ, zero, suc, _+_, _*_, _%_, _<_, _≤_}
@@ -16,7 +16,7 @@ use Rattle.zdd.specs.Table.{filter}
 use Rattle.exact_cover.specs.Cover.{row, fits, down, candidates}
 use Rattle.exact_cover.specs.Steps.{Walk, enter, store, known, each, search}
 use Rattle.exact_cover.proofs.Fuel.{search-known, search-new}
-use Rattle.exact_cover.proofs.Walks.{shift, search-shift, search-length}
+use Rattle.exact_cover.proofs.Walks.{shift, search-shift}
 use Rattle.exact_cover.proofs.Loops.{each-take, each-pass}
 use Rattle.compile.specs.State.{Is, tried}
 

@@ -2,14 +2,14 @@
 use mathlib.Core.Path.{_≡_}
 use mathlib.Core.Bool.{Bool, true, false}
 use mathlib.Core.List.{List}
-use Prim.Native.Nat.{ℕ, zero, suc, _+_, _-_, _*_, _/_, _%_, _<_, _≤_}
+use Prim.Native.Nat.{ℕ, zero, _+_, _-_, _*_, _<_, _≤_}
 use lib.Dec.{ltb}
 use lib.ListN.{length, getD}
 use Rattle.itemset.specs.Items.{lowest, without}
 use Rattle.zdd.specs.Table.{count, capacity, nodesOf, family, Sound}
 use Rattle.zdd.specs.Branches.{missing}
 use Rattle.zdd.specs.Work.{Got}
-use Rattle.exact_cover.specs.Cover.{row, Rows, keysOf, covering, candidates}
+use Rattle.exact_cover.specs.Cover.{row, keysOf, covering, candidates}
 use Rattle.exact_cover.specs.Steps.{Walk, store, each, search, steps}
 use Rattle.buckets.specs.Chain.{Index}
 use Rattle.table.specs.State.{Grown, Indexed}

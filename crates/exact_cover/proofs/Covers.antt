@@ -1,16 +1,16 @@
 -- A set of packages covers D where its first lies inside D and the others cover what that leaves. Assumes nothing.
-use mathlib.Core.Path.{_≡_, refl, sym, ap, ap₂, _∙_, subst}
+use mathlib.Core.Path.{_≡_, refl, sym, ap, ap₂, _∙_}
 use mathlib.Core.Bool.{Bool, true, false, not, _&&_, _||_}
-use mathlib.Core.Logic.{_⊎_, inl, inr, ⊎-elim}
+use mathlib.Core.Logic.{⊎-elim}
 use mathlib.Core.List.{List, [], _∷_, List·Memᴰ, List·Memᴰ·not-nil, List·Memᴰ·cases-cons}
-use Prim.Native.Nat.{ℕ, zero, suc, _+_, _^_, _≤_, _<_, suc-le-suc}
+use Prim.Native.Nat.{ℕ, zero, suc, _^_, _<_}
 use native.Mathlib.Nat.{le-refl, eq-or-lt-of-le, not-suc-le-zero, le-of-suc-le-suc}
 use native.Mathlib.Omega.{arith}
 use lib.Dec.{eqb}
-use borrow.Author.Tests.{eqb-true, eq-eqb, ne-eqb}
+use borrow.Author.Tests.{eqb-true, eq-eqb}
 use Rattle.itemset.specs.Items.{holds, insideb, without, lowest}
 use Rattle.base.proofs.Bools.{by-test, clash, same-test, and-left, and-right}
-use Rattle.itemset.proofs.Laws.{holds-lt, holds-none, holds-without, holds-pos, inside-holds, holds-inside-all, inside-trans, inside-none, without-inside, without-apart, without-either, lowest-holds, lowest-lt}
+use Rattle.itemset.proofs.Laws.{holds-lt, holds-none, holds-without, inside-holds, holds-inside-all, inside-trans, without-inside, without-apart, without-either, lowest-holds, lowest-lt}
 use Rattle.exact_cover.specs.Cover.{row, holders, allInside, once, covers}
 
 module _ (S : List ℕ) where

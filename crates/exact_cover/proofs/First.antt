@@ -1,18 +1,17 @@
 -- The first package of a cover, in precedence, is a candidate. Assumes nothing.
-use mathlib.Core.Path.{_≡_, refl, sym, ap, ap₂, _∙_, subst}
+use mathlib.Core.Path.{_≡_, refl, sym, ap, ap₂, _∙_}
 use mathlib.Core.Bool.{Bool, true, false, not, _&&_}
-use mathlib.Core.Logic.{_↔_, _⊎_, inl, inr, ⊎-elim}
+use mathlib.Core.Logic.{_↔_, ⊎-elim}
 use mathlib.Core.List.{List, [], _∷_, List·Memᴰ, List·Memᴰ·head, List·Memᴰ·tail, List·Memᴰ·cases-cons, List·Memᴰ·not-nil}
-use Prim.Native.Nat.{ℕ, zero, suc, _+_, _^_, _≤_, _<_}
-use native.Mathlib.Nat.{le-refl, eq-or-lt-of-le, not-suc-le-zero, le-of-suc-le-suc, lt-of-lt-of-le, lt-of-le-of-lt, le-trans, lt-irrefl, lt-of-not-le}
+use Prim.Native.Nat.{ℕ, zero, suc, _^_, _≤_, _<_}
+use native.Mathlib.Nat.{eq-or-lt-of-le, not-suc-le-zero, le-of-suc-le-suc, lt-of-lt-of-le}
 use native.Mathlib.Omega.{arith}
 use lib.ListN.{length}
 use lib.Pow.{pow-pos}
 use Rattle.itemset.specs.Items.{holds, insideb, without, lowest}
 use Rattle.base.proofs.Bools.{by-test, clash, and-left, and-right}
 use Rattle.itemset.proofs.Laws.{holds-none, holds-without, holds-pos, inside-holds, without-apart, without-lt, lowest-holds, lowest-least, lowest-le, lowest-inside}
-use Rattle.zdd.specs.Table.{filter}
-use Rattle.exact_cover.specs.Cover.{row, covers, fits, down, candidates, keysOf}
+use Rattle.exact_cover.specs.Cover.{row, covers, fits, down, candidates}
 use Rattle.exact_cover.specs.Recursion.{rank, Ascends}
 use Rattle.exact_cover.proofs.Lists.{filter-in, in-filter}
 use Rattle.exact_cover.proofs.Covers.{covers-cons, covers-nil, nil-not, member-inside}

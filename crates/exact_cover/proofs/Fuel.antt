@@ -1,7 +1,7 @@
 -- More fuel than the size of A changes nothing. Assumes nothing.
 use mathlib.Core.Path.{_≡_, refl, sym, ap, _∙_}
 use mathlib.Core.Bool.{Bool, true, false, _||_}
-use mathlib.Core.Logic.{_⊎_, ⊎-elim}
+use mathlib.Core.Logic.{⊎-elim}
 use mathlib.Core.List.{List, [], _∷_, List·Memᴰ, List·Memᴰ·head, List·Memᴰ·tail}
 use Prim.Native.Nat.{ℕ, zero, suc, _%_, _≤_, _<_}
 use native.Mathlib.Nat.{le-refl, eq-zero-or-pos}
@@ -12,7 +12,7 @@ use borrow.Author.Tests.{eq-eqb}
 use Rattle.itemset.specs.Items.{without, size, lowest}
 use Rattle.base.proofs.Bools.{by-test}
 use Rattle.itemset.proofs.Laws.{falls, holds-pos, size-pos}
-use Rattle.exact_cover.specs.Cover.{row, fits, candidates}
+use Rattle.exact_cover.specs.Cover.{row, candidates}
 use Rattle.exact_cover.specs.Steps.{Walk, enter, store, known, each, visit, search}
 use Rattle.exact_cover.proofs.First.{fits-holds, fits-inside, candidate-fits}
 

@@ -2,15 +2,14 @@
 -- first. Assumes nothing.
 use mathlib.Core.Path.{_≡_, refl, sym, ap, ap₂, _∙_, subst}
 use mathlib.Core.Bool.{Bool, true, false, not, _&&_}
-use mathlib.Core.Logic.{_⊎_, inl, inr, ⊎-elim}
 use mathlib.Core.List.{List, [], _∷_, _++_, map, flatMap, reverse, reverseAux, reverse-cons}
-use Prim.Native.Nat.{ℕ, zero, suc, _+_, _^_, _≤_, _<_, zero-le}
-use native.Mathlib.Nat.{le-refl, lt-of-lt-of-le}
+use Prim.Native.Nat.{ℕ, zero, suc, _^_, _≤_, _<_}
+use native.Mathlib.Nat.{le-refl}
 use native.Mathlib.Omega.{arith}
 use lib.Dec.{ltb}
 use lib.ListN.{length}
 use lib.Pow.{pow-pos}
-use borrow.Author.Tests.{ltb-true, ltb-false}
+use borrow.Author.Tests.{ltb-true}
 use Rattle.itemset.specs.Items.{holds, insideb, without, lowest}
 use Rattle.base.proofs.Bools.{by-test, clash}
 use Rattle.itemset.proofs.Laws.{inside-holds, holds-none, holds-without, holds-pos, without-lt, lowest-holds, lowest-inside}
@@ -19,7 +18,7 @@ use Rattle.exact_cover.specs.Cover.{row, covers, covering, fits, down, c
 use Rattle.exact_cover.specs.Recursion.{rank, Ascends, gather}
 use Rattle.exact_cover.proofs.Lists.{filter-yes, filter-not, filter-nil, filter-append, filter-same, filter-none, filter-map}
 use Rattle.exact_cover.proofs.Covers.{covers-cons, covers-nil, nil-not}
-use Rattle.exact_cover.proofs.Order.{key-number, insert-first, insert-later, insert-nil, listed-in, order-is, order-listed}
+use Rattle.exact_cover.proofs.Order.{key-number, insert-first, insert-later, insert-nil, order-is, order-listed}
 use Rattle.exact_cover.proofs.First.{fits-holds, fits-inside, apart, past}
 
 abbrev pub with-p : ℕ → List ℕ → List ℕ

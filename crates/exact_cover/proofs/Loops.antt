@@ -1,7 +1,7 @@
 -- A loop over the package numbers, from the highest down, that passes over those that are no candidate. Assumes nothing.
-use mathlib.Core.Path.{_≡_, ap, _∙_}
+use mathlib.Core.Path.{_≡_, ap}
 use mathlib.Core.Bool.{Bool, true, false}
-use mathlib.Core.List.{List, [], _∷_, _++_}
+use mathlib.Core.List.{List, _∷_, _++_}
 use Prim.Native.Nat.{ℕ, suc}
 use Rattle.zdd.specs.Table.{filter}
 use Rattle.exact_cover.specs.Cover.{down}

@@ -1,27 +1,27 @@
 -- The trial of A takes the packages from the highest number down and puts its answer together: after the numbers from n on it has the covers of A
 -- whose first package is n or above. THEOREM: these are under the covers of A, and so are the covers of what a candidate leaves: no node that the
 -- trial makes is wasted. Assumes nothing.
-use mathlib.Core.Path.{_≡_, refl, sym, ap, ap₂, _∙_, subst}
-use mathlib.Core.Bool.{Bool, true, false, _&&_, _||_}
-use mathlib.Core.Logic.{_⊎_, inl, inr, ⊎-elim}
+use mathlib.Core.Path.{_≡_, refl, sym, ap, _∙_, subst}
+use mathlib.Core.Bool.{Bool, true, false}
+use mathlib.Core.Logic.{_⊎_, inl, inr}
 use mathlib.Core.List.{List, [], _∷_, _++_, map, List·Memᴰ, List·Memᴰ·head, List·Memᴰ·tail}
 use Prim.Native.Nat.{ℕ, zero, suc, _+_, _-_, _^_, _≤_, _<_}
-use native.Mathlib.Nat.{lt-of-not-le, not-suc-le-zero, le-refl}
+use native.Mathlib.Nat.{lt-of-not-le, le-refl}
 use native.Mathlib.Omega.{arith}
-use lib.Dec.{leb, eqb}
+use lib.Dec.{leb}
 use lib.ListN.{length}
-use borrow.Author.Tests.{le-leb, lt-leb, eqb-true}
-use Rattle.itemset.specs.Items.{insideb, without, lowest}
-use Rattle.base.proofs.Bools.{by-test, clash, and-left, never, or-cases, or-left, or-right}
+use borrow.Author.Tests.{le-leb, lt-leb}
+use Rattle.itemset.specs.Items.{insideb, without}
+use Rattle.base.proofs.Bools.{by-test, and-left, never, or-cases, or-left, or-right}
 use Rattle.itemset.proofs.Laws.{without-lt, lowest-inside}
-use Rattle.zdd.specs.Table.{Node, Family, join, key, filter, sets, elem, eqSet}
+use Rattle.zdd.specs.Table.{Family, join, key, filter, elem, eqSet}
 use Rattle.zdd.specs.Work.{From, Under, Split}
 use Rattle.zdd.proofs.Member.{from-of, join-cases, eqSet-eq, eqSet-same}
 use Rattle.zdd.proofs.Under.{under-trans, under-eq}
 use Rattle.zdd.proofs.Split.{split-hi, split-lo}
 use Rattle.exact_cover.specs.Cover.{row, covers, covering, fits, down, candidates, keysOf}
-use Rattle.exact_cover.specs.Recursion.{rank, Ascends, gather}
-use Rattle.exact_cover.proofs.Lists.{filter-nil, filter-yes, filter-not, filter-append, filter-map, filter-same, filter-none}
+use Rattle.exact_cover.specs.Recursion.{gather}
+use Rattle.exact_cover.proofs.Lists.{filter-nil, filter-yes, filter-append, filter-map, filter-same, filter-none}
 use Rattle.exact_cover.proofs.Covers.{covers-cons}
 use Rattle.exact_cover.proofs.Order.{key-number}
 use Rattle.exact_cover.proofs.First.{fits-holds, fits-inside, apart}

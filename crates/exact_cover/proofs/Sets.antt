@@ -1,14 +1,14 @@
 -- `sets (keysOf S)` has each set of packages below the number of packages, in precedence, once. Assumes nothing.
-use mathlib.Core.Path.{_≡_, refl, sym, ap, _∙_, subst}
-use mathlib.Core.Logic.{_↔_, _≢_, _⊎_, inl, inr, ⊎-elim, ∥∥₁-elim}
+use mathlib.Core.Path.{_≡_, refl, sym, ap, subst}
+use mathlib.Core.Logic.{_↔_, ⊎-elim, ∥∥₁-elim}
 use mathlib.Core.HLevel.{⊥-prop, ¬-prop}
-use mathlib.Core.List.{List, [], _∷_, _++_, map, tail-eq-of-cons-eq, List·Mem, List·Memᴰ, List·Memᴰ·head, List·Memᴰ·tail, List·Memᴰ·cases-cons, List·Memᴰ·not-nil, List·Memᴰ·eq-of-singleton, List·Memᴰ·append-cases, Memᴰ·append-left, Memᴰ·append-right, Memᴰ·map, Memᴰ·of-map, Memᴰ·cast, List·Nodup, Disjoint, nodup-append, not-mem-nil, Pairwise, Pairwise·nil, Pairwise·cons, Pairwise·map, pairwise-cons}
-use Prim.Native.Nat.{ℕ, zero, suc, _≤_, _<_, zero-le}
-use native.Mathlib.Nat.{le-refl, not-suc-le-zero, lt-irrefl}
+use mathlib.Core.List.{List, [], _∷_, map, tail-eq-of-cons-eq, List·Memᴰ, List·Memᴰ·head, List·Memᴰ·tail, List·Memᴰ·cases-cons, List·Memᴰ·not-nil, List·Memᴰ·eq-of-singleton, List·Memᴰ·append-cases, Memᴰ·append-left, Memᴰ·append-right, Memᴰ·map, Memᴰ·of-map, Memᴰ·cast, List·Nodup, Disjoint, nodup-append, not-mem-nil, Pairwise, Pairwise·nil, Pairwise·cons, Pairwise·map, pairwise-cons}
+use Prim.Native.Nat.{ℕ, suc, _≤_, _<_, zero-le}
+use native.Mathlib.Nat.{le-refl}
 use native.Mathlib.Bridge.{le-prop}
 use native.Mathlib.Omega.{arith}
 use lib.ListN.{length}
-use Rattle.zdd.specs.Table.{order, orderTo, allSets, sets}
+use Rattle.zdd.specs.Table.{order, allSets, sets}
 use Rattle.exact_cover.specs.Cover.{keysOf}
 use Rattle.exact_cover.specs.Recursion.{rank, Ascends}
 use Rattle.exact_cover.proofs.Order.{listed-more, listed-in, order-is, order-listed, order-all}

@@ -1,8 +1,8 @@
 -- What `covering` has, and a recursion that finds it. Assumes nothing.
 use mathlib.Core.Path.{_≡_, refl, sym, ap, _∙_}
 use mathlib.Core.Bool.{Bool, true, false}
-use mathlib.Core.Logic.{_↔_, _≢_, ⊎-elim, ∥∥₁-elim, ∥∥₁-map}
-use mathlib.Core.List.{List, [], _∷_, _++_, map, List·Mem, List·Memᴰ, List·Memᴰ·head, List·Memᴰ·tail, List·Nodup, Pairwise, Pairwise·nil, Pairwise·cons, pairwise-cons}
+use mathlib.Core.Logic.{_↔_, ⊎-elim, ∥∥₁-map}
+use mathlib.Core.List.{List, [], _∷_, _++_, map, List·Memᴰ, List·Memᴰ·head, List·Memᴰ·tail, List·Nodup, Pairwise, Pairwise·nil, Pairwise·cons, pairwise-cons}
 use Prim.Native.Nat.{ℕ, zero, suc, _^_, _≤_, _<_}
 use native.Mathlib.Nat.{le-refl, eq-zero-or-pos}
 use native.Mathlib.Omega.{arith}
@@ -13,9 +13,9 @@ use Rattle.itemset.specs.Items.{without, size, lowest}
 use Rattle.base.proofs.Bools.{by-test}
 use Rattle.itemset.proofs.Laws.{falls, holds-pos, size-pos, without-lt}
 use Rattle.zdd.specs.Table.{sets, filter}
-use Rattle.exact_cover.specs.Cover.{row, covers, covering, fits, candidates, keysOf}
+use Rattle.exact_cover.specs.Cover.{row, covers, covering, candidates, keysOf}
 use Rattle.exact_cover.specs.Recursion.{Ascends, gather, solve}
-use Rattle.exact_cover.proofs.Lists.{filter-yes, filter-not, filter-nil, filter-in, in-filter}
+use Rattle.exact_cover.proofs.Lists.{filter-in, in-filter}
 use Rattle.exact_cover.proofs.First.{fits-holds, fits-inside, candidate-fits}
 use Rattle.exact_cover.proofs.Sets.{sets-member, sets-distinct}
 use Rattle.exact_cover.proofs.Listing.{covering-zero, covering-gather}

@@ -1,9 +1,9 @@
 -- The loop of the trial of A: its invariant, and each step of it in one law. ns and b are the nodes and the flag 'there was no room' before the
 -- trial, ns′ and b′ now; l is the number that the trial has after the package numbers from n on; c is the room. Assumes nothing.
-use mathlib.Core.Path.{_≡_, refl, sym, ap, _∙_, subst}
+use mathlib.Core.Path.{_≡_}
 use mathlib.Core.Bool.{Bool, true, false}
-use mathlib.Core.List.{List, [], _∷_}
-use Prim.Native.Nat.{ℕ, zero, suc, _+_, _^_, _≤_, _<_}
+use mathlib.Core.List.{List, []}
+use Prim.Native.Nat.{ℕ, suc, _+_, _^_, _≤_, _<_}
 use native.Mathlib.Omega.{arith}
 use lib.ListN.{length}
 use Rattle.zdd.specs.Table.{Node, Family, join, family, Nodes}
@@ -12,7 +12,7 @@ use Rattle.zdd.specs.Work.{Worked, Got}
 use Rattle.zdd.proofs.Room.{worked-under}
 use Rattle.zdd.proofs.Got.{got-eq, got-there, got-split-lo, got-none-lo}
 use Rattle.exact_cover.specs.Cover.{row, covering, fits, keysOf}
-use Rattle.exact_cover.proofs.Partial.{Partial, left, partial-start, partial-pass, partial-skip, partial-take, partial-split, partial-end, partial-under}
+use Rattle.exact_cover.proofs.Partial.{Partial, left, partial-start, partial-skip, partial-take, partial-split, partial-end, partial-under}
 
 pub record Trial (S : List ℕ) (A c : ℕ) (ns : List Node) (b : Bool) (n l : ℕ) (ns′ : List Node) (b′ : Bool) : Type 0 where
   pub acc : Family

@@ -1,14 +1,14 @@
 -- Exact cover. S is the list of the packages, each a set of items as a number (`itemset`); a package is named by its number p, its place in S.
 -- A timetable is a set of packages, written as the list of their numbers in precedence; a family is a list of timetables (`zdd`). Assumes nothing.
 use mathlib.Core.Bool.{Bool, true, false, not, _&&_, _||_}
-use mathlib.Core.List.{List, [], _∷_, _++_, map}
+use mathlib.Core.List.{List, [], _∷_}
 use mathlib.Core.Logic.{_⊎_}
 use mathlib.Core.Path.{_≡_}
 use Prim.Native.Nat.{ℕ, zero, suc, _+_, _*_, _≤_, _<_}
 use lib.Dec.{eqb, ltb}
 use lib.ListN.{length, getD, take}
-use Rattle.itemset.specs.Items.{holds, insideb, without, lowest}
-use Rattle.zdd.specs.Table.{Family, join, key, filter, sets}
+use Rattle.itemset.specs.Items.{holds, insideb, lowest}
+use Rattle.zdd.specs.Table.{Family, filter, sets}
 
 -- the items of package p
 abbrev pub row : List ℕ → ℕ → ℕ

@@ -1,25 +1,24 @@
 -- How the results of functions that make families go together: a node, the two parts of a family and then its node. Assumes nothing.
-use mathlib.Core.Path.{_≡_, refl, sym, ap, ap₂, subst, subst⁻¹, _∙_}
+use mathlib.Core.Path.{_≡_, refl, sym, ap, subst, subst⁻¹, _∙_}
 use mathlib.Core.Logic.{_⊎_, inl, inr}
 use mathlib.Core.Bool.{Bool, true, false}
 use mathlib.Core.List.{List, [], _∷_, _++_}
-use Prim.Native.Nat.{ℕ, zero, suc, _+_, _-_, _*_, _<_, _≤_}
+use Prim.Native.Nat.{ℕ, zero, suc, _+_, _-_, _<_, _≤_}
 use native.Mathlib.Nat.{eq-or-lt-of-le}
 use native.Mathlib.Omega.{arith}
 use lib.ListN.{length, getD, length-append, List·getD-append}
 use lib.Seq.{getD-at, ext-getD}
-use Rattle.zdd.specs.Table.{Node, node, blank, Family, join, count, capacity, nodesOf, family, key, Over, Fine, Nodes, Sound, Keys}
-use Rattle.base.proofs.Bools.{never}
+use Rattle.zdd.specs.Table.{Node, node, blank, Family, join, count, capacity, nodesOf, family, key, Fine, Sound}
 use Rattle.zdd.proofs.Grow.{family-zero}
 use Rattle.zdd.proofs.Words.{length-nodes}
-use Rattle.zdd.specs.Work.{From, Nowaste, Split, Got}
+use Rattle.zdd.specs.Work.{From, Split, Got}
 use Rattle.zdd.proofs.Nowaste.{nowaste-keeps, nowaste-length}
 use Rattle.zdd.proofs.Room.{same-capacity}
 use Rattle.zdd.proofs.Split.{from-over}
-use Rattle.zdd.proofs.Got.{got-eq, got-there, got-idle, got-made, got-full, got-split, got-none, got-known, got-flag, got-made-exactly, got-old}
-use Rattle.table.specs.State.{Indexed, Grown, Absent, May, Made, Unique, Rolled}
-use Rattle.table.proofs.GrownLaws.{grown-node, grown-more}
-use Rattle.family.specs.Gives.{Gives, Child, Noded, Answers, Done, Makes}
+use Rattle.zdd.proofs.Got.{got-eq, got-there, got-idle, got-made, got-full, got-split, got-known, got-flag, got-made-exactly, got-old}
+use Rattle.table.specs.State.{Indexed, May, Made, Unique, Rolled}
+use Rattle.table.proofs.GrownLaws.{grown-node}
+use Rattle.family.specs.Gives.{Gives, Child, Noded, Answers, Makes}
 
 -- ---- a number that is there
 

@@ -1,26 +1,25 @@
 -- The sets with a label, and those without it: each case of the recursion, and what is remembered. Assumes nothing.
-use mathlib.Core.Path.{_≡_, refl, sym, ap, ap₂, subst, subst⁻¹, _∙_}
+use mathlib.Core.Path.{_≡_, refl, sym, ap, subst, subst⁻¹, _∙_}
 use mathlib.Core.Logic.{_⊎_, inl, inr}
 use mathlib.Core.Bool.{Bool, true, false}
-use mathlib.Core.List.{List, [], _∷_, _++_}
+use mathlib.Core.List.{List, []}
 use Prim.Native.Nat.{ℕ, zero, suc, _+_, _-_, _*_, _<_, _≤_}
 use native.Mathlib.Nat.{eq-or-lt-of-le}
 use native.Mathlib.Omega.{arith}
-use native.Mathlib.Decide.{decLt, ℕ-discrete}
+use native.Mathlib.Decide.{ℕ-discrete}
 use lib.Dec.{eqb}
 use lib.ListN.{length, getD, set, length-set, replicate}
 use lib.Seq.{getD-set-same, getD-set-other}
 use borrow.Author.Tests.{eqb-true}
-use Rattle.zdd.specs.Table.{Node, node, blank, Family, join, count, capacity, nodesOf, family, key, Over, Fine, Nodes, Sound, Keys}
-use Rattle.base.proofs.Bools.{never, is-false}
+use Rattle.zdd.specs.Table.{Node, blank, Family, count, nodesOf, family, key, Over, Fine, Nodes, Sound, Keys}
+use Rattle.base.proofs.Bools.{is-false}
 use Rattle.zdd.proofs.Grow.{family-zero}
 use Rattle.zdd.proofs.Words.{length-nodes, node-at, at-word}
 use Rattle.zdd.proofs.TableLaws.{over-of-key, fine-at}
-use Rattle.zdd.specs.Work.{Split, Got}
-use Rattle.zdd.specs.Operations.{including, excluding}
+use Rattle.zdd.specs.Work.{Split}
+use Rattle.zdd.specs.Operations.{excluding}
 use Rattle.zdd.proofs.Parts.{with-after, without-after, with-other, without-other, with-same, without-same}
-use Rattle.table.specs.State.{Indexed}
-use Rattle.family.specs.Gives.{Ready, Gives, Child, Noded, Answers}
+use Rattle.family.specs.Gives.{Ready, Gives, Noded, Answers}
 use Rattle.family.specs.Memo.{restricted, Kept, Soon}
 use Rattle.family.proofs.GivesLaws.{gives-there, gives-answers, gives-keeps, gives-more, gives-eq, step-none-hi, step-none-lo, step-child, step-node}
 

@@ -1,11 +1,11 @@
 -- What a function that makes a family in a sound table says: its number, or that there was no room. Assumes nothing.
 use mathlib.Core.Path.{_≡_}
-use mathlib.Core.Bool.{Bool, true, false}
-use mathlib.Core.List.{List, []}
+use mathlib.Core.Bool.{true, false}
+use mathlib.Core.List.{List}
 use Prim.Native.Nat.{ℕ, suc, _+_, _-_, _<_, _≤_}
 use lib.Dec.{ltb}
-use lib.ListN.{length, getD}
-use Rattle.zdd.specs.Table.{Node, node, blank, Family, join, count, capacity, nodesOf, family, Fine, Sound, Keys}
+use lib.ListN.{length}
+use Rattle.zdd.specs.Table.{Node, node, Family, join, count, capacity, nodesOf, family, Fine, Sound, Keys}
 use Rattle.zdd.specs.Work.{Got}
 use Rattle.zdd.specs.Branches.{missing}
 use Rattle.table.specs.State.{Indexed, Grown}

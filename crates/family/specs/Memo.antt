@@ -1,11 +1,11 @@
 -- The operations, and what their memories hold. Assumes nothing.
 use mathlib.Core.Path.{_≡_}
 use mathlib.Core.Bool.{Bool, true, false, _&&_, _||_}
-use mathlib.Core.List.{List, []}
+use mathlib.Core.List.{List}
 use mathlib.Core.Logic.{_⊎_}
 use Prim.Native.Nat.{ℕ, zero, suc, _+_, _-_, _*_, _/_, _%_, _<_, _≤_}
 use lib.ListN.{length, getD}
-use Rattle.zdd.specs.Table.{Node, node, blank, Family, join, count, capacity, nodesOf, family, Fine, Nodes, Sound, Keys}
+use Rattle.zdd.specs.Table.{Node, blank, Family, family, Nodes, Keys}
 use Rattle.zdd.specs.Operations.{combine, minus, including, excluding}
 use Rattle.zdd.specs.Work.{Split}
 use Rattle.family.specs.Gives.{Answers}

@@ -3,7 +3,7 @@ use mathlib.Core.Path.{_≡_, refl, sym, ap, ap₂, _∙_, subst, subst⁻¹}
 use mathlib.Core.Logic.{_⊎_, inl, inr}
 use mathlib.Core.Bool.{true, not, _&&_}
 use mathlib.Core.List.{List, [], _∷_, List·Memᴰ, List·Memᴰ·head, List·Memᴰ·tail}
-use Prim.Native.Nat.{ℕ, zero, suc, _+_, _-_, _*_, _^_, _≤_, _<_}
+use Prim.Native.Nat.{ℕ, zero, suc, _+_, _*_, _^_, _≤_, _<_}
 use native.Mathlib.Nat.{le-of-eq, lt-of-lt-of-le}
 use native.Mathlib.Omega.{arith}
 use lib.Pow.{pow-pos, pow-mono}
@@ -12,7 +12,7 @@ use lib.Seq.{take-at}
 use Rattle.base.proofs.Bools.{never, or-cases, and-left, and-right}
 use Rattle.itemset.specs.Items.{insideb, without, size}
 use Rattle.itemset.proofs.Laws.{falls, size-le, without-lt}
-use Rattle.zdd.specs.Table.{Family, family, nodesOf, sets, elem, eqSet}
+use Rattle.zdd.specs.Table.{Family, nodesOf, sets, elem, eqSet}
 use Rattle.zdd.proofs.Member.{eqSet-eq}
 use Rattle.zdd.proofs.Grow.{family-zero}
 use Rattle.zdd.proofs.Tested.{sound-of}

@@ -1,17 +1,16 @@
 -- The words of a search for the cheapest, and its walk. Assumes nothing.
-use mathlib.Core.Path.{_≡_, refl, sym, ap, ap₂, _∙_, subst}
+use mathlib.Core.Path.{_≡_, refl, sym, ap, _∙_}
 use mathlib.Core.Bool.{Bool, true, false}
-use mathlib.Core.Logic.{_⊎_, inl, inr}
 use mathlib.Core.List.{List, [], _∷_}
-use Prim.Native.Nat.{ℕ, zero, suc, _+_, _-_, _*_, _≤_, _<_}
+use Prim.Native.Nat.{ℕ, zero, suc, _+_, _*_, _≤_, _<_}
 use native.Mathlib.Nat.{not-suc-le-zero}
 use native.Mathlib.Decide.{decLt}
 use native.Mathlib.Omega.{arith}
-use lib.ListN.{length, getD}
+use lib.ListN.{getD}
 use Rattle.base.proofs.Bools.{never}
 use Rattle.zdd.specs.Table.{Family, join, count}
 use Rattle.query.specs.Questions.{familyAt, cost, cheapest}
-use Rattle.query.specs.Reading.{labelOf, loOf, hiOf, Readable, Filled, Priceable, costWord, Choice}
+use Rattle.query.specs.Reading.{labelOf, loOf, hiOf, Readable, Filled, costWord, Choice}
 use Rattle.query.proofs.Parts.{Parts, parts, some, at-zero, at-one}
 use Rattle.query.proofs.Least.{cost-cons, cost-nil, cheap-none, cheap-one, cheap-alone, cheap-hi, cheap-lo}
 

@@ -1,10 +1,10 @@
 -- A node of a readable table: its children, its label and its family. Assumes nothing.
-use mathlib.Core.Path.{_≡_, refl, sym, ap, _∙_}
-use mathlib.Core.List.{List, [], _∷_, _++_, map, cons≢nil}
-use Prim.Native.Nat.{ℕ, zero, suc, _+_, _-_, _*_, _≤_, _<_}
+use mathlib.Core.Path.{_≡_, refl, ap, _∙_}
+use mathlib.Core.List.{List, [], _∷_, map}
+use Prim.Native.Nat.{ℕ, suc, _+_, _-_, _*_, _<_}
 use native.Mathlib.Omega.{arith}
-use lib.ListN.{length, getD, length-append, length-map}
-use Rattle.zdd.specs.Table.{Node, Family, join, count, nodesOf, family, key, Fine, Sound}
+use lib.ListN.{length, length-append, length-map}
+use Rattle.zdd.specs.Table.{Family, join, count, nodesOf, key, Fine}
 use Rattle.zdd.proofs.Words.{at-word, length-nodes}
 use Rattle.zdd.proofs.Grow.{family-zero, family-one}
 use Rattle.zdd.proofs.Canon.{family-some}

@@ -1,20 +1,19 @@
 -- The walk of place: a set s stands in the family of number a, where what is left of s stands in that of the node. Assumes nothing.
-use mathlib.Core.Path.{_≡_, refl, sym, ap, ap₂, _∙_, subst}
+use mathlib.Core.Path.{_≡_, refl, sym, ap, ap₂, _∙_}
 use mathlib.Core.Bool.{Bool, true, false, _&&_, _||_}
 use mathlib.Core.Logic.{_⊎_, inl, inr}
-use mathlib.Core.List.{List, [], _∷_, _++_, map}
-use Prim.Native.Nat.{ℕ, zero, suc, _+_, _-_, _*_, _≤_, _<_, min}
-use native.Mathlib.Nat.{not-suc-le-zero, le-of-suc-le-suc}
+use mathlib.Core.List.{List, [], _∷_, map}
+use Prim.Native.Nat.{ℕ, suc, _+_, _≤_, _<_, min}
 use native.Mathlib.Numerals.{add-one}
 use native.Mathlib.Decide.{decLt}
 use native.Mathlib.Omega.{arith}
 use lib.Dec.{eqb}
 use lib.ListN.{length, getD, drop, drop-of-length-le}
 use lib.Seq.{drop-cons, drop-length}
-use borrow.Author.Tests.{eqb-true, ne-eqb}
-use Rattle.base.proofs.Bools.{never, cases, eqb-same, or-cases, or-left, is-false}
+use borrow.Author.Tests.{ne-eqb}
+use Rattle.base.proofs.Bools.{never, cases, eqb-same}
 use Rattle.zdd.specs.Table.{Family, join, count, eqSet, elem}
-use Rattle.zdd.proofs.Member.{Avoids, avoids-at, elem-append, elem-nil-map, elem-cons-map, elem-join-cons}
+use Rattle.zdd.proofs.Member.{avoids-at, elem-append, elem-nil-map, elem-cons-map, elem-join-cons}
 use Rattle.query.specs.Questions.{familyAt, position}
 use Rattle.query.specs.Reading.{labelOf, loOf, hiOf, Readable, Filled, stored, countWord}
 use Rattle.query.proofs.Parts.{Parts, parts, some, at-zero, at-one}

@@ -1,20 +1,19 @@
 -- THEOREM: `cheapest` is what document 01 says: every other timetable of the family costs as much or more, and those with the same cost are
 -- listed later. Assumes nothing.
-use mathlib.Core.Path.{_≡_, refl, sym, ap, ap₂, _∙_, subst}
+use mathlib.Core.Path.{_≡_, refl, sym, ap, _∙_, subst}
 use mathlib.Core.Logic.{_⊎_, inl, inr, ⊎-elim}
-use mathlib.Core.Bool.{Bool, true, false, cond, _&&_, _||_}
+use mathlib.Core.Bool.{Bool, true, false, cond, _||_}
 use mathlib.Core.List.{List, [], _∷_}
-use Prim.Native.Nat.{ℕ, zero, suc, _+_, _≤_, _<_, zero-le}
+use Prim.Native.Nat.{ℕ, _≤_, _<_}
 use native.Mathlib.Nat.{le-refl, not-suc-le-zero}
 use native.Mathlib.Omega.{arith}
 use native.Mathlib.Decide.{decLt}
 use lib.Dec.{leb}
 use lib.ListN.{length, getD}
 use borrow.Author.Tests.{leb-true, le-leb}
-use Rattle.base.proofs.Bools.{never, is-false, cases, and-left, and-right, and-both, or-cases, or-left, or-right}
+use Rattle.base.proofs.Bools.{never, is-false, and-left, and-right, and-both, or-cases, or-left, or-right}
 use Rattle.zdd.specs.Table.{Family, eqSet, elem, filter}
 use Rattle.zdd.proofs.Member.{eqSet-same, eqSet-eq}
-use Rattle.zdd.proofs.Listing.{elem-filter}
 use Rattle.query.specs.Questions.{position, cost, noneBelow, cheapest}
 use Rattle.statement.proofs.Undo.{position-here, position-later}
 

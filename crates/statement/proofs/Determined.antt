@@ -1,12 +1,12 @@
 -- THEOREM: the contract of a call determines the report, but for the answer's number, and the table, but for the numbers of its new nodes: two
 -- tables that meet it hold the same families, and each family has one number in each. Assumes nothing.
-use mathlib.Core.Path.{_≡_, refl, sym, ap, _∙_, subst, subst⁻¹}
+use mathlib.Core.Path.{_≡_, sym, ap, _∙_, subst, subst⁻¹}
 use mathlib.Core.Logic.{_⊎_, inl, inr, ⊎-elim}
-use mathlib.Core.List.{List, [], _∷_, _++_}
+use mathlib.Core.List.{List, _++_}
 use Prim.Native.Nat.{ℕ, suc, _+_, _<_}
 use native.Mathlib.Omega.{arith}
-use lib.ListN.{length, take, drop, length-append, take-append-drop}
-use Rattle.zdd.specs.Table.{Node, Family, count, nodesOf, families, family, soundb, Nodes, _∈_}
+use lib.ListN.{length, drop, length-append, take-append-drop}
+use Rattle.zdd.specs.Table.{Node, Family, count, nodesOf, families, family, Nodes, _∈_}
 use Rattle.zdd.proofs.Words.{length-nodes}
 use Rattle.zdd.proofs.Tested.{sound-of}
 use Rattle.zdd.specs.Branches.{branches, missing}

@@ -1,12 +1,12 @@
 -- THEOREM: 'full' is said only where the answer does not fit: no sound table of the same length that keeps the old nodes holds it. Assumes nothing.
-use mathlib.Core.Path.{_≡_, refl, sym, ap, _∙_, subst, subst⁻¹}
-use mathlib.Core.Bool.{Bool, true, false, cond}
-use mathlib.Core.List.{List, [], _∷_, _++_}
-use Prim.Native.Nat.{ℕ, zero, suc, _+_, _-_, _/_, _≤_, _<_}
+use mathlib.Core.Path.{_≡_, sym, ap, _∙_, subst, subst⁻¹}
+use mathlib.Core.Bool.{true}
+use mathlib.Core.List.{List, _++_}
+use Prim.Native.Nat.{ℕ, suc, _+_, _-_, _≤_, _<_}
 use native.Mathlib.Omega.{arith}
 use lib.ListN.{length, take, drop, take-append-drop, length-append}
 use borrow.Author.Tests.{ltb-true}
-use Rattle.zdd.specs.Table.{Node, Family, count, capacity, nodesOf, family, soundb, Nodes, Sound}
+use Rattle.zdd.specs.Table.{Node, Family, count, capacity, nodesOf, family, soundb, Nodes}
 use Rattle.zdd.proofs.Words.{length-nodes}
 use Rattle.zdd.proofs.Tested.{sound-of, capacity-fits}
 use Rattle.zdd.specs.Branches.{missing}

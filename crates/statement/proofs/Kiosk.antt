@@ -1,14 +1,14 @@
 -- THEOREM: what document 01 says of the kiosk's list: a number of nodes above its length or 65534, or a triple past that number that is not all 0,
 -- is not sound. Assumes nothing.
 use mathlib.Core.Path.{_≡_, refl, sym, ap, _∙_}
-use mathlib.Core.Bool.{Bool, true, false}
+use mathlib.Core.Bool.{false}
 use mathlib.Core.List.{List, [], _∷_}
 use Prim.Native.Nat.{ℕ, zero, suc, _+_, _*_, _≤_, _<_}
 use native.Mathlib.Nat.{not-suc-le-zero, le-of-suc-le-suc}
 use native.Mathlib.Omega.{arith}
 use lib.ListN.{length, getD}
 use Rattle.base.proofs.Bools.{is-false}
-use Rattle.zdd.specs.Table.{Node, blank, node, soundb, Sound}
+use Rattle.zdd.specs.Table.{Node, blank, node, soundb}
 use Rattle.zdd.proofs.Tested.{sound-of}
 use Rattle.statement.specs.Kiosk.{wordsOf, tableOf}
 

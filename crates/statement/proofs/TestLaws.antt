@@ -1,14 +1,13 @@
 -- What each test of `specs/Refusals.antt` says where the facts are known, and what a call replies whose refusal is known. Assumes nothing.
-use mathlib.Core.Path.{_≡_, refl, sym, ap, _∙_}
-use mathlib.Core.Bool.{Bool, true, false, not, _||_}
+use mathlib.Core.Path.{_≡_, refl, sym, ap}
+use mathlib.Core.Bool.{true, false, not}
 use mathlib.Core.List.{List, _++_}
 use Prim.Native.Nat.{ℕ, zero, suc, _+_, _≤_, _<_}
-use lib.Dec.{eqb}
 use lib.ListN.{length, drop}
 use borrow.Author.Tests.{lt-ltb, le-ltb, le-leb, lt-leb, eq-eqb, ne-eqb}
 use Rattle.zdd.specs.Table.{Family, count}
 use Rattle.query.specs.Questions.{unknownPackage}
-use Rattle.statement.specs.Replies.{Reply, refused, gives, reply}
+use Rattle.statement.specs.Replies.{refused, gives, reply}
 use Rattle.statement.specs.Postconditions.{written}
 use Rattle.statement.specs.Refusals.{unpriced, unknownAnswer, shortWork, uncountable, pastEnd, nothing, shortPage}
 

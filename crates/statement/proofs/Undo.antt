@@ -1,18 +1,18 @@
 -- THEOREMS, from the contracts of pick and place: place undoes pick, pick undoes place, and picks of two places give two timetables.
 -- Assumes nothing.
 use mathlib.Core.Path.{_≡_, refl, sym, ap, ap₂, _∙_, subst, subst⁻¹}
-use mathlib.Core.Logic.{_⊎_, inl, inr, ⊎-elim}
-use mathlib.Core.Bool.{Bool, true, false, not, _&&_, _||_}
+use mathlib.Core.Logic.{_⊎_, inl, inr}
+use mathlib.Core.Bool.{Bool, true, false, not, _||_}
 use mathlib.Core.List.{List, [], _∷_, _++_, List·Memᴰ, List·Memᴰ·head, List·Memᴰ·tail}
 use Prim.Native.Nat.{ℕ, zero, suc, _+_, _≤_, _<_}
 use native.Mathlib.Nat.{not-suc-le-zero, le-of-suc-le-suc}
 use native.Mathlib.Omega.{arith}
 use lib.Dec.{ltb}
-use lib.ListN.{length, getD, take, drop}
+use lib.ListN.{length, take, drop}
 use lib.Seq.{take-at}
-use borrow.Author.Tests.{ltb-false, leb-false, lt-ltb, lt-leb, le-ltb, le-leb, not-true, not-false}
-use Rattle.base.proofs.Bools.{never, is-false, cases, and-both, or-cases, or-left, or-right}
-use Rattle.zdd.specs.Table.{Family, count, nodesOf, key, family, sets, eqSet, elem, soundb, Keys, Sound}
+use borrow.Author.Tests.{ltb-false, leb-false, lt-ltb, lt-leb, le-ltb, not-false}
+use Rattle.base.proofs.Bools.{never, is-false, cases, or-cases}
+use Rattle.zdd.specs.Table.{Family, count, sets, eqSet, elem, soundb, Sound}
 use Rattle.zdd.proofs.Member.{eqSet-same, eqSet-eq}
 use Rattle.zdd.proofs.Tested.{sound-of}
 use Rattle.zdd.proofs.TableLaws.{sound-listed}
@@ -24,9 +24,9 @@ use Rattle.exact_cover.proofs.Order.{keys-apart}
 use Rattle.exact_cover.proofs.Sets.{sets-member}
 use Rattle.statement.specs.declared.Picked.{Picked}
 use Rattle.statement.specs.declared.Placed.{Placed}
-use Rattle.statement.specs.Replies.{Reply, refused, gives, reply, pickReply, placeReply}
+use Rattle.statement.specs.Replies.{Reply, gives, reply, pickReply, placeReply}
 use Rattle.query.specs.Questions.{familyAt, nth, position, unknownPackage, anyUnknown, ascending}
-use Rattle.statement.specs.Refusals.{firstOf, oversize, stray, unsound, unknownAnswer, notTimetable, shortWork, uncountable, pastEnd, absent, shortPage, pickRefusal, placeRefusal}
+use Rattle.statement.specs.Refusals.{oversize, stray, unsound, unknownAnswer, notTimetable, shortWork, uncountable, pastEnd, absent, shortPage, pickRefusal, placeRefusal}
 use Rattle.statement.specs.Postconditions.{PickPost, PlacePost, written}
 use Rattle.statement.proofs.FirstOf.{pass, none, passed}
 

@@ -3,7 +3,7 @@
 -- `words` the number of working words, r what the call returns, page and page′ the page before and after. No call has a `requires`. Assumes nothing.
 use mathlib.Core.Path.{_≡_}
 use mathlib.Core.Bool.{true}
-use mathlib.Core.List.{List, [], _∷_, _++_}
+use mathlib.Core.List.{List, _++_}
 use Prim.Native.Nat.{ℕ, zero, suc, _+_, _/_, _<_}
 use lib.ListN.{length, take, drop}
 use Rattle.zdd.specs.Table.{Family, count, nodesOf, soundb}
@@ -17,7 +17,7 @@ use Rattle.statement.specs.declared.Counted.{Counted}
 use Rattle.statement.specs.declared.Picked.{Picked}
 use Rattle.statement.specs.declared.Placed.{Placed}
 use Rattle.statement.specs.declared.Priced.{Priced}
-use Rattle.statement.specs.Replies.{Reply, refused, gives, reply, outcomeReply, soundnessReply, countReply, pickReply, placeReply, cheapestReply}
+use Rattle.statement.specs.Replies.{refused, gives, reply, outcomeReply, soundnessReply, countReply, pickReply, placeReply, cheapestReply}
 use Rattle.query.specs.Questions.{familyAt, nth, position, cost, cheapest}
 use Rattle.statement.specs.Refusals.{checkRefusal, coverRefusal, pairRefusal, packageRefusal, countRefusal, pickRefusal, placeRefusal, cheapestRefusal}
 

@@ -1,9 +1,9 @@
 -- When each call is refused. A call's refusal is the number of the first test of its list that holds, 0 for none: each list is document 01's table
 -- read down, with the lines that concern the call. S has the packages, m is M, t has the table's words, and `words` is the number of working
 -- words. Assumes nothing.
-use mathlib.Core.Bool.{Bool, true, false, not, _&&_, _||_}
+use mathlib.Core.Bool.{Bool, true, false, not, _||_}
 use mathlib.Core.List.{List, [], _∷_}
-use Prim.Native.Nat.{ℕ, zero, suc, _+_, _-_, _*_, _/_}
+use Prim.Native.Nat.{ℕ, _+_, _-_, _*_, _/_}
 use lib.Dec.{eqb, leb, ltb}
 use lib.ListN.{length}
 use Rattle.itemset.specs.Items.{belowb}

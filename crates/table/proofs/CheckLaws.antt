@@ -10,11 +10,11 @@ use lib.Dec.{ltb, eqb}
 use lib.ListN.{length, getD, List·getD-eq-default}
 use borrow.Author.Tests.{ltb-true, ltb-false, lt-ltb, eqb-true, eq-eqb}
 use Rattle.base.proofs.Bools.{never, is-false, same-test, cases}
-use Rattle.zdd.specs.Table.{Node, node, blank, count, nodesOf, key, Over, Fine, Nodes, Sound, soundb}
+use Rattle.zdd.specs.Table.{Node, node, blank, count, nodesOf, key, Over, Fine, Sound, soundb}
 use Rattle.zdd.proofs.Tested.{sound-of, sound-test}
 use Rattle.zdd.proofs.Words.{at-word, node-at, length-nodes}
 use Rattle.zdd.proofs.TableLaws.{over-of-key, key-of-over}
-use Rattle.table.specs.State.{Tells, Room, IndexedTo, Indexed, Found, Entered, Checked}
+use Rattle.table.specs.State.{Tells, Room, IndexedTo, Found, Entered, Checked}
 
 -- ---- a test tells
 

@@ -1,12 +1,12 @@
 -- The laws of growth: it is reflexive and transitive, keeps the families of the old numbers, and what may be the next node may be so later.
 -- Assumes nothing.
-use mathlib.Core.Path.{_≡_, refl, sym, ap, ap₂, subst, _∙_}
+use mathlib.Core.Path.{_≡_, refl, sym, ap, subst, _∙_}
 use mathlib.Core.List.{List, [], _∷_, _++_}
-use Prim.Native.Nat.{ℕ, suc, _+_, _-_, _*_, _<_, _≤_}
+use Prim.Native.Nat.{ℕ, _+_, _*_, _<_, _≤_}
 use native.Mathlib.Omega.{arith}
 use lib.ListN.{length, getD, take, drop, take-append-drop, length-take}
-use lib.Seq.{take-take, take-length, getD-take, take-at, length-take-le}
-use Rattle.zdd.specs.Table.{Node, node, blank, join, count, nodesOf, family, key, Over, Fine, Sound}
+use lib.Seq.{take-take, take-length, getD-take, take-at}
+use Rattle.zdd.specs.Table.{Node, node, blank, count, nodesOf, family, key, Over, Fine, Sound}
 use Rattle.zdd.proofs.Grow.{family-append}
 use Rattle.zdd.proofs.Extend.{fine-append, over-append}
 use Rattle.zdd.proofs.Words.{at-word, node-at, length-nodes, Appended, appended-nodes, sound-canonical}

@@ -5,14 +5,14 @@ use mathlib.Core.List.{List, [], _∷_, _++_}
 use Prim.Native.Nat.{ℕ, suc, _+_, _-_, _*_, _/_, _<_, _≤_}
 use native.Mathlib.Omega.{arith}
 use lib.Dec.{leb}
-use lib.ListN.{length, getD, set, length-append}
+use lib.ListN.{length, getD, set}
 use lib.Seq.{getD-at}
 use borrow.Author.Tests.{leb-true, leb-false}
 use Rattle.zdd.specs.Table.{Node, node, blank, join, count, capacity, nodesOf, family, Fine, Sound}
 use Rattle.zdd.proofs.Grow.{family-node}
 use Rattle.zdd.proofs.Words.{length-nodes, Appended, appended-nodes, appended-sound, stored}
 use Rattle.zdd.proofs.TableLaws.{appended-new}
-use Rattle.table.specs.State.{hashOf, Room, IndexedTo, Indexed, Found, Grown, Absent, May, Made, Unique}
+use Rattle.table.specs.State.{hashOf, Room, IndexedTo, Indexed, Found, Absent, Unique}
 use Rattle.table.proofs.IndexLaws as index
 use Rattle.table.proofs.GrownLaws.{grown-refl, grown-append}
 

@@ -4,9 +4,9 @@ use mathlib.Core.List.{List}
 use Prim.Native.Nat.{ℕ, _+_, _-_, _<_, _≤_}
 use native.Mathlib.Decide.{decLt, ℕ-discrete}
 use native.Mathlib.Omega.{arith}
-use lib.ListN.{length, getD}
+use lib.ListN.{getD}
 use Rattle.zdd.specs.Table.{Node, blank}
-use Rattle.buckets.specs.Chain.{Last, Index}
+use Rattle.buckets.specs.Chain.{Last}
 use Rattle.table.specs.State.{hashOf, bucket, IndexedTo, Found}
 use Rattle.table.proofs.IndexLaws.{bucket-of}
 

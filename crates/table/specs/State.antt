@@ -2,9 +2,9 @@
 use mathlib.Core.Path.{_≡_}
 use mathlib.Core.Bool.{Bool, true, false}
 use mathlib.Core.List.{List}
-use Prim.Native.Nat.{ℕ, suc, _+_, _-_, _*_, _/_, _%_, _<_, _≤_}
+use Prim.Native.Nat.{ℕ, _+_, _-_, _*_, _/_, _%_, _<_, _≤_}
 use lib.ListN.{length, getD, take}
-use Rattle.zdd.specs.Table.{Node, blank, join, count, capacity, nodesOf, family, key, Over, Fine, Sound, soundb}
+use Rattle.zdd.specs.Table.{Node, blank, join, count, capacity, nodesOf, family, Fine, Sound, soundb}
 use Rattle.buckets.specs.Chain.{Index}
 
 -- r says whether P holds

@@ -1,10 +1,10 @@
 -- What a function that makes a family F in a table says of its work, and how such functions go together. ns and b are the nodes and the flag 'there was
 -- no room' before it, ns′ and b′ after it, k the number it gives, c the room. Over words: the clauses 'nodes made' and 'full' of a call's contract.
 -- Assumes nothing.
-use mathlib.Core.Path.{_≡_, refl, sym, ap, ap₂, _∙_, subst, subst⁻¹}
+use mathlib.Core.Path.{_≡_, refl, sym, ap, ap₂, _∙_, subst}
 use mathlib.Core.Bool.{Bool, true, false}
 use mathlib.Core.List.{List, [], _∷_, _++_}
-use Prim.Native.Nat.{ℕ, zero, suc, _+_, _-_, _≤_, _<_}
+use Prim.Native.Nat.{ℕ, suc, _+_, _-_, _≤_, _<_}
 use native.Mathlib.Omega.{arith}
 use lib.Dec.{ltb}
 use lib.ListN.{length, getD, take, length-append}
@@ -15,7 +15,7 @@ use Rattle.zdd.proofs.Extend.{nodes-append}
 use Rattle.zdd.proofs.Words.{length-nodes}
 use Rattle.zdd.specs.Branches.{missing}
 use Rattle.zdd.proofs.Nowaste.{nowaste-length, nowaste-keeps, nowaste-old}
-use Rattle.zdd.specs.Work.{Worked, Split, Got}
+use Rattle.zdd.specs.Work.{Split, Got}
 use Rattle.zdd.proofs.Room.{worked-start, worked-when, worked-eq, worked-calm, worked-made, worked-full, count-exactly, full-exactly}
 use Rattle.zdd.proofs.Split.{worked-split, worked-split-lo}
 

@@ -3,18 +3,16 @@
 -- THEOREMS: the nodes made are at most those missing; exactly those where F has its number; fewer where F is short. Assumes nothing.
 use mathlib.Core.Path.{_≡_, refl, sym, ap, _∙_, subst, subst⁻¹}
 use mathlib.Core.Logic.{_⊎_, inl, inr, ⊎-elim}
-use mathlib.Core.Bool.{Bool, true, false}
-use mathlib.Core.List.{List, [], _∷_, _++_, append-nil, append-assoc, List·Memᴰ, List·Memᴰ·head, List·Memᴰ·tail, List·Memᴰ·cases-cons, List·Memᴰ·not-nil, List·Memᴰ·append-cases, Memᴰ·append-left, Memᴰ·cast}
+use mathlib.Core.List.{List, [], _∷_, _++_, append-nil, append-assoc, List·Memᴰ·head, List·Memᴰ·tail, List·Memᴰ·cases-cons, List·Memᴰ·not-nil, List·Memᴰ·append-cases, Memᴰ·append-left, Memᴰ·cast}
 use Prim.Native.Nat.{ℕ, zero, suc, _+_, _-_, _≤_, _<_}
-use native.Mathlib.Nat.{le-antisymm, not-suc-le-zero}
+use native.Mathlib.Nat.{le-antisymm}
 use native.Mathlib.Decide.{decLt}
 use native.Mathlib.Omega.{arith}
 use lib.ListN.{length, getD, take, length-append}
 use lib.Seq.{take-append-seam}
-use Rattle.base.proofs.Bools.{never}
-use Rattle.zdd.specs.Table.{Node, node, blank, Family, join, families, family, key, Fine, Nodes, _∈_}
+use Rattle.zdd.specs.Table.{Node, blank, Family, join, families, family, key, Fine, Nodes, _∈_}
 use Rattle.zdd.proofs.Member.{Avoids, from-avoids, family-from}
-use Rattle.zdd.specs.Work.{From, Under, Nowaste, Short}
+use Rattle.zdd.specs.Work.{Under, Nowaste, Short}
 use Rattle.zdd.proofs.Grow.{length-families, family-append, families-append, family-new}
 use Rattle.zdd.proofs.Canon.{family-some, canonical}
 use Rattle.zdd.proofs.Extend.{nodes-append}

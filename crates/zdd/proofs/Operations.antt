@@ -1,7 +1,7 @@
 -- The operations on families, each a filter of all sets by a test on membership in the two families, and their equations by label.
 -- Assumes nothing.
 use mathlib.Core.Path.{_≡_, refl, sym, ap, ap₂, _∙_, subst}
-use mathlib.Core.Bool.{Bool, true, false, not, _&&_, _||_, and-self, or-self, and-not-self, or-false, and-true, and-false}
+use mathlib.Core.Bool.{Bool, true, false, _&&_, _||_, and-self, or-self, and-not-self, or-false, and-true, and-false}
 use mathlib.Core.List.{List, [], _∷_}
 use mathlib.Core.Logic.{_⊎_, inl, inr}
 use Prim.Native.Nat.{ℕ, suc, _≤_, _<_}
@@ -10,7 +10,7 @@ use lib.Dec.{eqb}
 use lib.ListN.{length, getD}
 use borrow.Author.Tests.{eqb-true}
 use Rattle.base.proofs.Bools.{never}
-use Rattle.zdd.specs.Table.{Node, blank, Family, join, family, key, Over, Fine, Nodes, Keys, elem, filter, sets}
+use Rattle.zdd.specs.Table.{Node, blank, Family, join, family, key, Over, Fine, Nodes, Keys, elem, sets}
 use Rattle.zdd.proofs.Grow.{family-node}
 use Rattle.zdd.proofs.Member.{avoids-at, from-at, from-of, from-nil, from-avoids, family-from, elem-join-nil, elem-join-cons}
 use Rattle.zdd.specs.Work.{From}

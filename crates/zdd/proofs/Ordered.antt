@@ -9,10 +9,10 @@ use native.Mathlib.Nat.{not-suc-le-zero, le-of-suc-le-suc}
 use native.Mathlib.Omega.{arith}
 use lib.Dec.{eqb}
 use lib.ListN.{length, getD}
-use borrow.Author.Tests.{eqb-true, eq-eqb, ne-eqb}
+use borrow.Author.Tests.{eqb-true, ne-eqb}
 use Rattle.base.proofs.Bools.{never, is-false, and-left, and-right, or-cases, or-left, or-right, eqb-same}
-use Rattle.zdd.specs.Table.{Family, join, key, eqSet, elem, allSets, sets, order, Keys, has}
-use Rattle.zdd.proofs.Member.{eqSet-same, eqSet-eq, elem-append, elem-nil-map, elem-cons-map}
+use Rattle.zdd.specs.Table.{Family, key, eqSet, elem, allSets, sets, order, Keys, has}
+use Rattle.zdd.proofs.Member.{eqSet-same, elem-append, elem-nil-map, elem-cons-map}
 use Rattle.zdd.proofs.Sorting.{Sorted, order-sorted}
 use Rattle.zdd.proofs.Listing.{Listed, listed-part, part-elem}
 use Rattle.zdd.specs.ListingOrder.{Earlier, Descends}

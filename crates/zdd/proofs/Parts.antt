@@ -1,13 +1,13 @@
 -- The operations on the numbers of a table, by their first labels: what the children make is a part of what the numbers make, in each case of the
 -- recursion. Assumes nothing.
-use mathlib.Core.Path.{_≡_, refl, sym, ap, ap₂, _∙_, subst}
-use mathlib.Core.Bool.{Bool, true, false}
-use mathlib.Core.List.{List, [], _∷_}
-use Prim.Native.Nat.{ℕ, zero, suc, _≤_, _<_}
+use mathlib.Core.Path.{_≡_, sym, ap, _∙_, subst}
+use mathlib.Core.Bool.{Bool, false}
+use mathlib.Core.List.{List, []}
+use Prim.Native.Nat.{ℕ, suc, _<_}
 use native.Mathlib.Omega.{arith}
 use lib.Dec.{eqb}
 use lib.ListN.{length, getD}
-use Rattle.zdd.specs.Table.{Node, blank, Family, join, family, key, Over, Fine, Nodes, Keys}
+use Rattle.zdd.specs.Table.{Node, blank, Family, join, family, key, Over, Nodes, Keys}
 use Rattle.zdd.proofs.Grow.{family-node}
 use Rattle.zdd.specs.Work.{From, Split}
 use Rattle.zdd.proofs.Member.{from-nil, family-from}

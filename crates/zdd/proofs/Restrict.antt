@@ -3,17 +3,17 @@ use mathlib.Core.Path.{_≡_, refl, sym, ap, ap₂, _∙_, subst}
 use mathlib.Core.Bool.{Bool, true, false, not, _&&_, _||_, and-true}
 use mathlib.Core.List.{List, [], _∷_}
 use mathlib.Core.Logic.{_⊎_, inl, inr}
-use Prim.Native.Nat.{ℕ, zero, suc, _≤_, _<_}
+use Prim.Native.Nat.{ℕ, suc, _≤_, _<_}
 use native.Mathlib.Omega.{arith}
 use lib.Dec.{eqb}
 use lib.ListN.{length}
 use borrow.Author.Tests.{eqb-true, eq-eqb}
 use Rattle.base.proofs.Bools.{never, is-false, and-left, or-cases, or-left, or-right, eqb-same}
-use Rattle.zdd.specs.Table.{Family, join, key, Keys, elem, eqSet, filter, allSets, sets, order, has}
+use Rattle.zdd.specs.Table.{Family, join, key, Keys, elem, filter, allSets, sets, order, has}
 use Rattle.zdd.proofs.Sorting.{Sorted, order-sorted}
 use Rattle.zdd.specs.Work.{From, Split}
 use Rattle.zdd.proofs.Member.{from-at, from-of, from-nil, join-cases, elem-join-nil, elem-join-cons}
-use Rattle.zdd.proofs.Listing.{Listed, listed-nil, listed-join, listed-filter, listed-elem, listed-same, elem-filter, filter-same, filter-none}
+use Rattle.zdd.proofs.Listing.{Listed, listed-join, listed-filter, listed-elem, listed-same, elem-filter, filter-same, filter-none}
 use Rattle.zdd.specs.Operations.{including, excluding}
 
 -- ---- the sets of F that pass a test

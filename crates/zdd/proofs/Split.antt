@@ -1,17 +1,16 @@
 -- A family split by its first label, as the recursions make it: `Split K R p R1 R0`. The parts are under the whole, and work on the parts and
 -- then on the node is work on the whole. Assumes nothing.
-use mathlib.Core.Path.{_≡_, refl, sym, ap, _∙_, subst, subst⁻¹}
-use mathlib.Core.Bool.{Bool, true, false}
-use mathlib.Core.List.{List, [], _∷_, _++_, map}
+use mathlib.Core.Path.{_≡_, refl, sym, ap, _∙_}
+use mathlib.Core.Bool.{Bool}
+use mathlib.Core.List.{List, [], _∷_}
 use Prim.Native.Nat.{ℕ, zero, suc, _≤_, _<_}
 use native.Mathlib.Omega.{arith}
 use lib.ListN.{length, getD}
 use Rattle.zdd.specs.Table.{Node, blank, Family, join, family, key, Over, Fine, Nodes, elem}
 use Rattle.zdd.proofs.Grow.{family-node}
-use Rattle.zdd.proofs.Member.{Avoids, from-at, from-avoids, family-from, elem-head}
+use Rattle.zdd.proofs.Member.{Avoids, from-at, from-avoids, elem-head}
 use Rattle.zdd.specs.Work.{From, Under, Nowaste, Worked, Split}
 use Rattle.zdd.proofs.Canon.{family-some}
-use Rattle.zdd.specs.Branches.{branches}
 use Rattle.zdd.proofs.Under.{under-trans, under-eq, after-hi, after-lo}
 use Rattle.zdd.proofs.Nowaste.{nowaste-under, nowaste-then}
 use Rattle.zdd.proofs.Room.{worked-under, worked-then}

@@ -2,16 +2,15 @@
 -- families of the numbers 0 and 1 are under every family; so one relation serves 'is a branch of' and 'takes no node'. Assumes nothing.
 use mathlib.Core.Path.{_≡_, refl, sym, ap, _∙_, subst, subst⁻¹}
 use mathlib.Core.Logic.{_⊎_, inl, inr, ⊎-elim}
-use mathlib.Core.List.{List, [], _∷_, _++_, map, cons≢nil, List·Memᴰ, List·Memᴰ·head, List·Memᴰ·tail, List·Memᴰ·cases-cons, List·Memᴰ·not-nil, List·Memᴰ·append-cases, Memᴰ·append-left, Memᴰ·append-right, Sublistᴰ, Sublistᴰ·eq-nil, Sublistᴰ·cases-cons-cons}
-use Prim.Native.Nat.{ℕ, zero, suc, _≤_, _<_}
-use native.Mathlib.Nat.{le-refl, not-suc-le-zero}
+use mathlib.Core.List.{List, [], _∷_, cons≢nil, List·Memᴰ·head, List·Memᴰ·tail, List·Memᴰ·not-nil, Memᴰ·append-left, Memᴰ·append-right, Sublistᴰ, Sublistᴰ·eq-nil, Sublistᴰ·cases-cons-cons}
+use Prim.Native.Nat.{ℕ, suc, _≤_}
 use native.Mathlib.Omega.{arith}
 use lib.ListN.{length}
 use Rattle.zdd.specs.Table.{Node, Family, join, families, key, allSets, sets, order, _∈_}
 use Rattle.zdd.proofs.Member.{Avoids, from-avoids}
 use Rattle.zdd.specs.Work.{From, Under}
 use Rattle.zdd.proofs.Listing.{Listed, listed-part}
-use Rattle.zdd.specs.Branches.{starting, others, weight, branchesTo, branches, fresh, missing}
+use Rattle.zdd.specs.Branches.{starting, others, branches, fresh, missing}
 use Rattle.zdd.proofs.Counting.{branches-cons, branches-join, branches-nil, branches-one, at-most, fresh-sound, fresh-distinct, hi-under, lo-under, branches-empty, branches-closed}
 
 pub under-self : (F : Family) → Under F F

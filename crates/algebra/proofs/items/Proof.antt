@@ -9,45 +9,18 @@ Inv-loop packages₀ i₀ packages i = i ≤ 400
 abbrev μ-loop : tie.MeasureT-loop
 μ-loop packages₀ i₀ packages i = 400 - i
 
-loop-holds : tie.Need-loop-holds Inv-loop μ-loop
-loop-holds c = search needs
-
-mul-packages : tie.Need-mul-packages Inv-loop μ-loop
-mul-packages c = search needs
-
-shl-packages : tie.Need-shl-packages Inv-loop μ-loop
-shl-packages c = search needs
-
-mul-packages-2 : tie.Need-mul-packages-2 Inv-loop μ-loop
-mul-packages-2 c = search needs
-
-array-write-packages : tie.Need-array-write-packages Inv-loop μ-loop
-array-write-packages c = search needs
-
-add-i : tie.Need-add-i Inv-loop μ-loop
-add-i c = search needs
-
-loop-less : tie.Need-loop-less Inv-loop μ-loop
-loop-less c = search needs
-
-loop-again : tie.Need-loop-again Inv-loop μ-loop
-loop-again c = search needs
-
-returns : tie.Need-returns Inv-loop μ-loop
-returns c = search needs
-
 pub items-spec : {M : Type 1} → statement M
 items-spec =
     tie.close
     (tie.spec
     Inv-loop
     μ-loop
-    loop-holds
-    mul-packages
-    shl-packages
-    mul-packages-2
-    array-write-packages
-    add-i
-    loop-less
-    loop-again
-    returns)
+    (λ c. search needs)
+    (λ c. search needs)
+    (λ c. search needs)
+    (λ c. search needs)
+    (λ c. search needs)
+    (λ c. search needs)
+    (λ c. search needs)
+    (λ c. search needs)
+    (λ c. search needs))

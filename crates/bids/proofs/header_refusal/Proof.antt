@@ -19,9 +19,6 @@ returns-2 c =
     let p = c .before .before .before .before .pre in
     sym (pass 21 _ (mark-test b h p ∙ c .before .before .if1 .left) ∙ hit 22 _ (other-version b h p (c .if2 .taken)))
 
-add-if3 : tie.Need-add-if3
-add-if3 c = search needs
-
 returns-3 : tie.Need-returns-3
 returns-3 c =
     let b = c .before .before .before .before .before .before .args .file .now in
@@ -35,18 +32,6 @@ returns-4 c =
     let h = c .before .before .before .before .before .before .before .before .args .h in
     let p = c .before .before .before .before .before .before .before .before .pre in
     sym (pass 21 _ (mark-test b h p ∙ c .before .before .before .before .before .before .if1 .left) ∙ pass 22 _ (same-version b h p (c .before .before .before .before .if2 .left)) ∙ hit 24 _ (many-packages b h p (c .before .before .if3 .left) (c .if4 .taken)))
-
-mul-if5 : tie.Need-mul-if5
-mul-if5 c = search needs
-
-add-if5 : tie.Need-add-if5
-add-if5 c = search needs
-
-mul-if5-2 : tie.Need-mul-if5-2
-mul-if5-2 c = search needs
-
-add-if5-2 : tie.Need-add-if5-2
-add-if5-2 c = search needs
 
 returns-5 : tie.Need-returns-5
 returns-5 c =
@@ -68,12 +53,12 @@ header-refusal-spec =
     (tie.spec
     returns
     returns-2
-    add-if3
+    (λ c. search needs)
     returns-3
     returns-4
-    mul-if5
-    add-if5
-    mul-if5-2
-    add-if5-2
+    (λ c. search needs)
+    (λ c. search needs)
+    (λ c. search needs)
+    (λ c. search needs)
     returns-5
     returns-6)

@@ -18,21 +18,12 @@ abbrev μ-loop : tie.MeasureT-loop
 package-record-requires : tie.Need-package-record-requires Inv-loop μ-loop
 package-record-requires c κs = omega arith
 
-mul-t9 : tie.Need-mul-t9 Inv-loop μ-loop
-mul-t9 c = search needs
-
-add-t10 : tie.Need-add-t10 Inv-loop μ-loop
-add-t10 c = search needs
-
 loop-holds : tie.Need-loop-holds Inv-loop μ-loop
 unfolding packageIn
 loop-holds c = (omega arith, omega arith, λ x p. first-zero (λ j. samePackage (c .before .before .args .file .now) (packageAt (c .before .before .args .s) j) x))
 
 package-record-requires-2 : tie.Need-package-record-requires-2 Inv-loop μ-loop
 package-record-requires-2 c κs = omega (arith, c .before .before .before .before .pre .0)
-
-same-package-requires : tie.Need-same-package-requires Inv-loop μ-loop
-same-package-requires c κs = search needs
 
 returns : tie.Need-returns Inv-loop μ-loop
 unfolding packageIn
@@ -41,9 +32,6 @@ returns c =
     let x = c .before .before .before .before .before .before .before .args .key .at in
     sym (first-hit (λ j. samePackage b (packageAt (c .before .before .before .before .before .before .before .args .s) j) x) (c .before .before .before .before .before .before .before .args .n) (c .before .before .before .before .loop .k) (c .before .before .before .loop-test .taken) (c .before .before .before .before .loop .inv .2 x (c .before .before .before .before .before .package-record .ensures))
     (same-package b (c .before .before .before .before .loop .inv .1) (c .before .before .package-record2 .ensures) (c .before .before .before .before .before .package-record .ensures) (c .before .same-package .ensures) ∙ c .if1 .taken))
-
-add-k : tie.Need-add-k Inv-loop μ-loop
-add-k c = search needs
 
 loop-less : tie.Need-loop-less Inv-loop μ-loop
 loop-less c = omega arith
@@ -70,13 +58,13 @@ package-index-spec =
     Inv-loop
     μ-loop
     package-record-requires
-    mul-t9
-    add-t10
+    (λ c. search needs)
+    (λ c. search needs)
     loop-holds
     package-record-requires-2
-    same-package-requires
+    (λ c κs. search needs)
     returns
-    add-k
+    (λ c. search needs)
     loop-less
     loop-again
     returns-2)

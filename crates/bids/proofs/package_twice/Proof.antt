@@ -16,12 +16,6 @@ Inv-loop file s n c₀ k₀ c k = (k ≤ n) × ((c .at ≡ packageAt s k) × (fi
 abbrev μ-loop : tie.MeasureT-loop
 μ-loop file s n c₀ k₀ c k = n - k
 
-mul-t8 : tie.Need-mul-t8 Inv-loop μ-loop
-mul-t8 c = search needs
-
-add-t9 : tie.Need-add-t9 Inv-loop μ-loop
-add-t9 c = search needs
-
 loop-holds : tie.Need-loop-holds Inv-loop μ-loop
 loop-holds c = (omega arith, (omega arith, first-zero (λ j. ltb (packageIn (c .before .args .file .now) (c .before .args .s) j (packageAt (c .before .args .s) j)) j)))
 
@@ -74,8 +68,8 @@ package-twice-spec =
     (tie.spec
     Inv-loop
     μ-loop
-    mul-t8
-    add-t9
+    (λ c. search needs)
+    (λ c. search needs)
     loop-holds
     package-index-requires
     returns

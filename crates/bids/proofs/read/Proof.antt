@@ -11,9 +11,6 @@ use borrow.Author.Needs.{needs}
 use Rattle.bids.proofs.read.Statement.{statement}
 use Rattle.bids.proofs.read.Tie as tie
 
-refusal-requires : tie.Need-refusal-requires
-refusal-requires c κs = search needs
-
 returns : tie.Need-returns
 returns c =
     let a = c .before .before .before .before .before .args in
@@ -27,12 +24,6 @@ returns c =
 
 read-header-requires : tie.Need-read-header-requires
 read-header-requires c κs = whole (c .before .before .before .before .before .args .file .now) (sym (c .before .refusal .ensures) ∙ c .if1 .left)
-
-cast-s : tie.Need-cast-s
-cast-s c = search needs
-
-cast-t : tie.Need-cast-t
-cast-t c = search needs
 
 returns-2 : tie.Need-returns-2
 returns-2 c =
@@ -56,19 +47,10 @@ returns-3 c =
       costs = unwritten 15 (costsOf b) (a .costs .now) e (λ z. omega arith);
     }
 
-wide-requires : tie.Need-wide-requires
-wide-requires c κs = search needs
-
 fill-requires : tie.Need-fill-requires
 fill-requires c κs =
     let p = c .before .before .before .before .before .before .before .read-header .ensures in
     (readable (c .before .before .before .before .before .before .before .before .before .before .before .before .before .args .file .now) (sym (c .before .before .before .before .before .before .before .before .before .refusal .ensures) ∙ c .before .before .before .before .before .before .before .before .if1 .left) (c .before .before .wide .ensures ∙ p .schools) (p .packages), (omega (arith, c .before .before .before .before .if2 .left), omega (arith, c .before .before .before .if3 .left)))
-
-same-length : tie.Need-same-length
-same-length c = search needs
-
-same-length-2 : tie.Need-same-length-2
-same-length-2 c = search needs
 
 returns-4 : tie.Need-returns-4
 returns-4 c =
@@ -86,15 +68,15 @@ pub read-spec : {M : Type 1} → statement M
 read-spec =
     tie.close
     (tie.spec
-    refusal-requires
+    (λ c κs. search needs)
     returns
     read-header-requires
-    cast-s
-    cast-t
+    (λ c. search needs)
+    (λ c. search needs)
     returns-2
     returns-3
-    wide-requires
+    (λ c κs. search needs)
     fill-requires
-    same-length
-    same-length-2
+    (λ c. search needs)
+    (λ c. search needs)
     returns-4)

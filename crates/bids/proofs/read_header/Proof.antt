@@ -4,30 +4,6 @@ use borrow.Author.Needs.{needs}
 use Rattle.bids.proofs.read_header.Statement.{statement}
 use Rattle.bids.proofs.read_header.Tie as tie
 
-byte-requires : tie.Need-byte-requires
-byte-requires c κs = search needs
-
-byte-requires-2 : tie.Need-byte-requires-2
-byte-requires-2 c κs = search needs
-
-byte-requires-3 : tie.Need-byte-requires-3
-byte-requires-3 c κs = search needs
-
-word16-requires : tie.Need-word16-requires
-word16-requires c κs = search needs
-
-byte-requires-4 : tie.Need-byte-requires-4
-byte-requires-4 c κs = search needs
-
-byte-requires-5 : tie.Need-byte-requires-5
-byte-requires-5 c κs = search needs
-
-word16-requires-2 : tie.Need-word16-requires-2
-word16-requires-2 c κs = search needs
-
-is-mark-requires : tie.Need-is-mark-requires
-is-mark-requires c κs = search needs
-
 returns : tie.Need-returns
 returns c =
     let b = c .before .before .before .before .before .before .before .before .before .before .before .before .before .before .before .args .file .now in
@@ -51,12 +27,12 @@ pub read-header-spec : {M : Type 1} → statement M
 read-header-spec =
     tie.close
     (tie.spec
-    byte-requires
-    byte-requires-2
-    byte-requires-3
-    word16-requires
-    byte-requires-4
-    byte-requires-5
-    word16-requires-2
-    is-mark-requires
+    (λ c κs. search needs)
+    (λ c κs. search needs)
+    (λ c κs. search needs)
+    (λ c κs. search needs)
+    (λ c κs. search needs)
+    (λ c κs. search needs)
+    (λ c κs. search needs)
+    (λ c κs. search needs)
     returns)

@@ -18,9 +18,6 @@ word32-requires c κs = omega (arith, c .before .pre .long)
 check-requires : tie.Need-check-requires
 check-requires c κs = omega (arith, c .before .before .pre .long)
 
-cast-if1 : tie.Need-cast-if1
-cast-if1 c = search needs
-
 returns : tie.Need-returns
 returns c =
     let b = c .before .before .before .before .before .args .file .now in
@@ -76,7 +73,7 @@ record-refusal-spec =
     sub-end
     word32-requires
     check-requires
-    cast-if1
+    (λ c. search needs)
     returns
     school-twice-requires
     returns-2

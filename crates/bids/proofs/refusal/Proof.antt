@@ -8,17 +8,8 @@ use Rattle.bids.proofs.refusal.Tie as tie
 returns : tie.Need-returns
 returns c = is-cut (c .before .before .args .file .now) (c .if1 .taken)
 
-read-header-requires : tie.Need-read-header-requires
-read-header-requires c κs = search needs
-
-header-refusal-requires : tie.Need-header-refusal-requires
-header-refusal-requires c κs = search needs
-
 returns-2 : tie.Need-returns-2
 returns-2 c = by-header (c .before .before .before .before .before .args .file .now) (c .before .before .before .if1 .left) (c .before .header-refusal .ensures) (c .if2 .taken)
-
-cast-record-refusal : tie.Need-cast-record-refusal
-cast-record-refusal c = search needs
 
 record-refusal-requires : tie.Need-record-refusal-requires
 record-refusal-requires c κs =
@@ -34,9 +25,9 @@ refusal-spec =
     tie.close
     (tie.spec
     returns
-    read-header-requires
-    header-refusal-requires
+    (λ c κs. search needs)
+    (λ c κs. search needs)
     returns-2
-    cast-record-refusal
+    (λ c. search needs)
     record-refusal-requires
     returns-3)

@@ -4,9 +4,6 @@ use borrow.Author.Needs.{needs}
 use Rattle.bids.proofs.same_package.Statement.{statement}
 use Rattle.bids.proofs.same_package.Tie as tie
 
-same-school-requires : tie.Need-same-school-requires
-same-school-requires c κs = search needs
-
 returns : tie.Need-returns
 returns c = rw (sym (c .before .same-school .ensures) ∙ not-true _ (c .if1 .taken))
 
@@ -14,4 +11,4 @@ returns-2 : tie.Need-returns-2
 returns-2 c = rw (sym (c .before .before .before .same-school .ensures) ∙ not-false _ (c .before .before .if1 .left))
 
 pub same-package-spec : {M : Type 1} → statement M
-same-package-spec = tie.close (tie.spec same-school-requires returns returns-2)
+same-package-spec = tie.close (tie.spec (λ c κs. search needs) returns returns-2)

@@ -24,9 +24,6 @@ loop-holds c = (omega arith, omega arith, λ x p. first-zero (λ j. sameSchool (
 school-record-requires-2 : tie.Need-school-record-requires-2 Inv-loop μ-loop
 school-record-requires-2 c κs = omega (arith, c .before .before .before .before .before .pre .0)
 
-same-school-requires : tie.Need-same-school-requires Inv-loop μ-loop
-same-school-requires c κs = search needs
-
 returns : tie.Need-returns Inv-loop μ-loop
 unfolding schoolIn
 returns c =
@@ -34,9 +31,6 @@ returns c =
     let x = c .before .before .before .before .before .before .before .before .before .args .key .at in
     sym (first-hit (λ j. sameSchool b (schoolAt j) x) (c .before .before .before .before .before .before .before .before .before .args .n) (c .before .before .before .before .before .loop .j) (c .before .before .before .before .loop-test .taken) (c .before .before .before .before .before .loop .inv .2 x (names (c .before .before .before .before .before .before .before .school-record .ensures)))
     (same-school b (c .before .before .before .before .before .loop .inv .1) (c .before .before .before .school-record2 .ensures) (names (c .before .before .before .before .before .before .before .school-record .ensures)) (c .before .same-school .ensures) ∙ c .if1 .taken))
-
-add-j : tie.Need-add-j Inv-loop μ-loop
-add-j c = search needs
 
 loop-less : tie.Need-loop-less Inv-loop μ-loop
 loop-less c = omega arith
@@ -65,9 +59,9 @@ school-index-spec =
     school-record-requires
     loop-holds
     school-record-requires-2
-    same-school-requires
+    (λ c κs. search needs)
     returns
-    add-j
+    (λ c. search needs)
     loop-less
     loop-again
     returns-2)

@@ -15,12 +15,6 @@ Inv-loop file s t n c₀ k₀ c k = (k ≤ n) × ((c .at ≡ packageAt s k) × (
 abbrev μ-loop : tie.MeasureT-loop
 μ-loop file s t n c₀ k₀ c k = n - k
 
-mul-t9 : tie.Need-mul-t9 Inv-loop μ-loop
-mul-t9 c = search needs
-
-add-t10 : tie.Need-add-t10 Inv-loop μ-loop
-add-t10 c = search needs
-
 loop-holds : tie.Need-loop-holds Inv-loop μ-loop
 loop-holds c = (omega arith, (omega arith, first-zero (λ j. strayb (c .before .args .file .now) (c .before .args .s) (c .before .args .t) j)))
 
@@ -77,8 +71,8 @@ stray-spec =
     (tie.spec
     Inv-loop
     μ-loop
-    mul-t9
-    add-t10
+    (λ c. search needs)
+    (λ c. search needs)
     loop-holds
     school-index-requires
     returns

@@ -6,11 +6,5 @@ use Rattle.bids.proofs.wrapping_mul.Tie as tie
 mul-result : tie.Need-mul-result
 mul-result c = record { fits = product 32 (search needs) (search needs) }
 
-cast-result : tie.Need-cast-result
-cast-result c = search needs
-
-returns : tie.Need-returns
-returns c = search needs
-
 pub wrapping-mul-spec : {M : Type 1} → statement M
-wrapping-mul-spec = tie.close (tie.spec mul-result cast-result returns)
+wrapping-mul-spec = tie.close (tie.spec mul-result (λ c. search needs) (λ c. search needs))

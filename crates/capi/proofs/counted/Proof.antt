@@ -7,15 +7,6 @@ use borrow.Author.Needs.{needs}
 use Rattle.capi.proofs.counted.Statement.{statement}
 use Rattle.capi.proofs.counted.Tie as tie
 
-enum-known-c : tie.Need-enum-known-c
-enum-known-c c = search needs
-
-enum-known-c-2 : tie.Need-enum-known-c-2
-enum-known-c-2 c = search needs
-
-cast-t5 : tie.Need-cast-t5
-cast-t5 c = search needs
-
 returns : tie.Need-returns
 returns c = (says-gives (ap countReply (c .before .c .given .1)), λ h. absurd (omega (arith, h)))
 
@@ -23,4 +14,4 @@ returns-2 : tie.Need-returns-2
 returns-2 c = (says-refused (λ k. countReply (countOf k 0)) (λ k. refl) _ (ap countReply (c .before .c2 .given .1)), λ h. refl)
 
 pub counted-spec : {M : Type 1} → statement M
-counted-spec = tie.close (tie.spec enum-known-c enum-known-c-2 cast-t5 returns returns-2)
+counted-spec = tie.close (tie.spec (λ c. search needs) (λ c. search needs) (λ c. search needs) returns returns-2)

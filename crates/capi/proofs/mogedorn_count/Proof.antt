@@ -3,17 +3,8 @@ use borrow.Author.Needs.{needs}
 use Rattle.capi.proofs.mogedorn_count.Statement.{statement}
 use Rattle.capi.proofs.mogedorn_count.Tie as tie
 
-count-requires : tie.Need-count-requires
-count-requires c κs = search needs
-
-counted-requires : tie.Need-counted-requires
-counted-requires c κs = search needs
-
-same-length : tie.Need-same-length
-same-length c = search needs
-
 returns : tie.Need-returns
 returns c = (shows-count (c .counted .result) (c .counted .ensures .0) (c .before .before .before .count .ensures), c .counted .ensures .1)
 
 pub mogedorn-count-spec : {M : Type 1} → statement M
-mogedorn-count-spec = tie.close (tie.spec count-requires counted-requires same-length returns)
+mogedorn-count-spec = tie.close (tie.spec (λ c κs. search needs) (λ c κs. search needs) (λ c. search needs) returns)

@@ -7,15 +7,6 @@ use borrow.Author.Needs.{needs}
 use Rattle.capi.proofs.outcome.Statement.{statement}
 use Rattle.capi.proofs.outcome.Tie as tie
 
-enum-known-o : tie.Need-enum-known-o
-enum-known-o c = search needs
-
-enum-known-o-2 : tie.Need-enum-known-o-2
-enum-known-o-2 c = search needs
-
-cast-t7 : tie.Need-cast-t7
-cast-t7 c = search needs
-
 returns : tie.Need-returns
 returns c = record {
   outcome = says-gives (ap outcomeReply (c .before .o .given .1));
@@ -33,4 +24,4 @@ returns-2 c = record {
 }
 
 pub outcome-spec : {M : Type 1} → statement M
-outcome-spec = tie.close (tie.spec enum-known-o enum-known-o-2 cast-t7 returns returns-2)
+outcome-spec = tie.close (tie.spec (λ c. search needs) (λ c. search needs) (λ c. search needs) returns returns-2)

@@ -7,15 +7,6 @@ use borrow.Author.Needs.{needs}
 use Rattle.capi.proofs.picked.Statement.{statement}
 use Rattle.capi.proofs.picked.Tie as tie
 
-enum-known-p : tie.Need-enum-known-p
-enum-known-p c = search needs
-
-enum-known-p-2 : tie.Need-enum-known-p-2
-enum-known-p-2 c = search needs
-
-cast-t6 : tie.Need-cast-t6
-cast-t6 c = search needs
-
 returns : tie.Need-returns
 returns c = (says-gives (ap pickReply (c .before .p .given .1)), (refl, λ h. absurd (omega (arith, h))))
 
@@ -23,4 +14,4 @@ returns-2 : tie.Need-returns-2
 returns-2 c = (says-refused (λ k. pickReply (pickOf k 0)) (λ k. refl) _ (ap pickReply (c .before .p2 .given .1)), (refl, λ h. refl))
 
 pub picked-spec : {M : Type 1} → statement M
-picked-spec = tie.close (tie.spec enum-known-p enum-known-p-2 cast-t6 returns returns-2)
+picked-spec = tie.close (tie.spec (λ c. search needs) (λ c. search needs) (λ c. search needs) returns returns-2)

@@ -7,15 +7,6 @@ use borrow.Author.Needs.{needs}
 use Rattle.capi.proofs.reading.Statement.{statement}
 use Rattle.capi.proofs.reading.Tie as tie
 
-enum-known-b : tie.Need-enum-known-b
-enum-known-b c = search needs
-
-enum-known-b-2 : tie.Need-enum-known-b-2
-enum-known-b-2 c = search needs
-
-cast-t8 : tie.Need-cast-t8
-cast-t8 c = search needs
-
 returns : tie.Need-returns
 returns c = (says-gives (ap readReply (c .before .b .given .1)), λ h. absurd (omega (arith, h)))
 
@@ -23,4 +14,4 @@ returns-2 : tie.Need-returns-2
 returns-2 c = (says-refused (λ k. readReply (readOf k 0 0 0)) (λ k. refl) _ (ap readReply (c .before .b2 .given .1)), λ h. (refl, refl, refl))
 
 pub reading-spec : {M : Type 1} → statement M
-reading-spec = tie.close (tie.spec enum-known-b enum-known-b-2 cast-t8 returns returns-2)
+reading-spec = tie.close (tie.spec (λ c. search needs) (λ c. search needs) (λ c. search needs) returns returns-2)

@@ -6,15 +6,6 @@ use borrow.Author.Needs.{needs}
 use Rattle.capi.proofs.soundness.Statement.{statement}
 use Rattle.capi.proofs.soundness.Tie as tie
 
-enum-told : tie.Need-enum-told
-enum-told c = search needs
-
-enum-known-s : tie.Need-enum-known-s
-enum-known-s c = search needs
-
-cast-result : tie.Need-cast-result
-cast-result c = search needs
-
 returns : tie.Need-returns
 returns c = says-gives (ap soundnessReply (c .enum-told .given .1))
 
@@ -22,4 +13,4 @@ returns-2 : tie.Need-returns-2
 returns-2 c = says-refused (λ k. soundnessReply (soundnessOf k)) (λ k. refl) _ (ap soundnessReply (c .before .s .given .1))
 
 pub soundness-spec : {M : Type 1} → statement M
-soundness-spec = tie.close (tie.spec enum-told enum-known-s cast-result returns returns-2)
+soundness-spec = tie.close (tie.spec (λ c. search needs) (λ c. search needs) (λ c. search needs) returns returns-2)

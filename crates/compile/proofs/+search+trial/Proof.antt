@@ -4,7 +4,7 @@ use mathlib.Core.Path.{_≡_, refl, sym, _∙_}
 use native.Mathlib.Omega.{arith}
 use borrow.Author.Tests.{not-true, not-false}
 use native.Mathlib.Nat.{mod-lt}
-use Prim.Native.Nat.{_+_, _*_, _-_}
+use Prim.Native.Nat.{_+_, _*_}
 use Rattle.itemset.proofs.Laws.{lowest-lt, without-back}
 use Rattle.compile.proofs.TurnLaws.{At, Turn, search-over, search-empty, search-hit, search-tried, at-first, at-falls, at-later, turn-start, turn-later, turn-pass, turn-over, turn-none, turn-idle, turn-made, turn-done}
 use borrow.Author.Needs.{needs}
@@ -55,9 +55,6 @@ search-claims t = (
 
 search-returns : (t : ℕ) → search-lts.Need-returns (search-claims t) (search-at t) search′.Post
 search-returns t c = search-over (c .before .before .before .before .pre .1 .0) (c .before .before .before .before .pre .1 .1 .0) (c .before .before .before .before .args .items) (omega (arith, c .if1 .taken)) _ _
-
-search-add-entered : (t : ℕ) → search-lts.Need-add-entered (search-claims t) (search-at t) search′.Post
-search-add-entered t c = search needs
 
 search-returns-2 : (t : ℕ) → search-lts.Need-returns-2 (search-claims t) (search-at t) search′.Post
 search-returns-2 t c = search-empty (c .before .before .before .before .before .pre .1 .0) (c .before .before .before .before .before .pre .1 .1 .0) (c .before .before .before .before .before .args .items) _ (omega (arith, c .before .if1 .left)) refl (c .if2 .taken)
@@ -150,12 +147,6 @@ trial-claims t = (
 trial-lowest-requires : (t : ℕ) → trial-lts.Need-lowest-requires (trial-claims t) (trial-at t) trial.Post trial-Inv-loop trial-μ-loop
 trial-lowest-requires t c κs = c .before .before .before .pre .1 .1 .1 .1 .0
 
-trial-wide-requires : (t : ℕ) → trial-lts.Need-wide-requires (trial-claims t) (trial-at t) trial.Post trial-Inv-loop trial-μ-loop
-trial-wide-requires t c κs = search needs
-
-trial-mul-p : (t : ℕ) → trial-lts.Need-mul-p (trial-claims t) (trial-at t) trial.Post trial-Inv-loop trial-μ-loop
-trial-mul-p t c = search needs
-
 trial-element-copy-out-p : (t : ℕ) → trial-lts.Need-element-copy-out-p (trial-claims t) (trial-at t) trial.Post trial-Inv-loop trial-μ-loop
 trial-element-copy-out-p t c = omega (arith, c .wide .ensures, c .before .lowest .ensures, lowest-lt 64 (c .before .before .before .before .before .args .items) (c .before .before .before .before .before .pre .1 .1 .1 .1 .0) (c .before .before .before .before .before .fits .items .fits))
 
@@ -164,29 +155,11 @@ trial-loop-holds t c =
     let q = c .before .before .before .before .before .before .pre .1 in
     rw (c .before .wide .ensures, c .before .before .lowest .ensures) (turn-start (q .0) (c .before .before .before .before .before .before .args .items) (c .before .before .before .before .before .before .fits .items .fits) (q .1 .1 .1 .0) (q .1 .0) (q .1 .1 .0), (at-first (q .0) (c .before .before .before .before .before .before .args .items) (c .before .before .before .before .before .before .fits .items .fits) (q .1 .1 .1 .0), refl))
 
-trial-sub-label : (t : ℕ) → trial-lts.Need-sub-label (trial-claims t) (trial-at t) trial.Post trial-Inv-loop trial-μ-loop
-trial-sub-label t c = search needs
-
-trial-wide-requires-2 : (t : ℕ) → trial-lts.Need-wide-requires-2 (trial-claims t) (trial-at t) trial.Post trial-Inv-loop trial-μ-loop
-trial-wide-requires-2 t c κs = search needs
-
-trial-mul-pack : (t : ℕ) → trial-lts.Need-mul-pack (trial-claims t) (trial-at t) trial.Post trial-Inv-loop trial-μ-loop
-trial-mul-pack t c = search needs
-
 trial-shared-slice-read-pack : (t : ℕ) → trial-lts.Need-shared-slice-read-pack (trial-claims t) (trial-at t) trial.Post trial-Inv-loop trial-μ-loop
 trial-shared-slice-read-pack t c = omega (arith, c .before .wide2 .ensures, c .before .before .before .loop .inv .1 .0 .inside, c .before .before .loop-test .taken)
 
-trial-add-later : (t : ℕ) → trial-lts.Need-add-later (trial-claims t) (trial-at t) trial.Post trial-Inv-loop trial-μ-loop
-trial-add-later t c = search needs
-
-trial-mul-later : (t : ℕ) → trial-lts.Need-mul-later (trial-claims t) (trial-at t) trial.Post trial-Inv-loop trial-μ-loop
-trial-mul-later t c = search needs
-
 trial-element-copy-out-later : (t : ℕ) → trial-lts.Need-element-copy-out-later (trial-claims t) (trial-at t) trial.Post trial-Inv-loop trial-μ-loop
 trial-element-copy-out-later t c = omega (arith, c .before .wide2 .ensures, c .before .before .before .loop .inv .1 .0 .inside, c .before .before .loop-test .taken, c .before .before .before .before .before .before .before .before .before .before .pre .1 .0 .few)
-
-trial-inside-requires : (t : ℕ) → trial-lts.Need-inside-requires (trial-claims t) (trial-at t) trial.Post trial-Inv-loop trial-μ-loop
-trial-inside-requires t c κs = search needs
 
 trial-loop-less : (t : ℕ) → trial-lts.Need-loop-less (trial-claims t) (trial-at t) trial.Post trial-Inv-loop trial-μ-loop
 trial-loop-less t c =
@@ -200,9 +173,6 @@ trial-loop-again t c =
       turn-pass (q .0) (c .before .before .before .before .before .before .before .before .before .before .before .before .before .args .items) (c .before .before .before .before .before .before .before .before .before .before .before .before .before .fits .items .fits) (q .1 .1 .1 .0) (c .before .before .before .before .before .before .loop .p) (c .before .before .before .before .wide2 .result) e (c .before .before .before .before .before .before .loop .inv .1 .0) (sym (c .before .inside .ensures) ∙ not-true (c .before .inside .result) (c .if1 .taken)) (c .before .before .before .before .before .before .loop .inv .0),
       (at-later (q .0) (c .before .before .before .before .before .before .before .before .before .before .before .before .before .args .items) (c .before .before .before .before .before .before .before .before .before .before .before .before .before .fits .items .fits) (q .1 .1 .1 .0) (c .before .before .before .before .before .before .loop .p) (c .before .before .before .before .wide2 .result) e (c .before .before .before .before .before .before .loop .inv .1 .0), c .before .before .before .before .before .before .loop .inv .1 .1),
     )
-
-trial-without-requires : (t : ℕ) → trial-lts.Need-without-requires (trial-claims t) (trial-at t) trial.Post trial-Inv-loop trial-μ-loop
-trial-without-requires t c κs = search needs
 
 trial-search-requires : (t : ℕ) → trial-lts.Need-search-requires (trial-claims t) (trial-at t) trial.Post trial-Inv-loop trial-μ-loop
 trial-search-requires t c κs =
@@ -286,9 +256,6 @@ trial-slice-write-memo t c =
     let h = c .before .loop .inv .0 .held in
     omega (arith, h .long, c .before .before .before .before .before .before .before .before .pre .1 .1 .1 .1 .1, mod-lt (c .before .before .before .before .before .before .before .before .args .items) (h .some))
 
-trial-cast-memo : (t : ℕ) → trial-lts.Need-cast-memo (trial-claims t) (trial-at t) trial.Post trial-Inv-loop trial-μ-loop
-trial-cast-memo t c = search needs
-
 trial-mul-memo-3 : (t : ℕ) → trial-lts.Need-mul-memo-3 (trial-claims t) (trial-at t) trial.Post trial-Inv-loop trial-μ-loop
 trial-mul-memo-3 t c =
     let q = c .before .before .before .before .before .before .before .before .before .pre .1 .1 .0 .held in
@@ -330,7 +297,7 @@ pub +search+trial-spec : {M : Type 1} → statement M
     (search-at t)
     search′.Post
     (search-returns t)
-    (search-add-entered t)
+    (λ c. search needs)
     (search-returns-2 t)
     (search-place-requires t)
     (search-mul-if3 t)
@@ -365,21 +332,21 @@ pub +search+trial-spec : {M : Type 1} → statement M
     trial-Inv-loop
     trial-μ-loop
     (trial-lowest-requires t)
-    (trial-wide-requires t)
-    (trial-mul-p t)
+    (λ c κs. search needs)
+    (λ c. search needs)
     (trial-element-copy-out-p t)
     (trial-loop-holds t)
-    (trial-sub-label t)
-    (trial-wide-requires-2 t)
-    (trial-mul-pack t)
+    (λ c. search needs)
+    (λ c κs. search needs)
+    (λ c. search needs)
     (trial-shared-slice-read-pack t)
-    (trial-add-later t)
-    (trial-mul-later t)
+    (λ c. search needs)
+    (λ c. search needs)
     (trial-element-copy-out-later t)
-    (trial-inside-requires t)
+    (λ c κs. search needs)
     (trial-loop-less t)
     (trial-loop-again t)
-    (trial-without-requires t)
+    (λ c κs. search needs)
     (trial-search-requires t)
     (trial-same-length t)
     (trial-same-length-2 t)
@@ -394,7 +361,7 @@ pub +search+trial-spec : {M : Type 1} → statement M
     (trial-mul-memo t)
     (trial-mul-memo-2 t)
     (trial-slice-write-memo t)
-    (trial-cast-memo t)
+    (λ c. search needs)
     (trial-mul-memo-3 t)
     (trial-add-memo t)
     (trial-mul-memo-4 t)

@@ -1,7 +1,6 @@
 use mathlib.Core.Path.{refl}
 use native.Mathlib.Omega.{arith}
 use native.Mathlib.Nat.{mod-lt}
-use Prim.Native.Nat.{_-_}
 use Rattle.compile.proofs.TurnLaws.{search-over, search-empty, search-tried}
 use Rattle.compile.proofs.begin.Statement.{statement}
 use Rattle.compile.proofs.begin.Tie as tie

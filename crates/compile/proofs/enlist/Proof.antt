@@ -17,20 +17,8 @@ abbrev μ-loop : tie.MeasureT-loop
 loop-holds : tie.Need-loop-holds Inv-loop μ-loop
 loop-holds c = built-start (c .before .args .packs .now) (c .before .pre .1)
 
-mul-lowest : tie.Need-mul-lowest Inv-loop μ-loop
-mul-lowest c = search needs
-
-shared-slice-read-lowest : tie.Need-shared-slice-read-lowest Inv-loop μ-loop
-shared-slice-read-lowest c = search needs
-
 lowest-requires : tie.Need-lowest-requires Inv-loop μ-loop
 lowest-requires c κs = c .before .before .before .before .pre .0 .some (c .before .before .loop .k) (c .before .loop-test .taken)
-
-wide-requires : tie.Need-wide-requires Inv-loop μ-loop
-wide-requires c κs = search needs
-
-add-insert : tie.Need-add-insert Inv-loop μ-loop
-add-insert c = search needs
 
 cast-insert : tie.Need-cast-insert Inv-loop μ-loop
 cast-insert c = omega (arith, c .before .before .before .before .before .before .before .before .pre .0 .few, c .before .before .before .before .before .loop-test .taken)
@@ -40,12 +28,6 @@ insert-requires c κs = (
   omega (arith, c .before .before .wide .ensures, c .before .before .before .lowest .ensures, c .before .before .before .before .before .before .loop .inv .first-long, lowest-lt 64 (getD (c .before .before .before .before .before .before .before .before .args .packs .now) (c .before .before .before .before .before .before .loop .k) 0) (c .before .before .before .before .before .before .before .before .pre .0 .some (c .before .before .before .before .before .before .loop .k) (c .before .before .before .before .before .loop-test .taken)) (c .before .before .before .before .shared-slice-known2 .given (c .before .before .before .before .before .before .loop .k) .fits)),
   omega (arith, c .before .before .before .before .before .before .loop .inv .after-long, c .before .before .before .before .before .before .before .before .pre .0 .few, c .before .before .before .before .before .loop-test .taken),
 )
-
-add-k : tie.Need-add-k Inv-loop μ-loop
-add-k c = search needs
-
-loop-less : tie.Need-loop-less Inv-loop μ-loop
-loop-less c = search needs
 
 loop-again : tie.Need-loop-again Inv-loop μ-loop
 loop-again c = rw (c .insert .ensures .0, c .insert .ensures .1)
@@ -61,14 +43,14 @@ enlist-spec =
     Inv-loop
     μ-loop
     loop-holds
-    mul-lowest
-    shared-slice-read-lowest
+    (λ c. search needs)
+    (λ c. search needs)
     lowest-requires
-    wide-requires
-    add-insert
+    (λ c κs. search needs)
+    (λ c. search needs)
     cast-insert
     insert-requires
-    add-k
-    loop-less
+    (λ c. search needs)
+    (λ c. search needs)
     loop-again
     returns)

@@ -4,14 +4,8 @@ use borrow.Author.Needs.{needs}
 use Rattle.engine.proofs.cheapest.Statement.{statement}
 use Rattle.engine.proofs.cheapest.Tie as tie
 
-opened-priced-requires : tie.Need-opened-priced-requires
-opened-priced-requires c κs = search needs
-
 returns : tie.Need-returns
 returns c = cheapest-refused (c .before .opened-priced .ensures) (c .if1 .taken)
-
-wide-requires : tie.Need-wide-requires
-wide-requires c κs = search needs
 
 add-if2 : tie.Need-add-if2
 add-if2 c = omega (arith, c .wide .ensures)
@@ -28,15 +22,6 @@ returns-3 c = cheapest-nothing (c .before .before .before .before .opened-priced
 cheapest-requires : tie.Need-cheapest-requires
 cheapest-requires c κs = (priceable (c .before .before .before .before .before .before .opened-priced .ensures .ready (c .before .before .before .before .before .if1 .left)), ((omega (arith, c .before .before .if3 .left), omega (arith, c .before .before .before .before .wide .ensures, c .before .before .before .before .before .before .opened-priced .ensures .ready (c .before .before .before .before .before .if1 .left) .answer .known)), omega (arith, c .before .before .before .if2 .left)))
 
-priced-requires : tie.Need-priced-requires
-priced-requires c κs = search needs
-
-same-length : tie.Need-same-length
-same-length c = search needs
-
-same-length-2 : tie.Need-same-length-2
-same-length-2 c = search needs
-
 returns-4 : tie.Need-returns-4
 returns-4 c = cheapest-delivers (c .before .before .before .before .before .before .before .before .before .before .before .before .opened-priced .ensures .ready (c .before .before .before .before .before .before .before .before .before .before .before .if1 .left)) (omega (arith, c .before .before .before .before .before .before .before .before .before .before .wide .ensures, c .before .before .before .before .before .before .before .before .before .if2 .left)) (λ z. omega (arith, c .before .before .before .before .before .before .before .before .before .before .wide .ensures, c .before .before .before .before .before .before .before .before .if3 .left)) (c .priced .result) (c .before .before .before .before .before .cheapest .result) (c .priced .ensures) (rw (c .before .before .before .before .before .before .before .before .before .before .wide .ensures) at (c .before .before .before .before .before .cheapest .ensures))
 
@@ -44,15 +29,15 @@ pub cheapest-spec : {M : Type 1} → statement M
 cheapest-spec =
     tie.close
     (tie.spec
-    opened-priced-requires
+    (λ c κs. search needs)
     returns
-    wide-requires
+    (λ c κs. search needs)
     add-if2
     mul-if2
     returns-2
     returns-3
     cheapest-requires
-    priced-requires
-    same-length
-    same-length-2
+    (λ c κs. search needs)
+    (λ c. search needs)
+    (λ c. search needs)
     returns-4)

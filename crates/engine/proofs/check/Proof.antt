@@ -5,9 +5,6 @@ use borrow.Author.Needs.{needs}
 use Rattle.engine.proofs.check.Statement.{statement}
 use Rattle.engine.proofs.check.Tie as tie
 
-slice-aggregate-admit : tie.Need-slice-aggregate-admit
-slice-aggregate-admit c = search needs
-
 admit-requires : tie.Need-admit-requires
 admit-requires c κs = blank 512 65536 refl refl
 
@@ -18,4 +15,4 @@ returns-2 : tie.Need-returns-2
 returns-2 c = record { result = reply-gives tt (sym (c .before .before .admit .ensures .says) ∙ c .if1 .left) }
 
 pub check-spec : {M : Type 1} → statement M
-check-spec = tie.close (tie.spec slice-aggregate-admit admit-requires returns returns-2)
+check-spec = tie.close (tie.spec (λ c. search needs) admit-requires returns returns-2)

@@ -12,20 +12,11 @@ opened-requires c κs = length-replicate {A = ℕ} 512 0
 returns : tie.Need-returns
 returns c = count-refused (c .before .opened .ensures) (c .if1 .taken)
 
-wide-requires : tie.Need-wide-requires
-wide-requires c κs = search needs
-
 returns-2 : tie.Need-returns-2
 returns-2 c = count-words (c .before .before .before .opened .ensures .ready (c .before .before .if1 .left)) (omega (arith, c .before .wide .ensures, c .if2 .taken))
 
 count-requires : tie.Need-count-requires
 count-requires c κs = (readable (c .before .before .before .before .opened .ensures .ready (c .before .before .before .if1 .left) .good), (omega (arith, c .before .before .wide .ensures, c .before .before .before .before .opened .ensures .ready (c .before .before .before .if1 .left) .known), omega (arith, c .before .if2 .left)))
-
-counted-requires : tie.Need-counted-requires
-counted-requires c κs = search needs
-
-same-length : tie.Need-same-length
-same-length c = search needs
 
 returns-3 : tie.Need-returns-3
 returns-3 c = count-delivers (c .before .before .before .before .before .before .before .before .opened .ensures .ready (c .before .before .before .before .before .before .before .if1 .left)) (omega (arith, c .before .before .before .before .before .before .wide .ensures, c .before .before .before .before .before .if2 .left)) (c .counted .result) (c .before .before .before .count .result) (c .counted .ensures) (rw (c .before .before .before .before .before .before .wide .ensures) at (c .before .before .before .count .ensures .1))
@@ -36,9 +27,9 @@ count-spec =
     (tie.spec
     opened-requires
     returns
-    wide-requires
+    (λ c κs. search needs)
     returns-2
     count-requires
-    counted-requires
-    same-length
+    (λ c κs. search needs)
+    (λ c. search needs)
     returns-3)

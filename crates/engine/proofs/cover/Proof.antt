@@ -8,17 +8,8 @@ use borrow.Author.Needs.{needs}
 use Rattle.engine.proofs.cover.Statement.{statement}
 use Rattle.engine.proofs.cover.Tie as tie
 
-slice-aggregate-admit : tie.Need-slice-aggregate-admit
-slice-aggregate-admit c = search needs
-
 admit-requires : tie.Need-admit-requires
 admit-requires c κs = blank 512 65536 refl refl
-
-declined-requires : tie.Need-declined-requires
-declined-requires c κs = search needs
-
-same-length : tie.Need-same-length
-same-length c = search needs
 
 returns : tie.Need-returns
 unfolding coverRefusal
@@ -27,20 +18,8 @@ returns c = refuses (c .before .before .before .admit .result) (first-refused _ 
 below-requires : tie.Need-below-requires
 below-requires c κs = items-fit _ _ (c .before .before .admit .ensures .ready (c .if1 .left) .sized)
 
-declined-requires-2 : tie.Need-declined-requires-2
-declined-requires-2 c κs = search needs
-
-same-length-2 : tie.Need-same-length-2
-same-length-2 c = search needs
-
 returns-2 : tie.Need-returns-2
 returns-2 c = refuses 7 (item-unknown (c .before .before .before .before .before .admit .ensures .ready (c .before .before .before .if1 .left)) _ _ _ (sym (c .before .before .below .ensures) ∙ not-true _ (c .before .if2 .taken))) (λ z. omega arith) refl (c .declined2 .ensures)
-
-declined-requires-3 : tie.Need-declined-requires-3
-declined-requires-3 c κs = search needs
-
-same-length-3 : tie.Need-same-length-3
-same-length-3 c = search needs
 
 returns-3 : tie.Need-returns-3
 returns-3 c = refuses 8 (words-short (c .before .before .before .before .before .before .admit .ensures .ready (c .before .before .before .before .if1 .left)) _ _ _ (sym (c .before .before .before .below .ensures) ∙ not-false _ (c .before .before .if2 .left)) (omega (arith, c .before .if3 .taken))) (λ z. omega arith) refl (c .declined3 .ensures)
@@ -48,38 +27,14 @@ returns-3 c = refuses 8 (words-short (c .before .before .before .before .before 
 cover-requires : tie.Need-cover-requires
 cover-requires c κs = (c .before .before .before .before .before .before .before .before .before .admit .ensures .ready (c .before .before .before .before .before .before .before .if1 .left) .rows, (c .before .before .before .before .before .before .before .before .before .admit .ensures .ready (c .before .before .before .before .before .before .before .if1 .left) .sound, (c .before .before .before .before .before .before .before .before .before .admit .ensures .ready (c .before .before .before .before .before .before .before .if1 .left) .indexed, omega (arith, c .before .before .before .before .if3 .left))))
 
-declined-requires-4 : tie.Need-declined-requires-4
-declined-requires-4 c κs = search needs
-
-same-length-4 : tie.Need-same-length-4
-same-length-4 c = search needs
-
-same-length-5 : tie.Need-same-length-5
-same-length-5 c = search needs
-
 returns-4 : tie.Need-returns-4
 returns-4 c = refuses 9 (limit-met (c .before .before .before .before .before .before .before .before .before .before .before .before .before .before .before .before .admit .ensures .ready (c .before .before .before .before .before .before .before .before .before .before .before .before .before .before .if1 .left)) (sym (c .before .before .before .before .before .before .before .before .before .before .before .before .before .below .ensures) ∙ not-false _ (c .before .before .before .before .before .before .before .before .before .before .before .before .if2 .left)) (omega (arith, c .before .before .before .before .before .before .before .before .before .before .before .if3 .left)) (c .before .before .before .before .before .before .cover .ensures) (c .before .if4 .taken)) (λ z. omega arith) (c .before .before .before .before .before .before .cover .ensures .back (c .before .if4 .taken)) (c .declined4 .ensures)
-
-declined-requires-5 : tie.Need-declined-requires-5
-declined-requires-5 c κs = search needs
-
-same-length-6 : tie.Need-same-length-6
-same-length-6 c = search needs
-
-same-length-7 : tie.Need-same-length-7
-same-length-7 c = search needs
 
 returns-5 : tie.Need-returns-5
 returns-5 c = refuses 10 (no-room (c .before .before .before .before .before .before .before .before .before .before .before .before .before .before .before .before .before .admit .ensures .ready (c .before .before .before .before .before .before .before .before .before .before .before .before .before .before .before .if1 .left)) (sym (c .before .before .before .before .before .before .before .before .before .before .before .before .before .before .below .ensures) ∙ not-false _ (c .before .before .before .before .before .before .before .before .before .before .before .before .before .if2 .left)) (omega (arith, c .before .before .before .before .before .before .before .before .before .before .before .before .if3 .left)) (c .before .before .before .before .before .before .before .cover .ensures) (c .before .before .if4 .left) (c .before .if5 .taken)) (λ z. omega arith) (c .before .before .before .before .before .before .before .cover .ensures .back-full (c .before .if5 .taken)) (c .declined5 .ensures)
 
 cast-t30 : tie.Need-cast-t30
 cast-t30 c = record { fits = omega (arith, steps-fit (c .before .before .before .before .before .before .before .before .before .before .before .before .before .before .before .before .before .admit .ensures .ready (c .before .before .before .before .before .before .before .before .before .before .before .before .before .before .before .if1 .left)) (sym (c .before .before .before .before .before .before .before .before .before .before .before .before .before .before .below .ensures) ∙ not-false _ (c .before .before .before .before .before .before .before .before .before .before .before .before .before .if2 .left)) (omega (arith, c .before .before .before .before .before .before .before .before .before .before .before .before .if3 .left)) (c .before .before .before .before .before .before .before .cover .ensures) (c .before .before .if4 .left) (c .before .if5 .left), c .before .before .before .before .before .before .before .before .before .before .before .before .before .before .before .before .before .before .before .before .before .before .before .before .before .fits .limit .fits) }
-
-same-length-8 : tie.Need-same-length-8
-same-length-8 c = search needs
-
-same-length-9 : tie.Need-same-length-9
-same-length-9 c = search needs
 
 returns-6 : tie.Need-returns-6
 returns-6 c = cover-answers (c .before .before .before .before .before .before .before .before .before .before .before .before .before .before .before .before .before .admit .ensures .ready (c .before .before .before .before .before .before .before .before .before .before .before .before .before .before .before .if1 .left)) (sym (c .before .before .before .before .before .before .before .before .before .before .before .before .before .before .below .ensures) ∙ not-false _ (c .before .before .before .before .before .before .before .before .before .before .before .before .before .if2 .left)) (omega (arith, c .before .before .before .before .before .before .before .before .before .before .before .before .if3 .left)) (c .before .before .before .before .before .before .before .cover .ensures) (c .before .before .if4 .left) (c .before .if5 .left) _ refl refl refl
@@ -88,28 +43,28 @@ pub cover-spec : {M : Type 1} → statement M
 cover-spec =
     tie.close
     (tie.spec
-    slice-aggregate-admit
+    (λ c. search needs)
     admit-requires
-    declined-requires
-    same-length
+    (λ c κs. search needs)
+    (λ c. search needs)
     returns
     below-requires
-    declined-requires-2
-    same-length-2
+    (λ c κs. search needs)
+    (λ c. search needs)
     returns-2
-    declined-requires-3
-    same-length-3
+    (λ c κs. search needs)
+    (λ c. search needs)
     returns-3
     cover-requires
-    declined-requires-4
-    same-length-4
-    same-length-5
+    (λ c κs. search needs)
+    (λ c. search needs)
+    (λ c. search needs)
     returns-4
-    declined-requires-5
-    same-length-6
-    same-length-7
+    (λ c κs. search needs)
+    (λ c. search needs)
+    (λ c. search needs)
     returns-5
     cast-t30
-    same-length-8
-    same-length-9
+    (λ c. search needs)
+    (λ c. search needs)
     returns-6)

@@ -15,14 +15,8 @@ returns c = opened-refused _ (c .before .admit .ensures) (c .if1 .taken)
 shared-slice-read-wide : tie.Need-shared-slice-read-wide
 shared-slice-read-wide c = omega (arith, c .before .before .admit .ensures .ready (c .before .if1 .left) .sound .room)
 
-wide-requires : tie.Need-wide-requires
-wide-requires c κs = search needs
-
 add-if2 : tie.Need-add-if2
 add-if2 c = omega (arith, c .wide .ensures, c .before .before .before .admit .ensures .ready (c .before .before .if1 .left) .sound .few)
-
-wide-requires-2 : tie.Need-wide-requires-2
-wide-requires-2 c κs = search needs
 
 returns-2 : tie.Need-returns-2
 returns-2 c = opened-unknown _ (c .before .before .before .before .before .admit .ensures .ready (c .before .before .before .before .if1 .left)) (omega (arith, c .before .before .wide .ensures, c .before .wide2 .ensures, c .if2 .taken))
@@ -37,8 +31,8 @@ opened-spec =
     admit-requires
     returns
     shared-slice-read-wide
-    wide-requires
+    (λ c κs. search needs)
     add-if2
-    wide-requires-2
+    (λ c κs. search needs)
     returns-2
     returns-3)

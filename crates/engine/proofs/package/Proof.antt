@@ -10,17 +10,8 @@ use borrow.Author.Needs.{needs}
 use Rattle.engine.proofs.package.Statement.{statement}
 use Rattle.engine.proofs.package.Tie as tie
 
-slice-aggregate-admit : tie.Need-slice-aggregate-admit
-slice-aggregate-admit c = search needs
-
 admit-requires : tie.Need-admit-requires
 admit-requires c κs = blank 512 65536 refl refl
-
-declined-requires : tie.Need-declined-requires
-declined-requires c κs = search needs
-
-same-length : tie.Need-same-length
-same-length c = search needs
 
 returns : tie.Need-returns
 unfolding packageRefusal
@@ -32,34 +23,13 @@ slice-read-n c = omega (arith, c .before .before .before .admit .ensures .ready 
 add-if2 : tie.Need-add-if2
 add-if2 c = omega (arith, c .before .before .before .admit .ensures .ready (c .before .if1 .left) .sound .few)
 
-declined-requires-2 : tie.Need-declined-requires-2
-declined-requires-2 c κs = search needs
-
-same-length-2 : tie.Need-same-length-2
-same-length-2 c = search needs
-
 returns-2 : tie.Need-returns-2
 unfolding packageRefusal
 returns-2 c = refused-makes 5 (first-passed _ (c .before .before .before .before .before .admit .ensures .ready (c .before .before .before .if1 .left)) ∙ hit 5 _ (answer-unknown _ _ (c .before .if2 .taken))) (λ z. omega arith) (c .declined2 .ensures _)
 
-wide-requires : tie.Need-wide-requires
-wide-requires c κs = search needs
-
-declined-requires-3 : tie.Need-declined-requires-3
-declined-requires-3 c κs = search needs
-
-same-length-3 : tie.Need-same-length-3
-same-length-3 c = search needs
-
 returns-3 : tie.Need-returns-3
 unfolding packageRefusal
 returns-3 c = refused-makes 6 (first-passed _ (c .before .before .before .before .before .before .before .admit .ensures .ready (c .before .before .before .before .before .if1 .left)) ∙ pass 5 _ (answer-known _ _ (omega (arith, c .before .before .before .if2 .left))) ∙ hit 6 _ (package-unknown _ _ (omega (arith, c .before .before .wide .ensures, c .before .if3 .taken)))) (λ z. omega arith) (c .declined3 .ensures _)
-
-declined-requires-4 : tie.Need-declined-requires-4
-declined-requires-4 c κs = search needs
-
-same-length-4 : tie.Need-same-length-4
-same-length-4 c = search needs
 
 returns-4 : tie.Need-returns-4
 unfolding packageRefusal
@@ -77,9 +47,6 @@ restriction-requires c κs = (ready (c .before .before .before .before .before .
 report-requires : tie.Need-report-requires
 report-requires c κs = (makes-words (c .before .before .before .restriction .ensures) (omega (arith, c .before .before .before .before .before .before .before .before .before .before .before .before .before .before .before .admit .ensures .ready (c .before .before .before .before .before .before .before .before .before .before .before .before .before .if1 .left) .sound .room)), makes-more (c .before .before .before .restriction .ensures))
 
-same-length-5 : tie.Need-same-length-5
-same-length-5 c = search needs
-
 returns-5 : tie.Need-returns-5
 unfolding packageRefusal
 returns-5 c = reported-makes (rw (c .before .before .before .before .before .before .before .before .before .before .before .before .before .before .before .before .admit .ensures .ready (c .before .before .before .before .before .before .before .before .before .before .before .before .before .before .if1 .left) .keyed .are) at (c .before .before .before .before .restriction .ensures)) (c .report .ensures) (first-passed _ (c .before .before .before .before .before .before .before .before .before .before .before .before .before .before .before .before .admit .ensures .ready (c .before .before .before .before .before .before .before .before .before .before .before .before .before .before .if1 .left)) ∙ pass 5 _ (answer-known _ _ (omega (arith, c .before .before .before .before .before .before .before .before .before .before .before .before .if2 .left))) ∙ pass 6 _ (package-known _ _ (omega (arith, c .before .before .before .before .before .before .before .before .before .before .before .wide .ensures, c .before .before .before .before .before .before .before .before .before .before .if3 .left))) ∙ pass 8 _ (enough _ _ (omega (arith, c .before .before .before .before .before .before .before .before .before .if4 .left))))
@@ -88,26 +55,26 @@ pub package-spec : {M : Type 1} → statement M
 package-spec =
     tie.close
     (tie.spec
-    slice-aggregate-admit
+    (λ c. search needs)
     admit-requires
-    declined-requires
-    same-length
+    (λ c κs. search needs)
+    (λ c. search needs)
     returns
     slice-read-n
     add-if2
-    declined-requires-2
-    same-length-2
+    (λ c κs. search needs)
+    (λ c. search needs)
     returns-2
-    wide-requires
-    declined-requires-3
-    same-length-3
+    (λ c κs. search needs)
+    (λ c κs. search needs)
+    (λ c. search needs)
     returns-3
-    declined-requires-4
-    same-length-4
+    (λ c κs. search needs)
+    (λ c. search needs)
     returns-4
     array-share-prefix-keys
     slice-aggregate-restriction
     restriction-requires
     report-requires
-    same-length-5
+    (λ c. search needs)
     returns-5)

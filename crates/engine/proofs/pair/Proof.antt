@@ -10,17 +10,8 @@ use borrow.Author.Needs.{needs}
 use Rattle.engine.proofs.pair.Statement.{statement}
 use Rattle.engine.proofs.pair.Tie as tie
 
-slice-aggregate-admit : tie.Need-slice-aggregate-admit
-slice-aggregate-admit c = search needs
-
 admit-requires : tie.Need-admit-requires
 admit-requires c κs = blank 512 65536 refl refl
-
-declined-requires : tie.Need-declined-requires
-declined-requires c κs = search needs
-
-same-length : tie.Need-same-length
-same-length c = search needs
 
 returns : tie.Need-returns
 unfolding pairRefusal
@@ -32,12 +23,6 @@ slice-read-n c = omega (arith, c .before .before .before .admit .ensures .ready 
 add-if2 : tie.Need-add-if2
 add-if2 c = omega (arith, c .before .before .before .admit .ensures .ready (c .before .if1 .left) .sound .few)
 
-declined-requires-2 : tie.Need-declined-requires-2
-declined-requires-2 c κs = search needs
-
-same-length-2 : tie.Need-same-length-2
-same-length-2 c = search needs
-
 returns-2 : tie.Need-returns-2
 unfolding pairRefusal
 returns-2 c = refused-makes 5 (first-passed _ (c .before .before .before .before .before .admit .ensures .ready (c .before .before .before .if1 .left)) ∙ hit 5 _ (first-unknown _ _ _ (c .before .if2 .taken))) (λ z. omega arith) (c .declined2 .ensures _)
@@ -45,21 +30,9 @@ returns-2 c = refused-makes 5 (first-passed _ (c .before .before .before .before
 add-if3 : tie.Need-add-if3
 add-if3 c = omega (arith, c .before .before .before .before .admit .ensures .ready (c .before .before .if1 .left) .sound .few)
 
-declined-requires-3 : tie.Need-declined-requires-3
-declined-requires-3 c κs = search needs
-
-same-length-3 : tie.Need-same-length-3
-same-length-3 c = search needs
-
 returns-3 : tie.Need-returns-3
 unfolding pairRefusal
 returns-3 c = refused-makes 5 (first-passed _ (c .before .before .before .before .before .before .admit .ensures .ready (c .before .before .before .before .if1 .left)) ∙ hit 5 _ (second-unknown _ _ _ (c .before .if3 .taken))) (λ z. omega arith) (c .declined3 .ensures _)
-
-declined-requires-4 : tie.Need-declined-requires-4
-declined-requires-4 c κs = search needs
-
-same-length-4 : tie.Need-same-length-4
-same-length-4 c = search needs
 
 returns-4 : tie.Need-returns-4
 unfolding pairRefusal
@@ -77,12 +50,6 @@ combination-requires c κs = (ready (c .before .before .before .before .before .
 report-requires : tie.Need-report-requires
 report-requires c κs = (makes-words (c .before .before .before .before .before .combination .ensures) (omega (arith, c .before .before .before .before .before .before .before .before .before .before .before .before .before .before .before .before .before .admit .ensures .ready (c .before .before .before .before .before .before .before .before .before .before .before .before .before .before .before .if1 .left) .sound .room)), makes-more (c .before .before .before .before .before .combination .ensures))
 
-same-length-5 : tie.Need-same-length-5
-same-length-5 c = search needs
-
-same-length-6 : tie.Need-same-length-6
-same-length-6 c = search needs
-
 returns-5 : tie.Need-returns-5
 unfolding pairRefusal
 returns-5 c = reported-makes (rw (c .before .before .before .before .before .before .before .before .before .before .before .before .before .before .before .before .before .before .admit .ensures .ready (c .before .before .before .before .before .before .before .before .before .before .before .before .before .before .before .before .if1 .left) .keyed .are) at (c .before .before .before .before .before .before .combination .ensures)) (c .report .ensures) (first-passed _ (c .before .before .before .before .before .before .before .before .before .before .before .before .before .before .before .before .before .before .admit .ensures .ready (c .before .before .before .before .before .before .before .before .before .before .before .before .before .before .before .before .if1 .left)) ∙ pass 5 _ (both-known _ _ _ (omega (arith, c .before .before .before .before .before .before .before .before .before .before .before .before .before .before .if2 .left)) (omega (arith, c .before .before .before .before .before .before .before .before .before .before .before .before .before .if3 .left))) ∙ pass 8 _ (enough _ _ (omega (arith, c .before .before .before .before .before .before .before .before .before .before .before .before .if4 .left))))
@@ -91,27 +58,27 @@ pub pair-spec : {M : Type 1} → statement M
 pair-spec =
     tie.close
     (tie.spec
-    slice-aggregate-admit
+    (λ c. search needs)
     admit-requires
-    declined-requires
-    same-length
+    (λ c κs. search needs)
+    (λ c. search needs)
     returns
     slice-read-n
     add-if2
-    declined-requires-2
-    same-length-2
+    (λ c κs. search needs)
+    (λ c. search needs)
     returns-2
     add-if3
-    declined-requires-3
-    same-length-3
+    (λ c κs. search needs)
+    (λ c. search needs)
     returns-3
-    declined-requires-4
-    same-length-4
+    (λ c κs. search needs)
+    (λ c. search needs)
     returns-4
     array-share-prefix-keys
     slice-aggregate-combination
     combination-requires
     report-requires
-    same-length-5
-    same-length-6
+    (λ c. search needs)
+    (λ c. search needs)
     returns-5)

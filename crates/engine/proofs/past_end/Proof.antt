@@ -8,14 +8,8 @@ use borrow.Author.Needs.{needs}
 use Rattle.engine.proofs.past_end.Statement.{statement}
 use Rattle.engine.proofs.past_end.Tie as tie
 
-enum-known-c : tie.Need-enum-known-c
-enum-known-c c = search needs
-
 returns : tie.Need-returns
 returns c = sym (ap (λ (d : Tally). endRefusal d (c .before .before .before .before .args .k)) (c .before .before .c .given .1) ∙ hit 12 _ (le-leb _ _ (c .if1 .taken)))
-
-enum-told : tie.Need-enum-told
-enum-told c = search needs
 
 returns-2 : tie.Need-returns-2
 returns-2 c = sym (ap (λ (d : Tally). endRefusal d (c .before .before .before .before .args .k)) (c .before .before .c .given .1) ∙ pass 12 _ (lt-leb _ _ (c .if1 .left)) ∙ none)
@@ -24,4 +18,4 @@ returns-3 : tie.Need-returns-3
 returns-3 c = sym (ap (λ (d : Tally). endRefusal d (c .before .before .args .k)) (c .enum-told .given .1))
 
 pub past-end-spec : {M : Type 1} → statement M
-past-end-spec = tie.close (tie.spec enum-known-c returns enum-told returns-2 returns-3)
+past-end-spec = tie.close (tie.spec (λ c. search needs) returns (λ c. search needs) returns-2 returns-3)

@@ -14,35 +14,17 @@ opened-requires c κs = length-replicate {A = ℕ} 512 0
 returns : tie.Need-returns
 returns c = pick-refused (c .before .opened .ensures) (c .if1 .taken)
 
-wide-requires : tie.Need-wide-requires
-wide-requires c κs = search needs
-
 returns-2 : tie.Need-returns-2
 returns-2 c = pick-words (c .before .before .before .opened .ensures .ready (c .before .before .if1 .left)) (omega (arith, c .before .wide .ensures, c .if2 .taken))
 
 count-requires : tie.Need-count-requires
 count-requires c κs = (readable (c .before .before .before .before .opened .ensures .ready (c .before .before .before .if1 .left) .good), (omega (arith, c .before .before .wide .ensures, c .before .before .before .before .opened .ensures .ready (c .before .before .before .if1 .left) .known), omega (arith, c .before .if2 .left)))
 
-past-end-requires : tie.Need-past-end-requires
-past-end-requires c κs = search needs
-
-same-length : tie.Need-same-length
-same-length c = search needs
-
 returns-3 : tie.Need-returns-3
 returns-3 c = pick-end (c .before .before .before .before .before .before .before .before .before .opened .ensures .ready (c .before .before .before .before .before .before .before .before .if1 .left)) (omega (arith, c .before .before .before .before .before .before .before .wide .ensures, c .before .before .before .before .before .before .if2 .left)) (c .before .before .before .before .count .result) (rw (c .before .before .before .before .before .before .before .wide .ensures) at (c .before .before .before .before .count .ensures .1)) (c .before .past-end .ensures) (c .if3 .taken)
 
 pick-requires : tie.Need-pick-requires
 pick-requires c κs = (readable (c .before .before .before .before .before .before .before .before .before .before .before .opened .ensures .ready (c .before .before .before .before .before .before .before .before .before .before .if1 .left) .good), ((omega (arith, c .before .before .before .before .before .before .before .before .before .wide .ensures, c .before .before .before .before .before .before .before .before .before .before .before .opened .ensures .ready (c .before .before .before .before .before .before .before .before .before .before .if1 .left) .known), below-end (familyAt (c .before .before .before .before .before .before .before .before .before .before .before .before .before .before .before .before .before .args .t .now) (c .before .before .before .before .before .before .before .before .before .wide .result)) _ (c .before .before .before .before .before .before .count .result) (c .before .before .before .before .before .before .count .ensures .1) (sym (c .before .before .before .past-end .ensures) ∙ c .before .before .if3 .left) .1), c .before .before .before .before .before .before .count .ensures .0))
-
-picked-requires : tie.Need-picked-requires
-picked-requires c κs = search needs
-
-same-length-2 : tie.Need-same-length-2
-same-length-2 c = search needs
-
-same-length-3 : tie.Need-same-length-3
-same-length-3 c = search needs
 
 returns-4 : tie.Need-returns-4
 returns-4 c = pick-delivers (c .before .before .before .before .before .before .before .before .before .before .before .before .before .before .before .opened .ensures .ready (c .before .before .before .before .before .before .before .before .before .before .before .before .before .before .if1 .left)) (omega (arith, c .before .before .before .before .before .before .before .before .before .before .before .before .before .wide .ensures, c .before .before .before .before .before .before .before .before .before .before .before .before .if2 .left)) (c .before .before .before .before .before .before .before .before .before .before .count .result) (rw (c .before .before .before .before .before .before .before .before .before .before .before .before .before .wide .ensures) at (c .before .before .before .before .before .before .before .before .before .before .count .ensures .1)) (sym (c .before .before .before .before .before .before .before .past-end .ensures) ∙ c .before .before .before .before .before .before .if3 .left) (c .picked .result) (c .before .before .before .pick .result) (c .picked .ensures) (rw (c .before .before .before .before .before .before .before .before .before .before .before .before .before .wide .ensures) at (c .before .before .before .pick .ensures))
@@ -53,14 +35,14 @@ pick-spec =
     (tie.spec
     opened-requires
     returns
-    wide-requires
+    (λ c κs. search needs)
     returns-2
     count-requires
-    past-end-requires
-    same-length
+    (λ c κs. search needs)
+    (λ c. search needs)
     returns-3
     pick-requires
-    picked-requires
-    same-length-2
-    same-length-3
+    (λ c κs. search needs)
+    (λ c. search needs)
+    (λ c. search needs)
     returns-4)

@@ -4,12 +4,6 @@ use borrow.Author.Needs.{needs}
 use Rattle.engine.proofs.picked.Statement.{statement}
 use Rattle.engine.proofs.picked.Tie as tie
 
-enum-known-w : tie.Need-enum-known-w
-enum-known-w c = search needs
-
-enum-told : tie.Need-enum-told
-enum-told c = search needs
-
 returns : tie.Need-returns
 returns c = sym (ap writtenReply (c .before .w .given .1))
 
@@ -17,4 +11,4 @@ returns-2 : tie.Need-returns-2
 returns-2 c = sym (ap writtenReply (c .enum-told .given .1))
 
 pub picked-spec : {M : Type 1} → statement M
-picked-spec = tie.close (tie.spec enum-known-w enum-told returns returns-2)
+picked-spec = tie.close (tie.spec (λ c. search needs) (λ c. search needs) returns returns-2)

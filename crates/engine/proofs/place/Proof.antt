@@ -21,12 +21,6 @@ array-share-prefix-keys c = omega (arith, c .before .opened .ensures .ready (c .
 slice-aggregate-in-precedence : tie.Need-slice-aggregate-in-precedence
 slice-aggregate-in-precedence c = sym (ap length (c .before .before .opened .ensures .ready (c .before .if1 .left) .good .keyed .are) ∙ length-keys (c .before .before .before .before .before .before .before .before .args .packages .now))
 
-in-precedence-requires : tie.Need-in-precedence-requires
-in-precedence-requires c κs = search needs
-
-wide-requires : tie.Need-wide-requires
-wide-requires c κs = search needs
-
 returns-2 : tie.Need-returns-2
 returns-2 c = place-unlisted (c .before .before .before .before .before .opened .ensures .ready (c .before .before .before .before .if1 .left)) (no-list _ _ (rw (c .before .before .before .before .before .opened .ensures .ready (c .before .before .before .before .if1 .left) .good .keyed .are) at (c .before .before .in-precedence .ensures)) (not-true _ (c .if2 .taken)))
 
@@ -39,12 +33,6 @@ count-requires c κs = (readable (c .before .before .before .before .before .bef
 place-requires : tie.Need-place-requires
 place-requires c κs = (readable (c .before .before .before .before .before .before .before .before .before .before .before .opened .ensures .ready (c .before .before .before .before .before .before .before .before .before .before .if1 .left) .good), (omega (arith, c .before .before .before .before .before .before .before .wide .ensures, c .before .before .before .before .before .before .before .before .before .before .before .opened .ensures .ready (c .before .before .before .before .before .before .before .before .before .before .if1 .left) .known), c .before .before .before .count .ensures .0))
 
-placed-requires : tie.Need-placed-requires
-placed-requires c κs = search needs
-
-same-length : tie.Need-same-length
-same-length c = search needs
-
 returns-4 : tie.Need-returns-4
 returns-4 c = place-delivers (c .before .before .before .before .before .before .before .before .before .before .before .before .before .opened .ensures .ready (c .before .before .before .before .before .before .before .before .before .before .before .before .if1 .left)) (is-list _ _ (rw (c .before .before .before .before .before .before .before .before .before .before .before .before .before .opened .ensures .ready (c .before .before .before .before .before .before .before .before .before .before .before .before .if1 .left) .good .keyed .are) at (c .before .before .before .before .before .before .before .before .before .before .in-precedence .ensures)) (not-false _ (c .before .before .before .before .before .before .before .before .if2 .left))) (omega (arith, c .before .before .before .before .before .before .before .before .before .wide .ensures, c .before .before .before .before .before .before .before .if3 .left)) (c .placed .result) (c .before .before .before .before .before .count .result) (c .before .place .result) (c .placed .ensures) (rw (c .before .before .before .before .before .before .before .before .before .wide .ensures) at (c .before .before .before .before .before .count .ensures .1)) (rw (c .before .before .before .before .before .before .before .before .before .wide .ensures) at (c .before .place .ensures))
 
@@ -56,12 +44,12 @@ place-spec =
     returns
     array-share-prefix-keys
     slice-aggregate-in-precedence
-    in-precedence-requires
-    wide-requires
+    (λ c κs. search needs)
+    (λ c κs. search needs)
     returns-2
     returns-3
     count-requires
     place-requires
-    placed-requires
-    same-length
+    (λ c κs. search needs)
+    (λ c. search needs)
     returns-4)

@@ -5,18 +5,6 @@ use borrow.Author.Needs.{needs}
 use Rattle.engine.proofs.placed.Statement.{statement}
 use Rattle.engine.proofs.placed.Tie as tie
 
-enum-told : tie.Need-enum-told
-enum-told c = search needs
-
-enum-known-s : tie.Need-enum-known-s
-enum-known-s c = search needs
-
-enum-told-2 : tie.Need-enum-told-2
-enum-told-2 c = search needs
-
-enum-told-3 : tie.Need-enum-told-3
-enum-told-3 c = search needs
-
 returns : tie.Need-returns
 returns c = sym (ap₂ placedReply (c .before .before .before .enum-told .given .1) (c .before .s .given .1))
 
@@ -28,4 +16,4 @@ returns-3 c = sym (ap (λ (d : Tally). placedReply d (c .before .before .args .s
 
 pub placed-spec : {M : Type 1} → statement M
 placed-spec =
-    tie.close (tie.spec enum-told enum-known-s enum-told-2 enum-told-3 returns returns-2 returns-3)
+    tie.close (tie.spec (λ c. search needs) (λ c. search needs) (λ c. search needs) (λ c. search needs) returns returns-2 returns-3)

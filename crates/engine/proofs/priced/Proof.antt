@@ -4,12 +4,6 @@ use borrow.Author.Needs.{needs}
 use Rattle.engine.proofs.priced.Statement.{statement}
 use Rattle.engine.proofs.priced.Tie as tie
 
-enum-known-c : tie.Need-enum-known-c
-enum-known-c c = search needs
-
-enum-told : tie.Need-enum-told
-enum-told c = search needs
-
 returns : tie.Need-returns
 returns c = sym (ap cheapReply (c .before .c .given .1))
 
@@ -17,4 +11,4 @@ returns-2 : tie.Need-returns-2
 returns-2 c = sym (ap cheapReply (c .enum-told .given .1))
 
 pub priced-spec : {M : Type 1} → statement M
-priced-spec = tie.close (tie.spec enum-known-c enum-told returns returns-2)
+priced-spec = tie.close (tie.spec (λ c. search needs) (λ c. search needs) returns returns-2)

@@ -4,9 +4,6 @@ use borrow.Author.Needs.{needs}
 use Rattle.engine.proofs.report.Statement.{statement}
 use Rattle.engine.proofs.report.Tie as tie
 
-shared-slice-read-t7 : tie.Need-shared-slice-read-t7
-shared-slice-read-t7 c = search needs
-
 sub-t8 : tie.Need-sub-t8
 sub-t8 c = c .before .before .before .pre .1 (c .before .if1 .taken)
 
@@ -18,9 +15,6 @@ returns c = record {
   made = λ h. refl;
 }
 
-declined-requires : tie.Need-declined-requires
-declined-requires c κs = search needs
-
 returns-2 : tie.Need-returns-2
 returns-2 c = record {
   full = λ e. c .declined .ensures (c .before .before .before .args .t .now);
@@ -30,4 +24,4 @@ returns-2 c = record {
 }
 
 pub report-spec : {M : Type 1} → statement M
-report-spec = tie.close (tie.spec shared-slice-read-t7 sub-t8 returns declined-requires returns-2)
+report-spec = tie.close (tie.spec (λ c. search needs) sub-t8 returns (λ c κs. search needs) returns-2)

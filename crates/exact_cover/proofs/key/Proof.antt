@@ -4,14 +4,8 @@ use borrow.Author.Needs.{needs}
 use Rattle.exact_cover.proofs.key.Statement.{statement}
 use Rattle.exact_cover.proofs.key.Tie as tie
 
-lowest-requires : tie.Need-lowest-requires
-lowest-requires c κs = search needs
-
 mul-result : tie.Need-mul-result
 mul-result c = omega (arith, c .lowest .ensures, lowest-lt 64 (c .before .args .items) (c .before .pre .0) (c .before .fits .items .fits))
-
-cast-result : tie.Need-cast-result
-cast-result c = search needs
 
 add-result : tie.Need-add-result
 add-result c = omega (arith, c .lowest .ensures, lowest-lt 64 (c .before .args .items) (c .before .pre .0) (c .before .fits .items .fits))
@@ -20,4 +14,4 @@ returns : tie.Need-returns
 returns c = omega (arith, c .lowest .ensures)
 
 pub key-spec : {M : Type 1} → statement M
-key-spec = tie.close (tie.spec lowest-requires mul-result cast-result add-result returns)
+key-spec = tie.close (tie.spec (λ c κs. search needs) mul-result (λ c. search needs) add-result returns)

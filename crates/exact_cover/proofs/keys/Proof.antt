@@ -15,32 +15,14 @@ abbrev μ-loop : tie.MeasureT-loop
 loop-holds : tie.Need-loop-holds Inv-loop μ-loop
 loop-holds c = filled-start (c .before .before .args .packages .now) (c .before .before .pre .1)
 
-mul-x : tie.Need-mul-x Inv-loop μ-loop
-mul-x c = search needs
-
-shared-slice-read-x : tie.Need-shared-slice-read-x Inv-loop μ-loop
-shared-slice-read-x c = search needs
-
 key-requires : tie.Need-key-requires Inv-loop μ-loop
 key-requires c κs = (c .before .before .before .before .before .pre .0 .some (c .before .before .loop .k) (c .before .loop-test .taken), omega (arith, c .before .before .before .before .before .pre .0 .few, c .before .loop-test .taken))
-
-mul-keys : tie.Need-mul-keys Inv-loop μ-loop
-mul-keys c = search needs
 
 slice-write-keys : tie.Need-slice-write-keys Inv-loop μ-loop
 slice-write-keys c = omega (arith, c .before .before .before .before .before .before .pre .0 .few, c .before .before .loop-test .taken, c .before .before .before .loop .inv .long)
 
-add-k : tie.Need-add-k Inv-loop μ-loop
-add-k c = search needs
-
-loop-less : tie.Need-loop-less Inv-loop μ-loop
-loop-less c = search needs
-
 loop-again : tie.Need-loop-again Inv-loop μ-loop
 loop-again c = filled-more (c .before .before .before .loop .k) (c .key .result) (omega (arith, c .before .before .before .before .before .before .pre .0 .few, c .before .before .loop-test .taken)) (c .key .ensures) (c .before .before .before .loop .inv)
-
-same-length : tie.Need-same-length Inv-loop μ-loop
-same-length c = search needs
 
 returns : tie.Need-returns Inv-loop μ-loop
 returns c = filled-all (c .before .loop .k) (c .before .before .before .before .pre .0) (omega (arith, c .loop-test .left)) (c .before .loop .inv)
@@ -52,13 +34,13 @@ keys-spec =
     Inv-loop
     μ-loop
     loop-holds
-    mul-x
-    shared-slice-read-x
+    (λ c. search needs)
+    (λ c. search needs)
     key-requires
-    mul-keys
+    (λ c. search needs)
     slice-write-keys
-    add-k
-    loop-less
+    (λ c. search needs)
+    (λ c. search needs)
     loop-again
-    same-length
+    (λ c. search needs)
     returns)

@@ -47,17 +47,11 @@ combine-claims t = (
   full-reads.Learnt,
 )
 
-combine-pack-requires : (t : ℕ) → combine-lts.Need-pack-requires (combine-claims t) (combine-at t) combine.Post
-combine-pack-requires t c κs = search needs
-
 combine-place-requires : (t : ℕ) → combine-lts.Need-place-requires (combine-claims t) (combine-at t) combine.Post
 combine-place-requires t c κs = (packed-small (c .pack .ensures) (omega (arith, (c .before .before .before .before .pre .1 .1 .1) .0, (c .before .before .before .before .pre .1 .1 .1) .1, (c .before .before .before .before .pre .1 .0) .sound .few)) (omega (arith, (c .before .before .before .before .pre .1 .1 .1) .0, (c .before .before .before .before .pre .1 .1 .1) .1, (c .before .before .before .before .pre .1 .0) .sound .few)), (c .before .before .before .before .pre .1 .1 .0) .some)
 
 combine-ended-requires : (t : ℕ) → combine-lts.Need-ended-requires (combine-claims t) (combine-at t) combine.Post
 combine-ended-requires t c κs = (c .before .place .ensures, c .before .before .pack .ensures)
-
-combine-same-length : (t : ℕ) → combine-lts.Need-same-length (combine-claims t) (combine-at t) combine.Post
-combine-same-length t c = search needs
 
 combine-returns : (t : ℕ) → combine-lts.Need-returns (combine-claims t) (combine-at t) combine.Post
 combine-returns t c = ended-gives (c .before .before .before .before .before .before .before .before .pre .1 .0) (c .before .before .before .before .before .before .before .before .pre .1 .1 .0) (c .before .before .before .before .before .before .before .before .pre .1 .1 .1) (c .before .ended .ensures) (λ e. omega (arith, c .if1 .taken))
@@ -68,23 +62,11 @@ combine-cut-requires t c κs = ((c .before .before .before .before .before .befo
 combine-combine-requires : (t : ℕ) → combine-lts.Need-combine-requires (combine-claims t) (combine-at t) combine.Post
 combine-combine-requires t c κs = (omega (arith, c .before .before .before .before .before .before .before .before .before .before .before .before .before .before .pre .0, (c .before .before .before .before .cut .ensures) .falls1), ((c .before .before .before .before .before .before .before .before .before .before .before .before .before .before .pre .1 .0), ((c .before .before .before .before .before .before .before .before .before .before .before .before .before .before .pre .1 .1 .0), hi-known (c .before .before .before .before .before .before .before .before .before .before .before .before .before .before .pre .1 .0) (c .before .before .before .before .cut .ensures))))
 
-combine-same-length-2 : (t : ℕ) → combine-lts.Need-same-length-2 (combine-claims t) (combine-at t) combine.Post
-combine-same-length-2 t c = search needs
-
-combine-same-length-3 : (t : ℕ) → combine-lts.Need-same-length-3 (combine-claims t) (combine-at t) combine.Post
-combine-same-length-3 t c = search needs
-
 combine-returns-2 : (t : ℕ) → combine-lts.Need-returns-2 (combine-claims t) (combine-at t) combine.Post
 combine-returns-2 t c = hi-none (c .before .before .before .before .before .before .before .before .before .before .before .before .before .before .before .before .before .before .before .before .args .op) (c .before .before .before .before .before .before .before .before .before .before .before .before .before .before .before .before .before .before .before .before .pre .1 .0) (c .before .before .before .before .before .before .before .before .before .before .before .before .before .before .before .before .before .before .before .before .pre .1 .1 .1) (c .before .before .before .before .before .before .before .before .before .before .cut .ensures) (c .before .before .before .before .before .combine .ensures .0) (c .if2 .taken)
 
 combine-combine-requires-2 : (t : ℕ) → combine-lts.Need-combine-requires-2 (combine-claims t) (combine-at t) combine.Post
 combine-combine-requires-2 t c κs = (omega (arith, c .before .before .before .before .before .before .before .before .before .before .before .before .before .before .before .before .before .before .before .before .before .before .before .before .pre .0, (c .before .before .before .before .before .before .before .before .before .before .before .before .before .before .cut .ensures) .falls0), (hi-ready (c .before .before .before .before .before .before .before .before .before .before .before .before .before .before .before .before .before .before .before .before .before .before .before .before .args .op) (c .before .before .before .before .before .before .before .before .before .before .before .before .before .before .before .before .before .before .before .before .before .before .before .before .pre .1 .0) (c .before .before .before .before .before .before .before .before .before .before .before .before .before .before .before .before .before .before .before .before .before .before .before .before .pre .1 .1 .1) (c .before .before .before .before .before .before .before .before .before .before .before .before .before .before .cut .ensures) (c .before .before .before .before .before .before .before .before .before .combine .ensures .0), (c .before .before .before .before .before .before .before .before .before .combine .ensures .1 (omega (arith, c .before .before .before .before .before .before .before .before .before .combine .ensures .0 .small, c .before .before .before .before .if2 .left)), lo-known (c .before .before .before .before .before .before .before .before .before .before .before .before .before .before .before .before .before .before .before .before .before .before .before .before .args .op) (c .before .before .before .before .before .before .before .before .before .before .before .before .before .before .before .before .before .before .before .before .before .before .before .before .pre .1 .0) (c .before .before .before .before .before .before .before .before .before .before .before .before .before .before .before .before .before .before .before .before .before .before .before .before .pre .1 .1 .1) (c .before .before .before .before .before .before .before .before .before .before .before .before .before .before .cut .ensures) (c .before .before .before .before .before .before .before .before .before .combine .ensures .0) (omega (arith, c .before .before .before .before .before .before .before .before .before .combine .ensures .0 .small, c .before .before .before .before .if2 .left)))))
-
-combine-same-length-4 : (t : ℕ) → combine-lts.Need-same-length-4 (combine-claims t) (combine-at t) combine.Post
-combine-same-length-4 t c = search needs
-
-combine-same-length-5 : (t : ℕ) → combine-lts.Need-same-length-5 (combine-claims t) (combine-at t) combine.Post
-combine-same-length-5 t c = search needs
 
 combine-returns-3 : (t : ℕ) → combine-lts.Need-returns-3 (combine-claims t) (combine-at t) combine.Post
 combine-returns-3 t c = lo-none (c .before .before .before .before .before .before .before .before .before .before .before .before .before .before .before .before .before .before .before .before .before .before .before .before .before .before .before .before .before .before .args .op) (c .before .before .before .before .before .before .before .before .before .before .before .before .before .before .before .before .before .before .before .before .before .before .before .before .before .before .before .before .before .before .pre .1 .0) (c .before .before .before .before .before .before .before .before .before .before .before .before .before .before .before .before .before .before .before .before .before .before .before .before .before .before .before .before .before .before .pre .1 .1 .1) (c .before .before .before .before .before .before .before .before .before .before .before .before .before .before .before .before .before .before .before .before .cut .ensures) (c .before .before .before .before .before .before .before .before .before .before .before .before .before .before .before .combine .ensures .0) (omega (arith, c .before .before .before .before .before .before .before .before .before .before .before .before .before .before .before .combine .ensures .0 .small, c .before .before .before .before .before .before .before .before .before .before .if2 .left)) (c .before .before .before .before .before .combine2 .ensures .0) (c .if3 .taken)
@@ -92,20 +74,11 @@ combine-returns-3 t c = lo-none (c .before .before .before .before .before .befo
 combine-make-requires : (t : ℕ) → combine-lts.Need-make-requires (combine-claims t) (combine-at t) combine.Post
 combine-make-requires t c κs = (c .before .before .before .before .before .before .before .before .combine2 .ensures .0) .indexed
 
-combine-same-length-6 : (t : ℕ) → combine-lts.Need-same-length-6 (combine-claims t) (combine-at t) combine.Post
-combine-same-length-6 t c = search needs
-
-combine-same-length-7 : (t : ℕ) → combine-lts.Need-same-length-7 (combine-claims t) (combine-at t) combine.Post
-combine-same-length-7 t c = search needs
-
 combine-returns-4 : (t : ℕ) → combine-lts.Need-returns-4 (combine-claims t) (combine-at t) combine.Post
 combine-returns-4 t c = last-none (c .before .before .before .before .before .before .before .before .before .before .before .before .before .before .before .before .before .before .before .before .before .before .before .before .before .before .before .before .before .before .before .before .before .before .before .before .before .args .op) (c .before .before .before .before .before .before .before .before .before .before .before .before .before .before .before .before .before .before .before .before .before .before .before .before .before .before .before .before .before .before .before .before .before .before .before .before .before .pre .1 .0) (c .before .before .before .before .before .before .before .before .before .before .before .before .before .before .before .before .before .before .before .before .before .before .before .before .before .before .before .before .before .before .before .before .before .before .before .before .before .pre .1 .1 .1) (c .before .before .before .before .before .before .before .before .before .before .before .before .before .before .before .before .before .before .before .before .before .before .before .before .before .before .before .cut .ensures) (c .before .before .before .before .before .before .before .before .before .before .before .before .before .before .before .before .before .before .before .before .before .before .combine .ensures .0) (omega (arith, c .before .before .before .before .before .before .before .before .before .before .before .before .before .before .before .before .before .before .before .before .before .before .combine .ensures .0 .small, c .before .before .before .before .before .before .before .before .before .before .before .before .before .before .before .before .before .if2 .left)) (c .before .before .before .before .before .before .before .before .before .before .before .before .combine2 .ensures .0) (omega (arith, c .before .before .before .before .before .before .before .before .before .before .before .before .combine2 .ensures .0 .small, c .before .before .before .before .before .before .before .if3 .left)) (c .before .before .before .make .ensures) (c .if4 .taken)
 
 combine-mul-memo : (t : ℕ) → combine-lts.Need-mul-memo (combine-claims t) (combine-at t) combine.Post
 combine-mul-memo t c = omega (arith, packed-small (c .before .before .before .before .before .before .before .before .before .before .before .before .before .before .before .before .before .before .before .before .before .before .before .before .before .before .before .before .before .before .before .before .before .pack .ensures) (omega (arith, (c .before .before .before .before .before .before .before .before .before .before .before .before .before .before .before .before .before .before .before .before .before .before .before .before .before .before .before .before .before .before .before .before .before .before .before .before .before .pre .1 .1 .1) .0, (c .before .before .before .before .before .before .before .before .before .before .before .before .before .before .before .before .before .before .before .before .before .before .before .before .before .before .before .before .before .before .before .before .before .before .before .before .before .pre .1 .1 .1) .1, (c .before .before .before .before .before .before .before .before .before .before .before .before .before .before .before .before .before .before .before .before .before .before .before .before .before .before .before .before .before .before .before .before .before .before .before .before .before .pre .1 .0) .sound .few)) (omega (arith, (c .before .before .before .before .before .before .before .before .before .before .before .before .before .before .before .before .before .before .before .before .before .before .before .before .before .before .before .before .before .before .before .before .before .before .before .before .before .pre .1 .1 .1) .0, (c .before .before .before .before .before .before .before .before .before .before .before .before .before .before .before .before .before .before .before .before .before .before .before .before .before .before .before .before .before .before .before .before .before .before .before .before .before .pre .1 .1 .1) .1, (c .before .before .before .before .before .before .before .before .before .before .before .before .before .before .before .before .before .before .before .before .before .before .before .before .before .before .before .before .before .before .before .before .before .before .before .before .before .pre .1 .0) .sound .few)))
-
-combine-full-requires : (t : ℕ) → combine-lts.Need-full-requires (combine-claims t) (combine-at t) combine.Post
-combine-full-requires t c κs = search needs
 
 combine-add-memo : (t : ℕ) → combine-lts.Need-add-memo (combine-claims t) (combine-at t) combine.Post
 combine-add-memo t c = omega (arith, c .full .ensures, packed-small (c .before .before .before .before .before .before .before .before .before .before .before .before .before .before .before .before .before .before .before .before .before .before .before .before .before .before .before .before .before .before .before .before .before .before .pack .ensures) (omega (arith, (c .before .before .before .before .before .before .before .before .before .before .before .before .before .before .before .before .before .before .before .before .before .before .before .before .before .before .before .before .before .before .before .before .before .before .before .before .before .before .pre .1 .1 .1) .0, (c .before .before .before .before .before .before .before .before .before .before .before .before .before .before .before .before .before .before .before .before .before .before .before .before .before .before .before .before .before .before .before .before .before .before .before .before .before .before .pre .1 .1 .1) .1, (c .before .before .before .before .before .before .before .before .before .before .before .before .before .before .before .before .before .before .before .before .before .before .before .before .before .before .before .before .before .before .before .before .before .before .before .before .before .before .pre .1 .0) .sound .few)) (omega (arith, (c .before .before .before .before .before .before .before .before .before .before .before .before .before .before .before .before .before .before .before .before .before .before .before .before .before .before .before .before .before .before .before .before .before .before .before .before .before .before .pre .1 .1 .1) .0, (c .before .before .before .before .before .before .before .before .before .before .before .before .before .before .before .before .before .before .before .before .before .before .before .before .before .before .before .before .before .before .before .before .before .before .before .before .before .before .pre .1 .1 .1) .1, (c .before .before .before .before .before .before .before .before .before .before .before .before .before .before .before .before .before .before .before .before .before .before .before .before .before .before .before .before .before .before .before .before .before .before .before .before .before .before .pre .1 .0) .sound .few)))
@@ -115,9 +88,6 @@ combine-mul-memo-2 t c = omega (arith, c .before .before .before .before .before
 
 combine-slice-write-memo : (t : ℕ) → combine-lts.Need-slice-write-memo (combine-claims t) (combine-at t) combine.Post
 combine-slice-write-memo t c = omega (arith, c .before .before .before .before .before .before .before .before .before .before .before .before .before .before .before .before .before .before .before .before .before .before .before .before .before .before .before .before .before .before .before .before .before .place .ensures, c .before .before .before .before .before .before .before .before .before .before .before .before .before .before .before .before .before .before .before .before .memo .given, c .before .before .before .before .before .before .before .before .before .before .memo2 .given)
-
-combine-same-length-8 : (t : ℕ) → combine-lts.Need-same-length-8 (combine-claims t) (combine-at t) combine.Post
-combine-same-length-8 t c = search needs
 
 combine-same-length-9 : (t : ℕ) → combine-lts.Need-same-length-9 (combine-claims t) (combine-at t) combine.Post
 combine-same-length-9 t c = simp length-set (c .before .before .before .before .before .before .before .before .before .before .memo2 .given ∙ c .before .before .before .before .before .before .before .before .before .before .before .before .before .before .before .before .before .before .before .before .memo .given)
@@ -144,29 +114,29 @@ pub +combine-spec : {M : Type 1} → statement M
 )
     (combine-at t)
     combine.Post
-    (combine-pack-requires t)
+    (λ c κs. search needs)
     (combine-place-requires t)
     (combine-ended-requires t)
-    (combine-same-length t)
+    (λ c. search needs)
     (combine-returns t)
     (combine-cut-requires t)
     (combine-combine-requires t)
-    (combine-same-length-2 t)
-    (combine-same-length-3 t)
+    (λ c. search needs)
+    (λ c. search needs)
     (combine-returns-2 t)
     (combine-combine-requires-2 t)
-    (combine-same-length-4 t)
-    (combine-same-length-5 t)
+    (λ c. search needs)
+    (λ c. search needs)
     (combine-returns-3 t)
     (combine-make-requires t)
-    (combine-same-length-6 t)
-    (combine-same-length-7 t)
+    (λ c. search needs)
+    (λ c. search needs)
     (combine-returns-4 t)
     (combine-mul-memo t)
-    (combine-full-requires t)
+    (λ c κs. search needs)
     (combine-add-memo t)
     (combine-mul-memo-2 t)
     (combine-slice-write-memo t)
-    (combine-same-length-8 t)
+    (λ c. search needs)
     (combine-same-length-9 t)
     (combine-returns-5 t)

@@ -41,17 +41,8 @@ restrict-claims t = (
 restrict-soon-requires : (t : ℕ) → restrict-lts.Need-soon-requires (restrict-claims t) (restrict-at t) restrict.Post
 restrict-soon-requires t c κs = (c .before .before .before .before .pre .1 .0 .sound, (c .before .before .before .before .pre .1 .0 .keys, (c .before .before .before .before .pre .1 .1 .0, c .before .before .before .before .pre .1 .1 .1)))
 
-restrict-same-length : (t : ℕ) → restrict-lts.Need-same-length (restrict-claims t) (restrict-at t) restrict.Post
-restrict-same-length t c = search needs
-
 restrict-returns : (t : ℕ) → restrict-lts.Need-returns (restrict-claims t) (restrict-at t) restrict.Post
 restrict-returns t c = soon-gives (c .before .before .before .before .before .before .pre .1 .0) (c .before .before .before .before .before .before .pre .1 .1 .0) (c .before .soon .ensures) (λ e. omega (arith, c .if1 .taken))
-
-restrict-wide-requires : (t : ℕ) → restrict-lts.Need-wide-requires (restrict-claims t) (restrict-at t) restrict.Post
-restrict-wide-requires t c κs = search needs
-
-restrict-mul-w : (t : ℕ) → restrict-lts.Need-mul-w (restrict-claims t) (restrict-at t) restrict.Post
-restrict-mul-w t c = search needs
 
 restrict-sub-w : (t : ℕ) → restrict-lts.Need-sub-w (restrict-claims t) (restrict-at t) restrict.Post
 restrict-sub-w t c = omega (arith, c .before .before .before .before .before .before .before .pre .1 .0 .sound .room, c .wide .ensures, c .before .before .before .before .before .before .before .pre .1 .1 .1 .0, c .before .before .soon .ensures .branch (c .before .if1 .left))
@@ -83,9 +74,6 @@ restrict-slice-read-hi t c = omega (arith, c .before .before .before .before .be
 restrict-make-requires : (t : ℕ) → restrict-lts.Need-make-requires (restrict-claims t) (restrict-at t) restrict.Post
 restrict-make-requires t c κs = c .before .before .before .before .before .before .before .before .before .before .before .before .before .before .pre .1 .0 .indexed
 
-restrict-same-length-2 : (t : ℕ) → restrict-lts.Need-same-length-2 (restrict-claims t) (restrict-at t) restrict.Post
-restrict-same-length-2 t c = search needs
-
 restrict-returns-2 : (t : ℕ) → restrict-lts.Need-returns-2 (restrict-claims t) (restrict-at t) restrict.Post
 restrict-returns-2 t c = own-gives (open-of (3 * c .before .before .before .before .before .before .before .before .before .before .wide .result - 5) (c .before .before .before .before .before .before .before .before .before .before .before .before .before .before .before .before .before .pre .1 .0) (c .before .before .before .before .before .before .before .before .before .before .before .before .before .before .before .before .before .pre .1 .1 .0) (c .before .before .before .before .before .before .before .before .before .before .before .before .before .before .before .before .before .pre .1 .1 .1) (c .before .before .before .before .before .before .before .before .before .before .before .before .soon .ensures) (c .before .before .before .before .before .before .before .before .before .before .before .if1 .left) (omega (arith, c .before .before .before .before .before .before .before .before .before .before .wide .ensures))) (c .before .before .before .before .before .before .if2 .taken) (c .before .before .make .ensures)
 
@@ -110,9 +98,6 @@ restrict-returns-4 t c = lo-none (open-of (3 * c .before .before .before .before
 restrict-make-requires-2 : (t : ℕ) → restrict-lts.Need-make-requires-2 (restrict-claims t) (restrict-at t) restrict.Post
 restrict-make-requires-2 t c κs = (c .before .before .before .before .before .before .restrict2 .ensures .0) .indexed
 
-restrict-same-length-5 : (t : ℕ) → restrict-lts.Need-same-length-5 (restrict-claims t) (restrict-at t) restrict.Post
-restrict-same-length-5 t c = search needs
-
 restrict-returns-5 : (t : ℕ) → restrict-lts.Need-returns-5 (restrict-claims t) (restrict-at t) restrict.Post
 restrict-returns-5 t c = last-none (open-of (3 * c .before .before .before .before .before .before .before .before .before .before .before .before .before .before .before .before .before .before .before .before .before .before .before .before .before .before .before .wide .result - 5) (c .before .before .before .before .before .before .before .before .before .before .before .before .before .before .before .before .before .before .before .before .before .before .before .before .before .before .before .before .before .before .before .before .before .before .pre .1 .0) (c .before .before .before .before .before .before .before .before .before .before .before .before .before .before .before .before .before .before .before .before .before .before .before .before .before .before .before .before .before .before .before .before .before .before .pre .1 .1 .0) (c .before .before .before .before .before .before .before .before .before .before .before .before .before .before .before .before .before .before .before .before .before .before .before .before .before .before .before .before .before .before .before .before .before .before .pre .1 .1 .1) (c .before .before .before .before .before .before .before .before .before .before .before .before .before .before .before .before .before .before .before .before .before .before .before .before .before .before .before .before .before .soon .ensures) (c .before .before .before .before .before .before .before .before .before .before .before .before .before .before .before .before .before .before .before .before .before .before .before .before .before .before .before .before .if1 .left) (omega (arith, c .before .before .before .before .before .before .before .before .before .before .before .before .before .before .before .before .before .before .before .before .before .before .before .before .before .before .before .wide .ensures))) (λ e. omega (arith, c .before .before .before .before .before .before .before .before .before .before .before .before .before .before .before .before .before .before .before .before .before .before .before .if2 .left)) (c .before .before .before .before .before .before .before .before .before .before .before .before .before .before .before .before .before .before .restrict .ensures .0) (omega (arith, c .before .before .before .before .before .before .before .before .before .before .before .before .before .before .before .before .before .before .restrict .ensures .0 .small, c .before .before .before .before .before .before .before .before .before .before .before .before .before .before .before .if3 .left)) (c .before .before .before .before .before .before .before .before .before .before .restrict2 .ensures .0) (omega (arith, c .before .before .before .before .before .before .before .before .before .before .restrict2 .ensures .0 .small, c .before .before .before .before .before .before .before .if4 .left)) (c .before .before .before .make2 .ensures) (c .if5 .taken)
 
@@ -124,9 +109,6 @@ restrict-mul-memo t c = omega (arith, c .before .before .before .before .before 
 
 restrict-element-write-memo : (t : ℕ) → restrict-lts.Need-element-write-memo (restrict-claims t) (restrict-at t) restrict.Post
 restrict-element-write-memo t c = omega (arith, c .before .before .before .before .before .before .before .before .before .before .before .before .before .before .before .before .before .before .before .before .before .before .before .before .before .before .before .wide .ensures, c .before .before .before .before .before .before .before .before .before .before .before .before .before .before .before .before .before .before .before .before .before .before .before .before .before .before .before .before .before .before .before .before .before .before .pre .1 .1 .1 .0, c .before .before .before .before .before .before .before .before .before .before .before .before .before .before .before .before .before .before .before .before .before .before .before .before .before .before .before .before .before .before .before .before .before .before .pre .1 .0 .sound .few)
-
-restrict-same-length-6 : (t : ℕ) → restrict-lts.Need-same-length-6 (restrict-claims t) (restrict-at t) restrict.Post
-restrict-same-length-6 t c = search needs
 
 restrict-returns-6 : (t : ℕ) → restrict-lts.Need-returns-6 (restrict-claims t) (restrict-at t) restrict.Post
 restrict-returns-6 t c = last-stored (open-of (3 * c .before .before .before .before .before .before .before .before .before .before .before .before .before .before .before .before .before .before .before .before .before .before .before .before .before .before .before .wide .result - 5) (c .before .before .before .before .before .before .before .before .before .before .before .before .before .before .before .before .before .before .before .before .before .before .before .before .before .before .before .before .before .before .before .before .before .before .pre .1 .0) (c .before .before .before .before .before .before .before .before .before .before .before .before .before .before .before .before .before .before .before .before .before .before .before .before .before .before .before .before .before .before .before .before .before .before .pre .1 .1 .0) (c .before .before .before .before .before .before .before .before .before .before .before .before .before .before .before .before .before .before .before .before .before .before .before .before .before .before .before .before .before .before .before .before .before .before .pre .1 .1 .1) (c .before .before .before .before .before .before .before .before .before .before .before .before .before .before .before .before .before .before .before .before .before .before .before .before .before .before .before .before .before .soon .ensures) (c .before .before .before .before .before .before .before .before .before .before .before .before .before .before .before .before .before .before .before .before .before .before .before .before .before .before .before .before .if1 .left) (omega (arith, c .before .before .before .before .before .before .before .before .before .before .before .before .before .before .before .before .before .before .before .before .before .before .before .before .before .before .before .wide .ensures))) (λ e. omega (arith, c .before .before .before .before .before .before .before .before .before .before .before .before .before .before .before .before .before .before .before .before .before .before .before .if2 .left)) (c .before .before .before .before .before .before .before .before .before .before .before .before .before .before .before .before .before .before .restrict .ensures .0) (omega (arith, c .before .before .before .before .before .before .before .before .before .before .before .before .before .before .before .before .before .before .restrict .ensures .0 .small, c .before .before .before .before .before .before .before .before .before .before .before .before .before .before .before .if3 .left)) (c .before .before .before .before .before .before .before .before .before .before .restrict2 .ensures .0) (omega (arith, c .before .before .before .before .before .before .before .before .before .before .restrict2 .ensures .0 .small, c .before .before .before .before .before .before .before .if4 .left)) (c .before .before .before .make2 .ensures) _ _ (c .before .before .before .before .before .before .before .before .before .before .before .before .before .before .before .before .before .before .before .before .before .before .before .before .before .before .before .wide .ensures) refl (c .before .before .before .before .before .before .before .before .before .before .restrict2 .ensures .1 (omega (arith, c .before .before .before .before .before .before .before .before .before .before .restrict2 .ensures .0 .small, c .before .before .before .before .before .before .before .if4 .left)))
@@ -145,10 +127,10 @@ pub +restrict-spec : {M : Type 1} → statement M
     (restrict-at t)
     restrict.Post
     (restrict-soon-requires t)
-    (restrict-same-length t)
+    (λ c. search needs)
     (restrict-returns t)
-    (restrict-wide-requires t)
-    (restrict-mul-w t)
+    (λ c κs. search needs)
+    (λ c. search needs)
     (restrict-sub-w t)
     (restrict-mul-label t)
     (restrict-slice-read-label t)
@@ -159,7 +141,7 @@ pub +restrict-spec : {M : Type 1} → statement M
     (restrict-mul-hi t)
     (restrict-slice-read-hi t)
     (restrict-make-requires t)
-    (restrict-same-length-2 t)
+    (λ c. search needs)
     (restrict-returns-2 t)
     (restrict-restrict-requires t)
     (restrict-same-length-3 t)
@@ -168,10 +150,10 @@ pub +restrict-spec : {M : Type 1} → statement M
     (restrict-same-length-4 t)
     (restrict-returns-4 t)
     (restrict-make-requires-2 t)
-    (restrict-same-length-5 t)
+    (λ c. search needs)
     (restrict-returns-5 t)
     (restrict-add-memo t)
     (restrict-mul-memo t)
     (restrict-element-write-memo t)
-    (restrict-same-length-6 t)
+    (λ c. search needs)
     (restrict-returns-6 t)

@@ -5,21 +5,12 @@ use borrow.Author.Needs.{needs}
 use Rattle.family.proofs.afresh.Statement.{statement}
 use Rattle.family.proofs.afresh.Tie as tie
 
-clear-requires : tie.Need-clear-requires
-clear-requires c κs = search needs
-
 combine-requires : tie.Need-combine-requires
 combine-requires c κs = (c .before .before .before .before .before .before .before .before .before .before .before .pre .0, (stored-fresh _ _ _ _ (omega (arith, c .before .before .before .before .before .before .before .before .before .before .before .pre .1 .0, c .before .before .before .before .before .before .clear .ensures .same)) (cleared-reads (c .before .before .before .before .before .before .clear .ensures)), c .before .before .before .before .before .before .before .before .before .before .before .pre .1 .1))
-
-same-length : tie.Need-same-length
-same-length c = search needs
-
-same-length-2 : tie.Need-same-length-2
-same-length-2 c = search needs
 
 returns : tie.Need-returns
 returns c = c .before .before .before .before .combine .ensures .0
 
 pub afresh-spec : {M : Type 1} → statement M
 afresh-spec =
-    tie.close (tie.spec clear-requires combine-requires same-length same-length-2 returns)
+    tie.close (tie.spec (λ c κs. search needs) combine-requires (λ c. search needs) (λ c. search needs) returns)

@@ -8,26 +8,11 @@ use Rattle.family.proofs.combination.Tie as tie
 slice-read-n : tie.Need-slice-read-n
 slice-read-n c = omega (arith, c .before .before .before .before .pre .0 .sound .room)
 
-remembering-requires : tie.Need-remembering-requires
-remembering-requires c κs = search needs
-
 rollback-requires : tie.Need-rollback-requires
 rollback-requires c κs = c .before .before .before .before .before .before .remembering .ensures .indexed .room
 
-same-length : tie.Need-same-length
-same-length c = search needs
-
-same-length-2 : tie.Need-same-length-2
-same-length-2 c = search needs
-
 returns : tie.Need-returns
 returns c = makes-full (c .before .before .before .before .before .before .before .before .before .remembering .ensures) (c .before .before .before .before .if1 .taken) (c .before .before .before .before .before .before .before .before .before .before .before .before .before .before .before .before .before .before .pre .0 .sound) refl (c .before .before .rollback .ensures)
-
-same-length-3 : tie.Need-same-length-3
-same-length-3 c = search needs
-
-same-length-4 : tie.Need-same-length-4
-same-length-4 c = search needs
 
 returns-2 : tie.Need-returns-2
 returns-2 c = makes-done (c .before .before .before .before .before .remembering .ensures) (λ e. omega (arith, c .if1 .left))
@@ -37,11 +22,11 @@ combination-spec =
     tie.close
     (tie.spec
     slice-read-n
-    remembering-requires
+    (λ c κs. search needs)
     rollback-requires
-    same-length
-    same-length-2
+    (λ c. search needs)
+    (λ c. search needs)
     returns
-    same-length-3
-    same-length-4
+    (λ c. search needs)
+    (λ c. search needs)
     returns-2)

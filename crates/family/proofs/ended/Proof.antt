@@ -22,15 +22,6 @@ returns-5 c = ends-both _ _ _ _ (c .before .if5 .taken) (omega (arith, c .if6 .t
 returns-6 : tie.Need-returns-6
 returns-6 c = ends-both-differ _ _ _ _ (c .before .if5 .taken) (omega (arith, c .if6 .left))
 
-mul-e : tie.Need-mul-e
-mul-e c = search needs
-
-shared-slice-read-e : tie.Need-shared-slice-read-e
-shared-slice-read-e c = search needs
-
-cast-result : tie.Need-cast-result
-cast-result c = search needs
-
 returns-7 : tie.Need-returns-7
 returns-7 c = ends-known _ _ _ _ (c .before .before .before .before .before .args .at) (c .before .before .before .before .before .pre .1) (c .if7 .taken) (omega (arith, c .before .before .before .before .if1 .left)) (omega (arith, c .before .before .before .if3 .left))
 
@@ -47,8 +38,8 @@ ended-spec =
     returns-4
     returns-5
     returns-6
-    mul-e
-    shared-slice-read-e
-    cast-result
+    (λ c. search needs)
+    (λ c. search needs)
+    (λ c. search needs)
     returns-7
     returns-8)

@@ -7,21 +7,12 @@ use Rattle.family.proofs.make.Tie as tie
 returns : tie.Need-returns
 returns c = noded-lo _ _ _ (c .before .before .pre) (c .if1 .taken)
 
-unique-requires : tie.Need-unique-requires
-unique-requires c κs = search needs
-
-same-length : tie.Need-same-length
-same-length c = search needs
-
 returns-2 : tie.Need-returns-2
 returns-2 c = noded-none _ _ _ _ _ _ _ _ (omega (arith, c .before .before .before .before .before .before .before .if1 .left)) (c .if2 .taken) (c .before .before .before .unique .ensures)
-
-same-length-2 : tie.Need-same-length-2
-same-length-2 c = search needs
 
 returns-3 : tie.Need-returns-3
 returns-3 c = noded-made _ _ _ _ _ _ _ _ (omega (arith, c .before .before .before .before .before .before .before .if1 .left)) (omega (arith, c .if2 .left)) (c .before .before .before .unique .ensures)
 
 pub make-spec : {M : Type 1} → statement M
 make-spec =
-    tie.close (tie.spec returns unique-requires same-length returns-2 same-length-2 returns-3)
+    tie.close (tie.spec returns (λ c κs. search needs) (λ c. search needs) returns-2 (λ c. search needs) returns-3)

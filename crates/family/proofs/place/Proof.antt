@@ -5,14 +5,8 @@ use borrow.Author.Needs.{needs}
 use Rattle.family.proofs.place.Statement.{statement}
 use Rattle.family.proofs.place.Tie as tie
 
-mul-result : tie.Need-mul-result
-mul-result c = search needs
-
-sub-result : tie.Need-sub-result
-sub-result c = search needs
-
 returns : tie.Need-returns
 returns c = omega (arith, and-le-r (c .args .pair * 4021839121 / 1048576) (c .args .places - 1))
 
 pub place-spec : {M : Type 1} → statement M
-place-spec = tie.close (tie.spec mul-result sub-result returns)
+place-spec = tie.close (tie.spec (λ c. search needs) (λ c. search needs) returns)

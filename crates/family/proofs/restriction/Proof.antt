@@ -17,14 +17,8 @@ restrict-requires c κs = (c .before .before .before .before .before .before .be
 rollback-requires : tie.Need-rollback-requires
 rollback-requires c κs = c .before .before .before .before .restrict .ensures .0 .indexed .room
 
-same-length : tie.Need-same-length
-same-length c = search needs
-
 returns : tie.Need-returns
 returns c = makes-full (c .before .before .before .before .before .before .before .restrict .ensures .0) (c .before .before .before .before .if1 .taken) (c .before .before .before .before .before .before .before .before .before .before .before .before .before .before .before .pre .0 .sound) refl (c .before .before .rollback .ensures)
-
-same-length-2 : tie.Need-same-length-2
-same-length-2 c = search needs
 
 returns-2 : tie.Need-returns-2
 returns-2 c = makes-done (c .before .before .before .restrict .ensures .0) (λ e. omega (arith, c .if1 .left))
@@ -36,7 +30,7 @@ restriction-spec =
     slice-read-n
     restrict-requires
     rollback-requires
-    same-length
+    (λ c. search needs)
     returns
-    same-length-2
+    (λ c. search needs)
     returns-2)

@@ -11,47 +11,11 @@ returns c = soon-end-with (c .before .before .before .before .pre .0) (c .before
 returns-2 : tie.Need-returns-2
 returns-2 c = soon-end-without (c .before .before .before .before .pre .0) (c .before .before .before .before .pre .1 .0) _ _ (c .before .before .before .before .pre .1 .1 .1 .0) (omega arith) (c .if2 .left)
 
-wide-requires : tie.Need-wide-requires
-wide-requires c κs = search needs
-
-mul-w : tie.Need-mul-w
-mul-w c = search needs
-
-sub-w : tie.Need-sub-w
-sub-w c = search needs
-
-mul-label : tie.Need-mul-label
-mul-label c = search needs
-
-shared-slice-read-label : tie.Need-shared-slice-read-label
-shared-slice-read-label c = search needs
-
 returns-3 : tie.Need-returns-3
 returns-3 c = soon-own-with (c .before .before .before .before .before .before .before .pre .0) (c .before .before .before .before .before .before .before .pre .1 .0) _ _ (c .before .before .before .before .before .before .before .pre .1 .1 .1 .0) (omega (arith, c .before .before .before .before .if1 .left)) (3 * c .before .before .before .wide .result - 5) (omega (arith, c .before .before .before .wide .ensures)) (c .if4 .taken)
 
-add-result : tie.Need-add-result
-add-result c = search needs
-
-mul-result : tie.Need-mul-result
-mul-result c = search needs
-
-shared-slice-read-result : tie.Need-shared-slice-read-result
-shared-slice-read-result c = search needs
-
 returns-4 : tie.Need-returns-4
 returns-4 c = soon-own-without (c .before .before .before .before .before .before .before .before .pre .0) (c .before .before .before .before .before .before .before .before .pre .1 .0) _ _ (c .before .before .before .before .before .before .before .before .pre .1 .1 .1 .0) (omega (arith, c .before .before .before .before .before .if1 .left)) (3 * c .before .before .before .before .wide .result - 5) (omega (arith, c .before .before .before .before .wide .ensures)) (c .before .before .if3 .taken) (c .before .if4 .left)
-
-wide-requires-2 : tie.Need-wide-requires-2
-wide-requires-2 c κs = search needs
-
-wide-requires-3 : tie.Need-wide-requires-3
-wide-requires-3 c κs = search needs
-
-mul-if5 : tie.Need-mul-if5
-mul-if5 c = search needs
-
-shared-slice-read-if5 : tie.Need-shared-slice-read-if5
-shared-slice-read-if5 c = search needs
 
 mul-if5-2 : tie.Need-mul-if5-2
 mul-if5-2 c = omega (arith, c .before .before .wide2 .ensures, label-known (c .before .before .before .before .before .before .before .before .before .pre .0) (c .before .before .before .before .before .before .before .before .before .args .f) (3 * c .before .before .before .before .before .wide .result - 5) (omega (arith, c .before .before .before .before .before .before .if1 .left)) (c .before .before .before .before .before .before .before .before .before .pre .1 .1 .1 .0) (omega (arith, c .before .before .before .before .before .wide .ensures)))
@@ -65,15 +29,6 @@ returns-5 c = soon-late-with (c .before .before .before .before .before .before 
 returns-6 : tie.Need-returns-6
 returns-6 c = soon-late-without (c .before .before .before .before .before .before .before .before .before .before .before .before .pre .0) (c .before .before .before .before .before .before .before .before .before .before .before .before .pre .1 .0) _ _ (c .before .before .before .before .before .before .before .before .before .before .before .before .pre .1 .1 .1 .0) (omega (arith, c .before .before .before .before .before .before .before .before .before .if1 .left)) (3 * c .before .before .before .before .before .before .before .before .wide .result - 5) (omega (arith, c .before .before .before .before .before .before .before .before .wide .ensures)) (rw (c .before .before .before .before .before .wide2 .ensures, c .before .before .before .before .wide3 .ensures) at (c .before .if5 .taken)) (c .if6 .left)
 
-mul-e : tie.Need-mul-e
-mul-e c = search needs
-
-element-copy-out-e : tie.Need-element-copy-out-e
-element-copy-out-e c = search needs
-
-sub-result : tie.Need-sub-result
-sub-result c = search needs
-
 returns-7 : tie.Need-returns-7
 returns-7 c = rw (c .before .before .before .before .before .before .before .before .before .wide .ensures) (soon-answer (c .before .before .before .before .before .before .before .before .before .before .before .before .before .pre .0) (c .before .before .before .before .before .before .before .before .before .before .before .before .before .pre .1 .0) _ _ (c .before .before .before .before .before .before .before .before .before .before .before .before .before .pre .1 .1 .1 .0) _ _ (c .before .before .before .before .before .before .before .before .before .before .before .before .before .pre .1 .1 .0 .each (c .before .before .before .before .before .before .before .before .before .before .before .before .before .args .f) (omega (arith, rw (c .before .before .before .before .before .before .before .before .before .wide .ensures) at (c .if7 .taken)))))
 
@@ -86,26 +41,26 @@ soon-spec =
     (tie.spec
     returns
     returns-2
-    wide-requires
-    mul-w
-    sub-w
-    mul-label
-    shared-slice-read-label
+    (λ c κs. search needs)
+    (λ c. search needs)
+    (λ c. search needs)
+    (λ c. search needs)
+    (λ c. search needs)
     returns-3
-    add-result
-    mul-result
-    shared-slice-read-result
+    (λ c. search needs)
+    (λ c. search needs)
+    (λ c. search needs)
     returns-4
-    wide-requires-2
-    wide-requires-3
-    mul-if5
-    shared-slice-read-if5
+    (λ c κs. search needs)
+    (λ c κs. search needs)
+    (λ c. search needs)
+    (λ c. search needs)
     mul-if5-2
     shared-slice-read-if5-2
     returns-5
     returns-6
-    mul-e
-    element-copy-out-e
-    sub-result
+    (λ c. search needs)
+    (λ c. search needs)
+    (λ c. search needs)
     returns-7
     returns-8)

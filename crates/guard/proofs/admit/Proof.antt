@@ -8,9 +8,6 @@ use borrow.Author.Needs.{needs}
 use Rattle.guard.proofs.admit.Statement.{statement}
 use Rattle.guard.proofs.admit.Tie as tie
 
-packages-refusal-requires : tie.Need-packages-refusal-requires
-packages-refusal-requires c κs = search needs
-
 returns : tie.Need-returns
 returns c = admitted-packages (c .before .before .before .before .before .args .packages .now) (c .before .before .before .before .before .args .m) (c .before .packages-refusal .result) (c .before .packages-refusal .ensures) (c .if1 .taken)
 
@@ -26,15 +23,9 @@ slice-aggregate-check c = sym (ap length (c .before .before .before .keys .ensur
 check-requires : tie.Need-check-requires
 check-requires c κs = c .before .before .before .before .before .before .before .before .before .before .before .before .pre .index
 
-same-length : tie.Need-same-length
-same-length c = search needs
-
 returns-2 : tie.Need-returns-2
 returns-2 c = admitted-spoilt (c .before .before .before .before .before .before .before .before .before .before .before .before .before .before .args .packages .now) (c .before .before .before .before .before .before .before .before .before .before .before .before .before .before .args .m) (sym (c .before .before .before .before .before .before .before .before .before .before .packages-refusal .ensures) ∙ c .before .before .before .before .before .before .before .before .before .if1 .left)
     (rw (c .before .before .before .before .before .before .before .keys .ensures .are) at (c .before .check .ensures)) (not-true _ (c .if2 .taken))
-
-same-length-2 : tie.Need-same-length-2
-same-length-2 c = search needs
 
 returns-3 : tie.Need-returns-3
 returns-3 c = admitted-sound (c .before .before .before .before .before .before .before .before .before .before .before .before .before .before .args .packages .now) (c .before .before .before .before .before .before .before .before .before .before .before .before .before .before .args .m) (sym (c .before .before .before .before .before .before .before .before .before .before .packages-refusal .ensures) ∙ c .before .before .before .before .before .before .before .before .before .if1 .left)
@@ -44,13 +35,13 @@ pub admit-spec : {M : Type 1} → statement M
 admit-spec =
     tie.close
     (tie.spec
-    packages-refusal-requires
+    (λ c κs. search needs)
     returns
     keys-requires
     slice-reshare-prefix-check
     slice-aggregate-check
     check-requires
-    same-length
+    (λ c. search needs)
     returns-2
-    same-length-2
+    (λ c. search needs)
     returns-3)

@@ -6,9 +6,6 @@ use borrow.Author.Needs.{needs}
 use Rattle.guard.proofs.packages_refusal.Statement.{statement}
 use Rattle.guard.proofs.packages_refusal.Tie as tie
 
-too-large-requires : tie.Need-too-large-requires
-too-large-requires c κs = search needs
-
 returns : tie.Need-returns
 returns c = sym (hit 1 _ (sym (c .before .too-large .ensures) ∙ c .if1 .taken))
 
@@ -23,4 +20,4 @@ returns-3 c = sym (pass 1 _ (sym (c .before .before .before .too-large .ensures)
 
 pub packages-refusal-spec : {M : Type 1} → statement M
 packages-refusal-spec =
-    tie.close (tie.spec too-large-requires returns clean-requires returns-2 returns-3)
+    tie.close (tie.spec (λ c κs. search needs) returns clean-requires returns-2 returns-3)

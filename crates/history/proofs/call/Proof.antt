@@ -6,9 +6,6 @@ use borrow.Author.Needs.{needs}
 use Rattle.history.proofs.call.Statement.{statement}
 use Rattle.history.proofs.call.Tie as tie
 
-asked-requires : tie.Need-asked-requires
-asked-requires c κs = search needs
-
 slice-relend-prefix-dispatch : tie.Need-slice-relend-prefix-dispatch
 slice-relend-prefix-dispatch c = rw (c .before .asked .ensures) (fitting _ _ (c .before .before .before .before .before .before .pre .1) .room-for)
 
@@ -24,12 +21,6 @@ cast-dispatch-2 c = record { fits = rw (c .before .before .before .before .asked
 dispatch-requires : tie.Need-dispatch-requires
 dispatch-requires c κs = rw (c .before .before .before .before .asked .ensures) (fitting _ _ (c .before .before .before .before .before .before .before .before .before .pre .1) .first)
 
-same-length : tie.Need-same-length
-same-length c = search needs
-
-same-length-2 : tie.Need-same-length-2
-same-length-2 c = search needs
-
 returns : tie.Need-returns
 returns c = step-request _ _ _ _ _ _ _ (c .before .before .before .before .before .before .before .before .before .asked .ensures) (length-take-le _ _ (rw (c .before .before .before .before .before .before .before .before .before .asked .ensures) (fitting _ _ (c .before .before .before .before .before .before .before .before .before .before .before .before .before .before .pre .1) .room-for))) (c .before .before .before .before .dispatch .ensures)
 
@@ -37,12 +28,12 @@ pub call-spec : {M : Type 1} → statement M
 call-spec =
     tie.close
     (tie.spec
-    asked-requires
+    (λ c κs. search needs)
     slice-relend-prefix-dispatch
     slice-aggregate-dispatch
     cast-dispatch
     cast-dispatch-2
     dispatch-requires
-    same-length
-    same-length-2
+    (λ c. search needs)
+    (λ c. search needs)
     returns)

@@ -8,17 +8,8 @@ use borrow.Author.Needs.{needs}
 use Rattle.history.proofs.mark.Statement.{statement}
 use Rattle.history.proofs.mark.Tie as tie
 
-enum-known-o : tie.Need-enum-known-o
-enum-known-o c = search needs
-
-wide-requires : tie.Need-wide-requires
-wide-requires c κs = search needs
-
 element-write-given : tie.Need-element-write-given
 element-write-given c = omega (arith, c .wide .ensures, c .before .before .before .before .pre _ (ap outcomeReply (c .before .before .o .given .1)))
-
-enum-told : tie.Need-enum-told
-enum-told c = search needs
 
 returns : tie.Need-returns
 returns c = ap (λ (a : ℕ). set (c .before .before .before .before .args .given .now) a 1) (c .wide .ensures) ∙ sym (ap (λ o. noted (outcomeReply o) (c .before .before .before .before .args .given .now)) (c .before .before .o .given .1))
@@ -28,4 +19,4 @@ returns-2 c = sym (ap (λ o. noted (outcomeReply o) (c .before .before .args .gi
 
 pub mark-spec : {M : Type 1} → statement M
 mark-spec =
-    tie.close (tie.spec enum-known-o wide-requires element-write-given enum-told returns returns-2)
+    tie.close (tie.spec (λ c. search needs) (λ c κs. search needs) element-write-given (λ c. search needs) returns returns-2)

@@ -8,21 +8,15 @@ use Rattle.history.proofs.operands_pass.Tie as tie
 returns : tie.Need-returns
 returns c = no-operand _ _ (c .if1 .taken)
 
-passes-requires : tie.Need-passes-requires
-passes-requires c κs = search needs
-
 returns-2 : tie.Need-returns-2
 returns-2 c = first-fails _ _ (c .before .before .if1 .left) (sym (c .before .passes .ensures) ∙ not-true _ (c .if2 .taken))
 
 returns-3 : tie.Need-returns-3
 returns-3 c = first-only _ _ (c .before .before .before .before .if1 .left) (sym (c .before .before .before .passes .ensures) ∙ not-false _ (c .before .before .if2 .left)) (c .if3 .taken)
 
-passes-requires-2 : tie.Need-passes-requires-2
-passes-requires-2 c κs = search needs
-
 returns-4 : tie.Need-returns-4
 returns-4 c = c .passes2 .ensures ∙ then-second _ _ (c .before .before .before .before .before .if1 .left) (sym (c .before .before .before .before .passes .ensures) ∙ not-false _ (c .before .before .before .if2 .left)) (c .before .if3 .left)
 
 pub operands-pass-spec : {M : Type 1} → statement M
 operands-pass-spec =
-    tie.close (tie.spec returns passes-requires returns-2 returns-3 passes-requires-2 returns-4)
+    tie.close (tie.spec returns (λ c κs. search needs) returns-2 returns-3 (λ c κs. search needs) returns-4)

@@ -15,21 +15,9 @@ returns-2 : tie.Need-returns-2
 unfolding runs
 returns-2 c = goes _ (lt-ltb _ _ (c .before .if1 .left)) (stop _ (le-ltb _ _ (c .if2 .taken)))
 
-asked-requires : tie.Need-asked-requires
-asked-requires c κs = search needs
-
-fits-requires : tie.Need-fits-requires
-fits-requires c κs = search needs
-
 returns-3 : tie.Need-returns-3
 unfolding runs
 returns-3 c = goes _ (lt-ltb _ _ (c .before .before .before .before .if1 .left)) (goes _ (lt-ltb _ _ (c .before .before .before .if2 .left)) (stop _ (rw (c .before .before .asked .ensures) at (sym (c .before .fits2 .ensures) ∙ not-true _ (c .if3 .taken)))))
-
-nodes-requires : tie.Need-nodes-requires
-nodes-requires c κs = search needs
-
-operands-pass-requires : tie.Need-operands-pass-requires
-operands-pass-requires c κs = search needs
 
 returns-4 : tie.Need-returns-4
 unfolding runs
@@ -41,9 +29,9 @@ ready-spec =
     (tie.spec
     returns
     returns-2
-    asked-requires
-    fits-requires
+    (λ c κs. search needs)
+    (λ c κs. search needs)
     returns-3
-    nodes-requires
-    operands-pass-requires
+    (λ c κs. search needs)
+    (λ c κs. search needs)
     returns-4)

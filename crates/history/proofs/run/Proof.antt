@@ -16,17 +16,8 @@ Inv-loop packages t₀ work₀ script out₀ given₀ places room i₀ t work ou
 abbrev μ-loop : tie.MeasureT-loop
 μ-loop packages t₀ work₀ script out₀ given₀ places room i₀ t work out given i = length out₀ / 3 - i
 
-clear-requires : tie.Need-clear-requires Inv-loop μ-loop
-clear-requires c κs = search needs
-
-mark-first-requires : tie.Need-mark-first-requires Inv-loop μ-loop
-mark-first-requires c κs = search needs
-
 loop-holds : tie.Need-loop-holds Inv-loop μ-loop
 loop-holds c = (running-start _ _ _ _ _ _ (length (c .before .before .before .before .before .before .before .before .before .before .before .args .t .now)) 65536 refl (c .mark-first .ensures) (c .before .before .before .before .clear .ensures), refl)
-
-ready-requires : tie.Need-ready-requires Inv-loop μ-loop
-ready-requires c κs = search needs
 
 call-requires : tie.Need-call-requires Inv-loop μ-loop
 call-requires c κs = let k = may-run _ _ _ _ _ (sym (c .before .before .before .ready .ensures) ∙ c .before .before .if1 .taken) in (k .there, rw (c .before .before .before .before .before .before .loop .inv .1) (k .fit))
@@ -64,10 +55,10 @@ run-spec =
     (tie.spec
     Inv-loop
     μ-loop
-    clear-requires
-    mark-first-requires
+    (λ c κs. search needs)
+    (λ c κs. search needs)
     loop-holds
-    ready-requires
+    (λ c κs. search needs)
     call-requires
     store-requires
     mark-requires

@@ -11,11 +11,8 @@ returns c =
     sym (lt-below (c .before .args .x) (c .before .args .m)
     (subst⁻¹ (λ (m : ℕ). c .before .args .x < 2 ^ m) (c .if1 .taken) (c .before .fits .x .fits)))
 
-shr-result : tie.Need-shr-result
-shr-result c = search needs
-
 returns-2 : tie.Need-returns-2
 returns-2 c = below-shift (c .before .args .x) (c .before .args .m)
 
 pub below-spec : {M : Type 1} → statement M
-below-spec = tie.close (tie.spec returns shr-result returns-2)
+below-spec = tie.close (tie.spec returns (λ c. search needs) returns-2)

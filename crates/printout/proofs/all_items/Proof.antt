@@ -11,9 +11,6 @@ use Rattle.printout.proofs.all_items.Tie as tie
 returns : tie.Need-returns
 returns c = sym (ap allItems (c .if1 .taken))
 
-shl-result : tie.Need-shl-result
-shl-result c = search needs
-
 sub-result : tie.Need-sub-result
 sub-result c = omega (arith, shl-one 64 (c .before .args .m) (omega (arith, c .if1 .left, c .before .pre)), pow-pos (c .before .args .m))
 
@@ -21,4 +18,4 @@ returns-2 : tie.Need-returns-2
 returns-2 c = ap (λ (x : ℕ). x - 1) (shl-one 64 (c .before .args .m) (omega (arith, c .if1 .left, c .before .pre)))
 
 pub all-items-spec : {M : Type 1} → statement M
-all-items-spec = tie.close (tie.spec returns shl-result sub-result returns-2)
+all-items-spec = tie.close (tie.spec returns (λ c. search needs) sub-result returns-2)

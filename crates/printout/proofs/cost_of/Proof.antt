@@ -18,23 +18,8 @@ abbrev μ-loop : tie.MeasureT-loop
 loop-holds : tie.Need-loop-holds Inv-loop μ-loop
 loop-holds c = (omega arith, cost-none (c .before .before .args .costs .now) (c .before .before .args .list .now), omega arith)
 
-mul-p : tie.Need-mul-p Inv-loop μ-loop
-mul-p c = search needs
-
-shared-slice-read-p : tie.Need-shared-slice-read-p Inv-loop μ-loop
-shared-slice-read-p c = search needs
-
-price-requires : tie.Need-price-requires Inv-loop μ-loop
-price-requires c κs = search needs
-
 add-sum : tie.Need-add-sum Inv-loop μ-loop
 add-sum c = omega (arith, c .price .ensures .1, c .before .before .before .before .before .before .pre)
-
-add-i : tie.Need-add-i Inv-loop μ-loop
-add-i c = search needs
-
-loop-less : tie.Need-loop-less Inv-loop μ-loop
-loop-less c = search needs
 
 loop-again : tie.Need-loop-again Inv-loop μ-loop
 loop-again c = (omega arith, omega (arith, c .before .before .before .loop .inv .1, c .price .ensures .0, cost-more (c .before .before .before .before .before .before .args .costs .now) (c .before .before .before .before .before .before .args .list .now) (c .before .before .before .loop .i) (c .before .before .loop-test .taken)), omega (arith, c .price .ensures .1))
@@ -49,11 +34,11 @@ cost-of-spec =
     Inv-loop
     μ-loop
     loop-holds
-    mul-p
-    shared-slice-read-p
-    price-requires
+    (λ c. search needs)
+    (λ c. search needs)
+    (λ c κs. search needs)
     add-sum
-    add-i
-    loop-less
+    (λ c. search needs)
+    (λ c. search needs)
     loop-again
     returns)

@@ -10,24 +10,6 @@ use borrow.Author.Needs.{needs}
 use Rattle.printout.proofs.lines.Statement.{statement}
 use Rattle.printout.proofs.lines.Tie as tie
 
-slice-aggregate-read : tie.Need-slice-aggregate-read
-slice-aggregate-read c = search needs
-
-slice-aggregate-read-2 : tie.Need-slice-aggregate-read-2
-slice-aggregate-read-2 c = search needs
-
-read-requires : tie.Need-read-requires
-read-requires c κs = search needs
-
-enum-known-reading : tie.Need-enum-known-reading
-enum-known-reading c = search needs
-
-put-refused-requires : tie.Need-put-refused-requires
-put-refused-requires c κs = search needs
-
-enum-known-reading-2 : tie.Need-enum-known-reading-2
-enum-known-reading-2 c = search needs
-
 array-share-prefix-packages : tie.Need-array-share-prefix-packages
 array-share-prefix-packages c =
     let g = read-gave (c .before .before .before .before .before .before .before .before .before .args .file .now) (length-replicate {A = ℕ} 512 0) (length-replicate {A = ℕ} 512 0) (c .before .before .before .before .before .read .ensures) _ _ _ (c .before .reading2 .given .1) in
@@ -68,12 +50,12 @@ pub lines-spec : {M : Type 1} → statement M
 lines-spec =
     tie.close
     (tie.spec
-    slice-aggregate-read
-    slice-aggregate-read-2
-    read-requires
-    enum-known-reading
-    put-refused-requires
-    enum-known-reading-2
+    (λ c. search needs)
+    (λ c. search needs)
+    (λ c κs. search needs)
+    (λ c. search needs)
+    (λ c κs. search needs)
+    (λ c. search needs)
     array-share-prefix-packages
     slice-aggregate-put-solution
     array-share-prefix-costs

@@ -5,12 +5,6 @@ use borrow.Author.Needs.{needs}
 use Rattle.printout.proofs.placed.Statement.{statement}
 use Rattle.printout.proofs.placed.Tie as tie
 
-enum-known-p : tie.Need-enum-known-p
-enum-known-p c = search needs
-
-enum-told : tie.Need-enum-told
-enum-told c = search needs
-
 returns : tie.Need-returns
 returns c = λ k e. gives-same (sym (ap placeReply (c .before .p .given .1)) ∙ e)
 
@@ -18,4 +12,4 @@ returns-2 : tie.Need-returns-2
 returns-2 c = λ k e. no-refusal (sym (ap placeReply (c .enum-told .given .1)) ∙ e)
 
 pub placed-spec : {M : Type 1} → statement M
-placed-spec = tie.close (tie.spec enum-known-p enum-told returns returns-2)
+placed-spec = tie.close (tie.spec (λ c. search needs) (λ c. search needs) returns returns-2)

@@ -5,15 +5,6 @@ use borrow.Author.Needs.{needs}
 use Rattle.printout.proofs.price.Statement.{statement}
 use Rattle.printout.proofs.price.Tie as tie
 
-mul-wide : tie.Need-mul-wide
-mul-wide c = search needs
-
-shared-slice-read-wide : tie.Need-shared-slice-read-wide
-shared-slice-read-wide c = search needs
-
-wide-requires : tie.Need-wide-requires
-wide-requires c κs = search needs
-
 returns : tie.Need-returns
 returns c = (c .wide .ensures, omega (arith, c .wide .ensures, c .before .shared-slice-known2 .given (c .before .before .before .before .args .p)))
 
@@ -21,4 +12,4 @@ returns-2 : tie.Need-returns-2
 returns-2 c = (sym (List·getD-eq-default (c .before .before .args .costs .now) 0 (omega (arith, c .if1 .left))), omega arith)
 
 pub price-spec : {M : Type 1} → statement M
-price-spec = tie.close (tie.spec mul-wide shared-slice-read-wide wide-requires returns returns-2)
+price-spec = tie.close (tie.spec (λ c. search needs) (λ c. search needs) (λ c κs. search needs) returns returns-2)

@@ -11,21 +11,6 @@ use borrow.Author.Needs.{needs}
 use Rattle.printout.proofs.put_answer.Statement.{statement}
 use Rattle.printout.proofs.put_answer.Tie as tie
 
-add-m : tie.Need-add-m
-add-m c = search needs
-
-count-requires : tie.Need-count-requires
-count-requires c κs = search needs
-
-enum-known-counted : tie.Need-enum-known-counted
-enum-known-counted c = search needs
-
-put-refused-requires : tie.Need-put-refused-requires
-put-refused-requires c κs = search needs
-
-enum-known-counted-2 : tie.Need-enum-known-counted-2
-enum-known-counted-2 c = search needs
-
 put-sheet-requires : tie.Need-put-sheet-requires
 put-sheet-requires c κs =
     let a = c .before .before .before .before .before .before .before .before .before .before .before .before .before .before .before .args in
@@ -38,12 +23,6 @@ put-sheet-requires c κs =
       (c .before .before .before .before .before .before .before .before .before .before .before .before .before .before .before .pre .1 .0, (q .1, c .before .before .before .before .before .before .before .before .before .before .before .before .before .before .before .pre .1 .1)),
     )
 
-same-length : tie.Need-same-length
-same-length c = search needs
-
-same-length-2 : tie.Need-same-length-2
-same-length-2 c = search needs
-
 returns : tie.Need-returns
 unfolding answerText
 returns c =
@@ -51,12 +30,6 @@ returns c =
     let k = count-left (c .before .before .before .before .before .before .before .before .before .before .before .before .before .before .before .before .before .pre .0) in
     let q = was-refused _ (countRefusal (a .packages .now) (a .c .s + a .c .t) (a .table .now) (a .c .answer) (length (a .work .now))) (length (familyAt (a .table .now) (a .c .answer))) (sym (ap countReply (c .before .before .before .before .before .counted .given .1)) ∙ c .before .before .before .before .before .before .before .before .before .count .ensures .result) in
     holds-same (said _ (sheet (a .c .s) (a .c .t) (length (a .packages .now)) (a .costs .now) (familyAt (a .table .now) (a .c .answer)) (a .c .made) (a .c .steps)) (sym k ∙ q .0) (q .1)) (from-start (c .before .before .put-refused .ensures))
-
-same-length-3 : tie.Need-same-length-3
-same-length-3 c = search needs
-
-same-length-4 : tie.Need-same-length-4
-same-length-4 c = search needs
 
 returns-2 : tie.Need-returns-2
 unfolding answerText
@@ -70,15 +43,15 @@ pub put-answer-spec : {M : Type 1} → statement M
 put-answer-spec =
     tie.close
     (tie.spec
-    add-m
-    count-requires
-    enum-known-counted
-    put-refused-requires
-    enum-known-counted-2
+    (λ c. search needs)
+    (λ c κs. search needs)
+    (λ c. search needs)
+    (λ c κs. search needs)
+    (λ c. search needs)
     put-sheet-requires
-    same-length
-    same-length-2
+    (λ c. search needs)
+    (λ c. search needs)
     returns
-    same-length-3
-    same-length-4
+    (λ c. search needs)
+    (λ c. search needs)
     returns-2)

@@ -12,26 +12,8 @@ use borrow.Author.Needs.{needs}
 use Rattle.printout.proofs.put_last.Statement.{statement}
 use Rattle.printout.proofs.put_last.Tie as tie
 
-slice-aggregate-put-text : tie.Need-slice-aggregate-put-text
-slice-aggregate-put-text c = search needs
-
-put-text-requires : tie.Need-put-text-requires
-put-text-requires c κs = search needs
-
-same-length : tie.Need-same-length
-same-length c = search needs
-
 returns : tie.Need-returns
 returns c = puts-same (last-none (c .before .before .before .before .before .before .before .before .before .before .before .args .costs .now) (familyAt (c .before .before .before .before .before .before .before .before .before .before .before .args .t .now) (c .before .before .before .before .before .before .before .before .before .before .before .args .a)) (sym (c .before .before .before .before .before .if1 .taken) ∙ c .before .before .before .before .before .before .before .before .before .before .before .pre .1 .1)) (c .before .before .put-text .ensures)
-
-slice-aggregate-cheapest : tie.Need-slice-aggregate-cheapest
-slice-aggregate-cheapest c = search needs
-
-cheapest-requires : tie.Need-cheapest-requires
-cheapest-requires c κs = search needs
-
-priced-requires : tie.Need-priced-requires
-priced-requires c κs = search needs
 
 array-share-prefix-page : tie.Need-array-share-prefix-page
 array-share-prefix-page c =
@@ -44,21 +26,6 @@ slice-aggregate-place c =
     let l : 0 < length (familyAt (c .before .before .before .before .before .before .before .before .before .before .before .before .before .before .args .t .now) (c .before .before .before .before .before .before .before .before .before .before .before .before .before .before .args .a)) = omega (arith, c .before .before .before .before .before .before .before .before .if1 .left, c .before .before .before .before .before .before .before .before .before .before .before .before .before .before .pre .1 .1) in
     let g = priced-page (c .before .before .before .before .before .before .before .before .before .before .before .before .before .before .pre .0) (c .before .before .before .before .before .before .before .before .before .before .before .before .before .before .args .costs .now) (c .before .before .before .before .before .before .before .before .before .before .before .before .before .before .pre .1 .0) l (omega arith) (c .before .before .before .before .before .cheapest .ensures) (c .before .priced .ensures) in
     sym (length-take-le (c .before .priced .result) (c .before .before .before .before .before .cheapest .last .1 .1 .1 .1 .1 .1 .0) (omega (arith, g .0, c .before .before .page2 .given)))
-
-place-requires : tie.Need-place-requires
-place-requires c κs = search needs
-
-placed-requires : tie.Need-placed-requires
-placed-requires c κs = search needs
-
-put-cheapest-requires : tie.Need-put-cheapest-requires
-put-cheapest-requires c κs = search needs
-
-same-length-2 : tie.Need-same-length-2
-same-length-2 c = search needs
-
-same-length-3 : tie.Need-same-length-3
-same-length-3 c = search needs
 
 returns-2 : tie.Need-returns-2
 returns-2 c =
@@ -73,18 +40,18 @@ pub put-last-spec : {M : Type 1} → statement M
 put-last-spec =
     tie.close
     (tie.spec
-    slice-aggregate-put-text
-    put-text-requires
-    same-length
+    (λ c. search needs)
+    (λ c κs. search needs)
+    (λ c. search needs)
     returns
-    slice-aggregate-cheapest
-    cheapest-requires
-    priced-requires
+    (λ c. search needs)
+    (λ c κs. search needs)
+    (λ c κs. search needs)
     array-share-prefix-page
     slice-aggregate-place
-    place-requires
-    placed-requires
-    put-cheapest-requires
-    same-length-2
-    same-length-3
+    (λ c κs. search needs)
+    (λ c κs. search needs)
+    (λ c κs. search needs)
+    (λ c. search needs)
+    (λ c. search needs)
     returns-2)

@@ -10,15 +10,6 @@ use borrow.Author.Needs.{needs}
 use Rattle.printout.proofs.put_nth.Statement.{statement}
 use Rattle.printout.proofs.put_nth.Tie as tie
 
-slice-aggregate-pick : tie.Need-slice-aggregate-pick
-slice-aggregate-pick c = search needs
-
-pick-requires : tie.Need-pick-requires
-pick-requires c κs = search needs
-
-picked-requires : tie.Need-picked-requires
-picked-requires c κs = search needs
-
 array-share-prefix-page : tie.Need-array-share-prefix-page
 array-share-prefix-page c = let g = picked-page (c .before .before .before .before .before .before .before .before .before .before .before .before .before .pre .0) (c .before .before .before .before .before .before .before .before .before .before .before .before .before .pre .1) (omega arith) (c .before .before .before .before .before .pick .ensures) (c .before .picked .ensures) in omega (arith, g .0, c .before .before .page2 .given)
 
@@ -28,12 +19,6 @@ slice-aggregate-put-timetable c = let g = picked-page (c .before .before .before
 put-timetable-requires : tie.Need-put-timetable-requires
 put-timetable-requires c κs = let g = picked-page (c .before .before .before .before .before .before .before .before .before .before .before .before .before .before .pre .0) (c .before .before .before .before .before .before .before .before .before .before .before .before .before .before .pre .1) (omega arith) (c .before .before .before .before .before .before .pick .ensures) (c .before .before .picked .ensures) in omega (arith, g .0, c .before .before .before .page2 .given, length-take-le (c .before .before .picked .result) (c .before .before .before .before .before .before .pick .last .1 .1 .1 .1 .1 .1 .0) (omega (arith, g .0, c .before .before .before .page2 .given)))
 
-same-length : tie.Need-same-length
-same-length c = search needs
-
-same-length-2 : tie.Need-same-length-2
-same-length-2 c = search needs
-
 returns : tie.Need-returns
 returns c = let g = picked-page (c .before .before .before .before .before .before .before .before .before .before .before .before .before .before .before .before .before .pre .0) (c .before .before .before .before .before .before .before .before .before .before .before .before .before .before .before .before .before .pre .1) (omega arith) (c .before .before .before .before .before .before .before .before .before .pick .ensures) (c .before .before .before .before .before .picked .ensures) in puts-same (ap (λ (u : List ℕ). timetableLine (c .before .before .before .before .before .before .before .before .before .before .before .before .before .before .before .before .before .args .costs .now) (c .before .before .before .before .before .before .before .before .before .before .before .before .before .before .before .before .before .args .k) u) (g .1)) (c .before .before .put-timetable .ensures)
 
@@ -41,12 +26,12 @@ pub put-nth-spec : {M : Type 1} → statement M
 put-nth-spec =
     tie.close
     (tie.spec
-    slice-aggregate-pick
-    pick-requires
-    picked-requires
+    (λ c. search needs)
+    (λ c κs. search needs)
+    (λ c κs. search needs)
     array-share-prefix-page
     slice-aggregate-put-timetable
     put-timetable-requires
-    same-length
-    same-length-2
+    (λ c. search needs)
+    (λ c. search needs)
     returns)

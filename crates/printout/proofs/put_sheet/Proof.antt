@@ -11,38 +11,11 @@ use borrow.Author.Needs.{needs}
 use Rattle.printout.proofs.put_sheet.Statement.{statement}
 use Rattle.printout.proofs.put_sheet.Tie as tie
 
-add-m : tie.Need-add-m
-add-m c = search needs
-
-cast-put-head : tie.Need-cast-put-head
-cast-put-head c = search needs
-
-cast-put-head-2 : tie.Need-cast-put-head-2
-cast-put-head-2 c = search needs
-
-cast-put-head-3 : tie.Need-cast-put-head-3
-cast-put-head-3 c = search needs
-
-cast-put-head-4 : tie.Need-cast-put-head-4
-cast-put-head-4 c = search needs
-
-put-head-requires : tie.Need-put-head-requires
-put-head-requires c κs = search needs
-
-least-requires : tie.Need-least-requires
-least-requires c κs = search needs
-
 put-timetables-requires : tie.Need-put-timetables-requires
 put-timetables-requires c κs = (c .before .before .before .before .before .before .before .before .before .before .before .before .before .before .before .before .before .pre .0, omega (arith, c .before .before .least .ensures, c .before .before .before .before .before .before .before .before .before .before .before .before .before .before .before .before .before .pre .1 .1 .0))
 
 put-last-requires : tie.Need-put-last-requires
 put-last-requires c κs = (subst⁻¹ (λ (w : ℕ). Listable (c .before .before .before .before .before .before .before .before .before .before .before .before .before .before .before .before .before .before .before .before .before .before .before .before .args .packages .now) (c .before .before .before .before .before .before .before .before .before .before .before .before .before .before .before .before .before .before .before .before .before .before .before .before .args .c .s + c .before .before .before .before .before .before .before .before .before .before .before .before .before .before .before .before .before .before .before .before .before .before .before .before .args .c .t) (c .before .before .before .before .before .before .before .before .before .before .before .before .before .before .before .before .before .before .before .before .before .before .before .before .args .table .now) (c .before .before .before .before .before .before .before .before .before .before .before .before .before .before .before .before .before .before .before .before .before .before .before .before .args .c .answer) w) (c .before .before .before .before .before .work .given) (c .before .before .before .before .before .before .before .before .before .before .before .before .before .before .before .before .before .before .before .before .before .before .before .before .pre .0), (c .before .before .before .before .before .before .before .before .before .before .before .before .before .before .before .before .before .before .before .before .before .before .before .before .pre .1 .0, c .before .before .before .before .before .before .before .before .before .before .before .before .before .before .before .before .before .before .before .before .before .before .before .before .pre .1 .1 .0))
-
-same-length : tie.Need-same-length
-same-length c = search needs
-
-same-length-2 : tie.Need-same-length-2
-same-length-2 c = search needs
 
 returns : tie.Need-returns
 returns c =
@@ -57,15 +30,15 @@ pub put-sheet-spec : {M : Type 1} → statement M
 put-sheet-spec =
     tie.close
     (tie.spec
-    add-m
-    cast-put-head
-    cast-put-head-2
-    cast-put-head-3
-    cast-put-head-4
-    put-head-requires
-    least-requires
+    (λ c. search needs)
+    (λ c. search needs)
+    (λ c. search needs)
+    (λ c. search needs)
+    (λ c. search needs)
+    (λ c κs. search needs)
+    (λ c κs. search needs)
     put-timetables-requires
     put-last-requires
-    same-length
-    same-length-2
+    (λ c. search needs)
+    (λ c. search needs)
     returns)

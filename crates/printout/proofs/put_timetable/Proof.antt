@@ -7,33 +7,6 @@ use borrow.Author.Needs.{needs}
 use Rattle.printout.proofs.put_timetable.Statement.{statement}
 use Rattle.printout.proofs.put_timetable.Tie as tie
 
-cost-of-requires : tie.Need-cost-of-requires
-cost-of-requires c κs = search needs
-
-put-decimal-requires : tie.Need-put-decimal-requires
-put-decimal-requires c κs = search needs
-
-slice-aggregate-put-field : tie.Need-slice-aggregate-put-field
-slice-aggregate-put-field c = search needs
-
-put-field-requires : tie.Need-put-field-requires
-put-field-requires c κs = search needs
-
-put-byte-requires : tie.Need-put-byte-requires
-put-byte-requires c κs = search needs
-
-put-packages-requires : tie.Need-put-packages-requires
-put-packages-requires c κs = search needs
-
-slice-aggregate-put-text : tie.Need-slice-aggregate-put-text
-slice-aggregate-put-text c = search needs
-
-put-text-requires : tie.Need-put-text-requires
-put-text-requires c κs = search needs
-
-same-length : tie.Need-same-length
-same-length c = search needs
-
 returns : tie.Need-returns
 unfolding timetableLine
 returns c =
@@ -49,13 +22,13 @@ pub put-timetable-spec : {M : Type 1} → statement M
 put-timetable-spec =
     tie.close
     (tie.spec
-    cost-of-requires
-    put-decimal-requires
-    slice-aggregate-put-field
-    put-field-requires
-    put-byte-requires
-    put-packages-requires
-    slice-aggregate-put-text
-    put-text-requires
-    same-length
+    (λ c κs. search needs)
+    (λ c κs. search needs)
+    (λ c. search needs)
+    (λ c κs. search needs)
+    (λ c κs. search needs)
+    (λ c κs. search needs)
+    (λ c. search needs)
+    (λ c κs. search needs)
+    (λ c. search needs)
     returns)

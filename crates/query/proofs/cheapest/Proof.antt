@@ -11,29 +11,11 @@ prices-requires c κs = (c .before .before .before .before .before .pre .0, (c .
 measure-cheapest-requires : tie.Need-measure-cheapest-requires
 measure-cheapest-requires c κs = (c .before .before .before .before .before .before .before .before .before .pre .0, (c .before .before .before .before .before .before .before .before .before .pre .1 .0, c .before .before .before .prices .ensures))
 
-same-length : tie.Need-same-length
-same-length c = search needs
-
-returns : tie.Need-returns
-returns c = search needs
-
 write-cheapest-requires : tie.Need-write-cheapest-requires
 write-cheapest-requires c κs = (c .before .before .before .before .before .before .before .before .before .before .before .before .before .pre .0, (c .before .before .before .before .before .before .before .before .before .before .before .before .before .pre .1 .0, (c .before .before .before .before .before .before .before .prices .ensures, omega (arith, c .before .before .before .measure-cheapest .ensures))))
 
-mul-x : tie.Need-mul-x
-mul-x c = search needs
-
-slice-read-x : tie.Need-slice-read-x
-slice-read-x c = search needs
-
 cast-x : tie.Need-cast-x
 cast-x c = let v = bounded (c .before .before .before .before .before .before .before .before .before .before .before .before .before .before .before .before .before .args .costs .now) (c .before .before .before .before .before .before .before .before .before .before .before .before .before .before .before .before .before .pre .0 .table) (λ p. omega (arith, c .before .before .before .before .before .before .before .before .before .before .before .before .before .before .before .before .shared-slice-known .given p)) (c .before .before .before .before .before .before .before .before .before .before .before .before .before .before .before .before .before .args .a) (c .before .before .before .before .before .before .before .before .before .before .before .before .before .before .before .before .before .pre .1 .0 .1) in omega (arith, (c .before .before .before .before .before .before .before .before .before .before .before .prices .ensures .each (c .before .before .before .before .before .before .before .before .before .before .before .before .before .before .before .before .before .args .a) (omega arith)), (c .before .before .before .before .before .before .before .before .before .before .before .before .before .before .before .before .before .pre .0 .table) .sound .few, c .before .before .before .before .before .before .before .before .before .before .before .before .before .before .before .before .before .pre .1 .0 .1)
-
-same-length-2 : tie.Need-same-length-2
-same-length-2 c = search needs
-
-same-length-3 : tie.Need-same-length-3
-same-length-3 c = search needs
 
 returns-2 : tie.Need-returns-2
 returns-2 c = let e = c .before .before .before .write-cheapest .ensures in (e .0, (c .before .before .before .before .before .before .before .before .before .before .before .prices .ensures .each (c .before .before .before .before .before .before .before .before .before .before .before .before .before .before .before .before .before .args .a) (omega arith)) ∙ price-at (c .before .before .before .before .before .before .before .before .before .before .before .before .before .before .before .before .before .args .costs .now) (c .before .before .before .before .before .before .before .before .before .before .before .before .before .before .before .before .before .args .t .now) (c .before .before .before .before .before .before .before .before .before .before .before .before .before .before .before .before .before .args .a), e .1, e .2)
@@ -44,12 +26,12 @@ cheapest-spec =
     (tie.spec
     prices-requires
     measure-cheapest-requires
-    same-length
-    returns
+    (λ c. search needs)
+    (λ c. search needs)
     write-cheapest-requires
-    mul-x
-    slice-read-x
+    (λ c. search needs)
+    (λ c. search needs)
     cast-x
-    same-length-2
-    same-length-3
+    (λ c. search needs)
+    (λ c. search needs)
     returns-2)

@@ -2,7 +2,6 @@ use Rattle.query.proofs.CostWords.{price-one, bounded, read-at, word-of
 use Rattle.query.proofs.Parts.{parts, branch, label-known}
 use Rattle.query.specs.Reading.{hiOf, Choice}
 use native.Mathlib.Omega.{arith}
-use Prim.Native.Nat.{_-_}
 use mathlib.Core.Path.{sym, subst}
 use Rattle.query.proofs.cost_word.Statement.{statement}
 use Rattle.query.proofs.cost_word.Tie as tie

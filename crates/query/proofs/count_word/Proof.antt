@@ -37,9 +37,6 @@ mul-plus-2 c = let P = parts (c .before .before .before .before .before .before 
 shared-slice-read-plus-2 : tie.Need-shared-slice-read-plus-2
 shared-slice-read-plus-2 c = let P = parts (c .before .before .before .before .before .before .before .before .pre .0) (c .before .before .before .before .before .before .before .before .args .k) (omega arith) (c .before .before .before .before .before .before .before .before .pre .1 .0 .1) in omega (arith, c .before .before .before .lo .ensures, P .lo-below, c .before .before .before .before .before .before .before .before .pre .1 .1 .room)
 
-plus-requires : tie.Need-plus-requires
-plus-requires c κs = search needs
-
 returns-3 : tie.Need-returns-3
 returns-3 c = read-both (c .before .before .before .before .before .before .before .before .before .pre .0) (c .before .before .before .before .before .before .before .before .before .args .k) (omega arith) (c .before .before .before .before .before .before .before .before .before .pre .1 .0 .1) (c .before .before .before .before .before .before .before .before .before .args .work .now) (c .before .before .before .before .before .before .before .before .before .pre .1 .1) (c .before .before .before .before .before .hi .result) (c .before .before .before .before .lo .result) (c .plus .result) (c .before .before .before .before .before .hi .ensures) (c .before .before .before .before .lo .ensures) (omega arith) (c .plus .ensures)
 
@@ -57,5 +54,5 @@ count-word-spec =
     shared-slice-read-plus
     mul-plus-2
     shared-slice-read-plus-2
-    plus-requires
+    (λ c κs. search needs)
     returns-3)

@@ -15,26 +15,11 @@ Inv-loop t a work₀ k₀ work k = Filled (countWord t) k work × (length work �
 abbrev μ-loop : tie.MeasureT-loop
 μ-loop t a work₀ k₀ work k = a + 1 - k
 
-slice-write-work : tie.Need-slice-write-work Inv-loop μ-loop
-slice-write-work c = search needs
-
 loop-holds : tie.Need-loop-holds Inv-loop μ-loop
 loop-holds c = (filled-more (countWord (c .before .before .args .t .now)) 0 (c .before .before .args .work .now) 0 (filled-none (countWord (c .before .before .args .t .now)) (c .before .before .args .work .now)) (omega arith) (sym (word-zero (c .before .before .args .t .now))), refl, omega arith, omega arith)
 
-count-word-requires : tie.Need-count-word-requires Inv-loop μ-loop
-count-word-requires c κs = search needs
-
-mul-work : tie.Need-mul-work Inv-loop μ-loop
-mul-work c = search needs
-
 slice-write-work-2 : tie.Need-slice-write-work-2 Inv-loop μ-loop
 slice-write-work-2 c = omega (arith, c .before .before .before .loop .inv .1, length-set (c .before .before .before .before .before .before .args .work .now) 0 0, c .before .before .before .before .before .before .pre .1)
-
-add-k : tie.Need-add-k Inv-loop μ-loop
-add-k c = search needs
-
-loop-less : tie.Need-loop-less Inv-loop μ-loop
-loop-less c = search needs
 
 loop-again : tie.Need-loop-again Inv-loop μ-loop
 loop-again c = let l : c .before .before .before .loop .k < length (c .before .before .before .loop .work) = omega (arith, c .before .before .before .loop .inv .1, length-set (c .before .before .before .before .before .before .args .work .now) 0 0, c .before .before .before .before .before .before .pre .1) in (
@@ -56,13 +41,13 @@ counts-spec =
     (tie.spec
     Inv-loop
     μ-loop
-    slice-write-work
+    (λ c. search needs)
     loop-holds
-    count-word-requires
-    mul-work
+    (λ c κs. search needs)
+    (λ c. search needs)
     slice-write-work-2
-    add-k
-    loop-less
+    (λ c. search needs)
+    (λ c. search needs)
     loop-again
     same-length
     returns)

@@ -9,18 +9,9 @@ use Rattle.query.proofs.goes_on.Tie as tie
 returns : tie.Need-returns
 returns c = ((λ e. absurd (never e refl)), λ e l q. absurd (omega arith))
 
-mul-widen : tie.Need-mul-widen
-mul-widen c = search needs
-
-shared-slice-read-widen : tie.Need-shared-slice-read-widen
-shared-slice-read-widen c = search needs
-
-widen-requires : tie.Need-widen-requires
-widen-requires c κs = search needs
-
 returns-2 : tie.Need-returns-2
 returns-2 c = ((λ e. (omega arith, sym (c .widen .ensures) ∙ eqb-true _ _ e)), λ e l q. eqb-false _ _ e (c .widen .ensures ∙ q))
 
 pub goes-on-spec : {M : Type 1} → statement M
 goes-on-spec =
-    tie.close (tie.spec returns mul-widen shared-slice-read-widen widen-requires returns-2)
+    tie.close (tie.spec returns (λ c. search needs) (λ c. search needs) (λ c κs. search needs) returns-2)

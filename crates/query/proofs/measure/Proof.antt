@@ -3,7 +3,7 @@ use Rattle.query.proofs.Parts.{branch}
 use Rattle.query.specs.Questions.{familyAt, nth}
 use lib.ListN.{length}
 use native.Mathlib.Omega.{arith}
-use Prim.Native.Nat.{_+_, _-_, _≤_}
+use Prim.Native.Nat.{_+_, _≤_}
 use mathlib.Core.Path.{_≡_, ap}
 use borrow.Author.Needs.{needs}
 use Rattle.query.proofs.measure.Statement.{statement}
@@ -36,12 +36,6 @@ loop-less c = let P = here (c .before .before .before .before .before .before .b
 loop-again : tie.Need-loop-again Inv-loop μ-loop
 loop-again c = let d = walk-hi (c .before .before .before .before .before .before .before .pre .0) (c .before .before .before .before .loop .inv .0) (walk-inside (c .before .before .before .before .loop .inv .0) (c .before .before .before .if1 .left)) (c .before .before .before .before .before .before .before .args .work .now) (c .before .before .before .before .before .before .before .pre .1 .1) (c .before .before .hi .result) (c .before .before .hi .ensures) (c .if2 .taken) in (d .next, c .before .before .before .before .loop .inv .1, omega (arith, c .before .before .before .before .loop .inv .2, ap length (d .taken)))
 
-sub-rest : tie.Need-sub-rest Inv-loop μ-loop
-sub-rest c = search needs
-
-sub-rest-2 : tie.Need-sub-rest-2 Inv-loop μ-loop
-sub-rest-2 c = search needs
-
 lo-requires : tie.Need-lo-requires Inv-loop μ-loop
 lo-requires c κs = branch (c .before .before .before .before .before .before .before .pre .0) (c .before .before .before .before .loop .node) (walk-inside (c .before .before .before .before .loop .inv .0) (c .before .before .before .if1 .left)) (omega (arith, c .before .before .before .before .loop .inv .0 .short, c .before .before .before .before .loop .inv .0 .known))
 
@@ -67,8 +61,8 @@ measure-spec =
     add-n
     loop-less
     loop-again
-    sub-rest
-    sub-rest-2
+    (λ c. search needs)
+    (λ c. search needs)
     lo-requires
     loop-less-2
     loop-again-2

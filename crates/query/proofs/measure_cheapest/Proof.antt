@@ -3,7 +3,7 @@ use Rattle.query.proofs.Parts.{branch}
 use Rattle.query.specs.Questions.{familyAt, cheapest}
 use lib.ListN.{length}
 use native.Mathlib.Omega.{arith}
-use Prim.Native.Nat.{_+_, _-_}
+use Prim.Native.Nat.{_+_}
 use mathlib.Core.Path.{_≡_, ap}
 use Rattle.query.proofs.measure_cheapest.Statement.{statement}
 use Rattle.query.proofs.measure_cheapest.Tie as tie

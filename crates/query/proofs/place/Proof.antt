@@ -1,7 +1,6 @@
 use Rattle.query.proofs.Seeks.{Seek, seek-start, seek-none, seek-more, seek-end, spot, seek-hi, seek-lo}
 use Rattle.query.proofs.Parts.{branch}
 use native.Mathlib.Omega.{arith}
-use Prim.Native.Nat.{_-_}
 use mathlib.Core.Path.{sym, _∙_}
 use borrow.Author.Needs.{needs}
 use Rattle.query.proofs.place.Statement.{statement}
@@ -25,9 +24,6 @@ hi-requires c κs = branch (c .before .before .before .before .before .before .p
 label-requires : tie.Need-label-requires Inv-loop μ-loop
 label-requires c κs = branch (c .before .before .before .before .before .before .before .pre .0) (c .before .before .before .loop .node) (omega (arith, c .before .before .if1 .left, c .before .if2 .left)) (omega (arith, c .before .before .before .loop .inv .within, c .before .before .before .loop .inv .known))
 
-goes-on-requires : tie.Need-goes-on-requires Inv-loop μ-loop
-goes-on-requires c κs = search needs
-
 add-i : tie.Need-add-i Inv-loop μ-loop
 add-i c = let g = c .before .goes-on .ensures .0 (c .if3 .taken) in omega (arith, g .0)
 
@@ -42,9 +38,6 @@ mul-plus c = let P = spot (c .before .before .before .before .before .before .be
 
 shared-slice-read-plus : tie.Need-shared-slice-read-plus Inv-loop μ-loop
 shared-slice-read-plus c = let P = spot (c .before .before .before .before .before .before .before .before .before .before .before .pre .0) (c .before .before .before .before .before .before .before .loop .inv) (omega (arith, c .before .before .before .before .before .before .if1 .left, c .before .before .before .before .before .if2 .left)) in omega (arith, P .hi-below, c .before .before .before .before .hi .ensures, c .before .before .before .before .before .before .before .loop .inv .within, (c .before .before .before .before .before .before .before .before .before .before .before .pre .1 .1) .room)
-
-plus-requires : tie.Need-plus-requires Inv-loop μ-loop
-plus-requires c κs = search needs
 
 lo-requires : tie.Need-lo-requires Inv-loop μ-loop
 lo-requires c κs = branch (c .before .before .before .before .before .before .before .before .before .before .before .before .pre .0) (c .before .before .before .before .before .before .before .before .loop .node) (omega (arith, c .before .before .before .before .before .before .before .if1 .left, c .before .before .before .before .before .before .if2 .left)) (omega (arith, c .before .before .before .before .before .before .before .before .loop .inv .within, c .before .before .before .before .before .before .before .before .loop .inv .known))
@@ -71,13 +64,13 @@ place-spec =
     returns
     hi-requires
     label-requires
-    goes-on-requires
+    (λ c κs. search needs)
     add-i
     loop-less
     loop-again
     mul-plus
     shared-slice-read-plus
-    plus-requires
+    (λ c κs. search needs)
     lo-requires
     loop-less-2
     loop-again-2

@@ -15,23 +15,14 @@ Inv-loop costs t a work₀ k₀ work k = Filled (costWord costs t) k work × (le
 abbrev μ-loop : tie.MeasureT-loop
 μ-loop costs t a work₀ k₀ work k = a + 1 - k
 
-slice-write-work : tie.Need-slice-write-work Inv-loop μ-loop
-slice-write-work c = search needs
-
 loop-holds : tie.Need-loop-holds Inv-loop μ-loop
 loop-holds c = (filled-more (costWord (c .before .before .before .args .costs .now) (c .before .before .before .args .t .now)) 0 (c .before .before .before .args .work .now) 0 (filled-none (costWord (c .before .before .before .args .costs .now) (c .before .before .before .args .t .now)) (c .before .before .before .args .work .now)) (omega arith) (sym (price-zero (c .before .before .before .args .costs .now) (c .before .before .before .args .t .now))), refl, omega arith, omega arith)
 
 cost-word-requires : tie.Need-cost-word-requires Inv-loop μ-loop
 cost-word-requires c κs = (c .before .before .before .before .before .before .pre .0, ((c .before .before .loop .inv .2, omega (arith, c .before .before .before .before .before .before .pre .1 .0, c .before .loop-test .taken)), c .before .before .loop .inv .0))
 
-mul-work : tie.Need-mul-work Inv-loop μ-loop
-mul-work c = search needs
-
 slice-write-work-2 : tie.Need-slice-write-work-2 Inv-loop μ-loop
 slice-write-work-2 c = omega (arith, c .before .before .before .loop .inv .1, length-set (c .before .before .before .before .before .before .before .args .work .now) 0 0, c .before .before .before .before .before .before .before .pre .1)
-
-add-k : tie.Need-add-k Inv-loop μ-loop
-add-k c = search needs
 
 loop-less : tie.Need-loop-less Inv-loop μ-loop
 loop-less c = omega (arith, c .before .before .loop-test .taken)
@@ -56,12 +47,12 @@ prices-spec =
     (tie.spec
     Inv-loop
     μ-loop
-    slice-write-work
+    (λ c. search needs)
     loop-holds
     cost-word-requires
-    mul-work
+    (λ c. search needs)
     slice-write-work-2
-    add-k
+    (λ c. search needs)
     loop-less
     loop-again
     same-length

@@ -3,7 +3,6 @@ use Rattle.query.proofs.Parts.{parts, branch, label-known}
 use Rattle.query.specs.Reading.{hiOf}
 use borrow.Author.Tests.{leb-true, leb-false}
 use native.Mathlib.Omega.{arith}
-use Prim.Native.Nat.{_-_}
 use mathlib.Core.Path.{sym, _∙_}
 use Rattle.query.proofs.takes_hi.Statement.{statement}
 use Rattle.query.proofs.takes_hi.Tie as tie

@@ -3,7 +3,7 @@ use Rattle.query.proofs.Walks.{Walk, walk-start, walk-end, walk-inside,
 use Rattle.query.proofs.Parts.{branch}
 use Rattle.query.specs.Questions.{familyAt, nth}
 use native.Mathlib.Omega.{arith}
-use Prim.Native.Nat.{_-_, _≤_}
+use Prim.Native.Nat.{_≤_}
 use borrow.Author.Needs.{needs}
 use Rattle.query.proofs.write.Statement.{statement}
 use Rattle.query.proofs.write.Tie as tie
@@ -47,12 +47,6 @@ loop-less c = let P = here (c .before .before .before .before .before .before .b
 loop-again : tie.Need-loop-again Inv-loop μ-loop
 loop-again c = let d = walk-hi (c .before .before .before .before .before .before .before .before .before .pre .0) (c .before .before .before .before .before .loop .inv .0) (walk-inside (c .before .before .before .before .before .loop .inv .0) (c .before .before .before .before .if1 .left)) (c .before .before .before .before .before .before .before .before .before .args .work .now) (c .before .before .before .before .before .before .before .before .before .pre .1 .1 .0) (c .before .before .before .hi .result) (c .before .before .before .hi .ensures) (c .before .if2 .taken) in (d .next, c .before .before .before .before .before .loop .inv .1, rw (c .label .ensures) (page-more (rw (d .taken) at (c .before .before .before .before .before .loop .inv .2))))
 
-sub-left : tie.Need-sub-left Inv-loop μ-loop
-sub-left c = search needs
-
-sub-left-2 : tie.Need-sub-left-2 Inv-loop μ-loop
-sub-left-2 c = search needs
-
 lo-requires : tie.Need-lo-requires Inv-loop μ-loop
 lo-requires c κs = branch (c .before .before .before .before .before .before .before .before .pre .0) (c .before .before .before .before .loop .node) (walk-inside (c .before .before .before .before .loop .inv .0) (c .before .before .before .if1 .left)) (omega (arith, c .before .before .before .before .loop .inv .0 .short, c .before .before .before .before .loop .inv .0 .known))
 
@@ -85,8 +79,8 @@ write-spec =
     add-n
     loop-less
     loop-again
-    sub-left
-    sub-left-2
+    (λ c. search needs)
+    (λ c. search needs)
     lo-requires
     loop-less-2
     loop-again-2

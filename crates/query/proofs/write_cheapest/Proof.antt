@@ -3,7 +3,6 @@ use Rattle.query.proofs.Pages.{Page, page-start, page-room, page-more, 
 use Rattle.query.proofs.Parts.{branch}
 use Rattle.query.specs.Questions.{familyAt, cheapest}
 use native.Mathlib.Omega.{arith}
-use Prim.Native.Nat.{_-_}
 use Rattle.query.proofs.write_cheapest.Statement.{statement}
 use Rattle.query.proofs.write_cheapest.Tie as tie
 

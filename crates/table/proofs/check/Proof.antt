@@ -17,17 +17,8 @@ abbrev μ-loop : tie.MeasureT-loop
 returns : tie.Need-returns Inv-loop μ-loop
 returns c = refused _ _ _ _ (λ s. omega (arith, s .room))
 
-shared-slice-read-wide : tie.Need-shared-slice-read-wide Inv-loop μ-loop
-shared-slice-read-wide c = search needs
-
-wide-requires : tie.Need-wide-requires Inv-loop μ-loop
-wide-requires c κs = search needs
-
 returns-2 : tie.Need-returns-2 Inv-loop μ-loop
 returns-2 c = refused _ _ _ _ (λ s. omega (arith, s .few, c .before .wide .ensures))
-
-mul-if3 : tie.Need-mul-if3 Inv-loop μ-loop
-mul-if3 c = search needs
 
 returns-3 : tie.Need-returns-3 Inv-loop μ-loop
 returns-3 c = refused _ _ _ _ (λ s. omega (arith, s .room, c .before .before .wide .ensures))
@@ -47,23 +38,8 @@ enter-requires c κs = (record { fit = omega (arith, c .before .before .before .
 returns-5 : tie.Need-returns-5 Inv-loop μ-loop
 returns-5 c = refused _ _ _ _ (not-once (omega (arith, c .before .before .before .before .before .before .before .before .before .before .wide .ensures)) (c .before .enter .ensures) (not-true _ (c .if5 .taken)))
 
-add-i : tie.Need-add-i Inv-loop μ-loop
-add-i c = search needs
-
-loop-less : tie.Need-loop-less Inv-loop μ-loop
-loop-less c = search needs
-
 loop-again : tie.Need-loop-again Inv-loop μ-loop
 loop-again c = passed-more (c .before .before .before .before .before .before .before .loop .inv) (omega (arith, c .before .before .before .before .before .before .before .before .before .before .wide .ensures)) (c .before .before .before .before .before .node-fits .ensures .yes (not-false _ (c .before .before .before .before .if4 .left))) (c .before .enter .ensures) (not-false _ (c .if5 .left))
-
-mul-zeros : tie.Need-mul-zeros Inv-loop μ-loop
-mul-zeros c = search needs
-
-add-zeros : tie.Need-add-zeros Inv-loop μ-loop
-add-zeros c = search needs
-
-zeros-requires : tie.Need-zeros-requires Inv-loop μ-loop
-zeros-requires c κs = search needs
 
 returns-6 : tie.Need-returns-6 Inv-loop μ-loop
 returns-6 c = decided (c .before .before .loop .inv) (record { fit = omega (arith, c .before .before .before .before .before .wide .ensures); few = omega (arith, c .before .before .before .before .before .wide .ensures) }) (omega (arith, c .before .before .before .before .before .wide .ensures)) (omega (arith, c .before .before .before .before .before .wide .ensures)) (c .zeros .ensures)
@@ -75,20 +51,20 @@ check-spec =
     Inv-loop
     μ-loop
     returns
-    shared-slice-read-wide
-    wide-requires
+    (λ c. search needs)
+    (λ c κs. search needs)
     returns-2
-    mul-if3
+    (λ c. search needs)
     returns-3
     loop-holds
     node-fits-requires
     returns-4
     enter-requires
     returns-5
-    add-i
-    loop-less
+    (λ c. search needs)
+    (λ c. search needs)
     loop-again
-    mul-zeros
-    add-zeros
-    zeros-requires
+    (λ c. search needs)
+    (λ c. search needs)
+    (λ c κs. search needs)
     returns-6)

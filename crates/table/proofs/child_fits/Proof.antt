@@ -6,32 +6,11 @@ use borrow.Author.Needs.{needs}
 use Rattle.table.proofs.child_fits.Statement.{statement}
 use Rattle.table.proofs.child_fits.Tie as tie
 
-wide-requires : tie.Need-wide-requires
-wide-requires c κs = search needs
-
-add-if1 : tie.Need-add-if1
-add-if1 c = search needs
-
 returns : tie.Need-returns
 returns c = tells-no (λ e. omega (arith, e .0, c .before .wide .ensures))
 
 returns-2 : tie.Need-returns-2
 returns-2 c = let a = c .before .before .before .before .before .args in tells-yes (leaf (a .keys .now) (nodesOf (a .t .now)) (a .i) _ (a .c) (omega (arith, c .before .before .wide .ensures)))
-
-mul-wide : tie.Need-mul-wide
-mul-wide c = search needs
-
-add-wide : tie.Need-add-wide
-add-wide c = search needs
-
-mul-wide-2 : tie.Need-mul-wide-2
-mul-wide-2 c = search needs
-
-shared-slice-read-wide : tie.Need-shared-slice-read-wide
-shared-slice-read-wide c = search needs
-
-wide-requires-2 : tie.Need-wide-requires-2
-wide-requires-2 c κs = search needs
 
 mul-result : tie.Need-mul-result
 mul-result c =
@@ -52,15 +31,15 @@ pub child-fits-spec : {M : Type 1} → statement M
 child-fits-spec =
     tie.close
     (tie.spec
-    wide-requires
-    add-if1
+    (λ c κs. search needs)
+    (λ c. search needs)
     returns
     returns-2
-    mul-wide
-    add-wide
-    mul-wide-2
-    shared-slice-read-wide
-    wide-requires-2
+    (λ c. search needs)
+    (λ c. search needs)
+    (λ c. search needs)
+    (λ c. search needs)
+    (λ c κs. search needs)
     mul-result
     shared-slice-read-result
     returns-3)

@@ -8,50 +8,11 @@ use borrow.Author.Needs.{needs}
 use Rattle.table.proofs.enter.Statement.{statement}
 use Rattle.table.proofs.enter.Tie as tie
 
-mul-w : tie.Need-mul-w
-mul-w c = search needs
-
-add-w : tie.Need-add-w
-add-w c = search needs
-
-mul-label : tie.Need-mul-label
-mul-label c = search needs
-
-shared-slice-read-label : tie.Need-shared-slice-read-label
-shared-slice-read-label c = search needs
-
-add-lo : tie.Need-add-lo
-add-lo c = search needs
-
-mul-lo : tie.Need-mul-lo
-mul-lo c = search needs
-
-shared-slice-read-lo : tie.Need-shared-slice-read-lo
-shared-slice-read-lo c = search needs
-
-add-hi : tie.Need-add-hi
-add-hi c = search needs
-
-mul-hi : tie.Need-mul-hi
-mul-hi c = search needs
-
-shared-slice-read-hi : tie.Need-shared-slice-read-hi
-shared-slice-read-hi c = search needs
-
-hash-requires : tie.Need-hash-requires
-hash-requires c κs = search needs
-
-add-find : tie.Need-add-find
-add-find c = search needs
-
 find-requires : tie.Need-find-requires
 find-requires c κs = (c .before .before .before .before .before .before .before .pre .0, (omega (arith, c .before .before .before .before .before .before .before .pre .1 .0), (c .before .before .before .before .before .before .before .pre .1 .1, c .before .before .hash .ensures)))
 
 returns : tie.Need-returns
 returns c = let a = c .before .before .before .before .before .before .before .before .before .args in entered-twice _ _ (c .before .find .ensures) (omega arith) (node-at (a .t .now) (a .i) (1 + 3 * a .i) (c .before .before .before .before .before .before .before .before .before .pre .1 .0) refl)
-
-add-insert : tie.Need-add-insert
-add-insert c = search needs
 
 cast-insert : tie.Need-cast-insert
 cast-insert c = omega (arith, c .before .before .before .before .before .before .before .before .before .before .before .pre .0 .few, c .before .before .before .before .before .before .before .before .before .before .before .pre .1 .0)
@@ -70,21 +31,21 @@ pub enter-spec : {M : Type 1} → statement M
 enter-spec =
     tie.close
     (tie.spec
-    mul-w
-    add-w
-    mul-label
-    shared-slice-read-label
-    add-lo
-    mul-lo
-    shared-slice-read-lo
-    add-hi
-    mul-hi
-    shared-slice-read-hi
-    hash-requires
-    add-find
+    (λ c. search needs)
+    (λ c. search needs)
+    (λ c. search needs)
+    (λ c. search needs)
+    (λ c. search needs)
+    (λ c. search needs)
+    (λ c. search needs)
+    (λ c. search needs)
+    (λ c. search needs)
+    (λ c. search needs)
+    (λ c κs. search needs)
+    (λ c. search needs)
     find-requires
     returns
-    add-insert
+    (λ c. search needs)
     cast-insert
     insert-requires
     returns-2)

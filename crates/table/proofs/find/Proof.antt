@@ -1,7 +1,6 @@
 use Rattle.table.proofs.Walk.{Walk, start, falls, step, hit, miss}
 use Rattle.zdd.specs.Table.{nodesOf, node}
 use native.Mathlib.Omega.{arith}
-use Prim.Native.Nat.{_-_}
 use borrow.Author.Needs.{needs}
 use Rattle.table.proofs.find.Statement.{statement}
 use Rattle.table.proofs.find.Tie as tie
@@ -12,17 +11,8 @@ Inv-loop t heads next m h label lo hi k₀ k = Walk (nodesOf t) m (node label lo
 abbrev μ-loop : tie.MeasureT-loop
 μ-loop t heads next m h label lo hi k₀ k = k
 
-mul-k : tie.Need-mul-k Inv-loop μ-loop
-mul-k c = search needs
-
-element-copy-out-k : tie.Need-element-copy-out-k Inv-loop μ-loop
-element-copy-out-k c = search needs
-
 loop-holds : tie.Need-loop-holds Inv-loop μ-loop
 loop-holds c = let a = c .before .before .args in start (node (a .label) (a .lo) (a .hi)) (a .h) (c .before .before .pre .1 .1 .0) (c .before .before .pre .1 .1 .1 .0) (c .before .before .pre .1 .1 .1 .1)
-
-wide-requires : tie.Need-wide-requires Inv-loop μ-loop
-wide-requires c κs = search needs
 
 sub-is-node : tie.Need-sub-is-node Inv-loop μ-loop
 sub-is-node c = omega (arith, c .before .before .loop .inv .own (omega arith), c .wide .ensures)
@@ -56,10 +46,10 @@ find-spec =
     (tie.spec
     Inv-loop
     μ-loop
-    mul-k
-    element-copy-out-k
+    (λ c. search needs)
+    (λ c. search needs)
     loop-holds
-    wide-requires
+    (λ c κs. search needs)
     sub-is-node
     is-node-requires
     returns

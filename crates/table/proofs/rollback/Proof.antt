@@ -12,24 +12,6 @@ Inv-loop t₀ n end j₀ t j = Wiped t₀ j₀ j t
 abbrev μ-loop : tie.MeasureT-loop
 μ-loop t₀ n end j₀ t j = end + 1 - j
 
-slice-read-wide : tie.Need-slice-read-wide Inv-loop μ-loop
-slice-read-wide c = search needs
-
-wide-requires : tie.Need-wide-requires Inv-loop μ-loop
-wide-requires c κs = search needs
-
-mul-end : tie.Need-mul-end Inv-loop μ-loop
-mul-end c = search needs
-
-wide-requires-2 : tie.Need-wide-requires-2 Inv-loop μ-loop
-wide-requires-2 c κs = search needs
-
-mul-j : tie.Need-mul-j Inv-loop μ-loop
-mul-j c = search needs
-
-add-j : tie.Need-add-j Inv-loop μ-loop
-add-j c = search needs
-
 loop-holds : tie.Need-loop-holds Inv-loop μ-loop
 loop-holds c = wiped-none _ _
 
@@ -38,12 +20,6 @@ mul-t c = omega (arith, c .before .loop .inv .long, c .before .before .before .b
 
 slice-write-t : tie.Need-slice-write-t Inv-loop μ-loop
 slice-write-t c = omega (arith, c .before .loop .inv .long, c .before .before .before .before .before .before .pre .fit, c .before .before .before .wide .ensures)
-
-add-j-2 : tie.Need-add-j-2 Inv-loop μ-loop
-add-j-2 c = search needs
-
-loop-less : tie.Need-loop-less Inv-loop μ-loop
-loop-less c = search needs
 
 loop-again : tie.Need-loop-again Inv-loop μ-loop
 loop-again c = wiped-more (c .before .loop .inv) (omega (arith, c .before .before .before .before .before .before .pre .fit, c .before .before .before .wide .ensures))
@@ -63,17 +39,17 @@ rollback-spec =
     (tie.spec
     Inv-loop
     μ-loop
-    slice-read-wide
-    wide-requires
-    mul-end
-    wide-requires-2
-    mul-j
-    add-j
+    (λ c. search needs)
+    (λ c κs. search needs)
+    (λ c. search needs)
+    (λ c κs. search needs)
+    (λ c. search needs)
+    (λ c. search needs)
     loop-holds
     mul-t
     slice-write-t
-    add-j-2
-    loop-less
+    (λ c. search needs)
+    (λ c. search needs)
     loop-again
     slice-write-t-2
     same-length

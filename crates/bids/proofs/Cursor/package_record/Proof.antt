@@ -5,15 +5,6 @@ use borrow.Author.Needs.{needs}
 use Rattle.bids.proofs.Cursor.package_record.Statement.{statement}
 use Rattle.bids.proofs.Cursor.package_record.Tie as tie
 
-school-record-requires : tie.Need-school-record-requires
-school-record-requires c κs = search needs
-
-word64-requires : tie.Need-word64-requires
-word64-requires c κs = search needs
-
-word16-requires : tie.Need-word16-requires
-word16-requires c κs = search needs
-
 returns : tie.Need-returns
 returns c =
     let e : c .before .before .before .word64 .result .next .at ≡ c .before .before .before .before .before .before .before .before .args .self .at + 10 = omega arith in
@@ -21,4 +12,4 @@ returns c =
 
 pub package-record-spec : {M : Type 1} → statement M
 package-record-spec =
-    tie.close (tie.spec school-record-requires word64-requires word16-requires returns)
+    tie.close (tie.spec (λ c κs. search needs) (λ c κs. search needs) (λ c κs. search needs) returns)
