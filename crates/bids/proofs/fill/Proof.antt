@@ -34,18 +34,21 @@ package-record-requires c κs = omega (arith, c .before .before .before .before 
 
 items-of-requires : tie.Need-items-of-requires Inv-loop μ-loop
 items-of-requires c κs =
+    let loop-test = c .before .before .loop-test in let loop = c .before .before .before .loop in
     let a = c .before .before .before .before .before .before .before .args in
     let p = c .before .before .before .before .before .before .before .pre .0 in
-    let k = c .before .before .before .loop .k in (
-      (omega (arith, p .known k (c .before .before .loop-test .taken), school-read (a .file .now) (a .s) k (c .before .before .before .loop .c .at) (c .before .before .before .loop .inv .1) (c .before .school-index .ensures)), p .few .0),
-      rw (items-read (a .file .now) (a .s) k (c .before .before .before .loop .c .at) (c .before .before .before .loop .inv .1) (c .before .school-index .ensures) (c .package-record .ensures .slots)) (p .inside k (c .before .before .loop-test .taken)),
+    let k = loop .k in (
+      (omega (arith, p .known k (loop-test .taken), school-read (a .file .now) (a .s) k (loop .c .at) (loop .inv .1) (c .before .school-index .ensures)), p .few .0),
+      rw (items-read (a .file .now) (a .s) k (loop .c .at) (loop .inv .1) (c .before .school-index .ensures) (c .package-record .ensures .slots)) (p .inside k (loop-test .taken)),
     )
 
 mul-packages : tie.Need-mul-packages Inv-loop μ-loop
 mul-packages c = omega (arith, c .before .before .before .before .before .before .before .before .pre .0 .few .1)
 
 slice-write-packages : tie.Need-slice-write-packages Inv-loop μ-loop
-slice-write-packages c = omega (arith, c .before .before .before .before .before .before .before .before .pre .1 .0, over-long (listed (itemsOf (c .before .before .before .before .before .before .before .before .args .file .now) (c .before .before .before .before .before .before .before .before .args .s)) (c .before .before .before .before .loop .k)) (c .before .before .before .before .before .before .before .before .args .packages .now) (c .before .before .before .before .loop .inv .2))
+slice-write-packages c =
+    let here = c .before .before .before .before in let loop = here .loop in let args = here .before .before .before .before .args in
+    omega (arith, c .before .before .before .before .before .before .before .before .pre .1 .0, over-long (listed (itemsOf (args .file .now) (args .s)) (loop .k)) (args .packages .now) (loop .inv .2))
 
 cast-costs : tie.Need-cast-costs Inv-loop μ-loop
 cast-costs c = omega (arith, c .before .before .package-record .ensures .small)
@@ -54,7 +57,10 @@ mul-costs : tie.Need-mul-costs Inv-loop μ-loop
 mul-costs c = omega (arith, c .before .before .before .before .before .before .before .before .before .pre .0 .few .1)
 
 slice-write-costs : tie.Need-slice-write-costs Inv-loop μ-loop
-slice-write-costs c = omega (arith, c .before .before .before .before .before .before .before .before .before .pre .1 .1, over-long (listed (costOf (c .before .before .before .before .before .before .before .before .before .args .file .now) (c .before .before .before .before .before .before .before .before .before .args .s)) (c .before .before .before .before .before .loop .k)) (c .before .before .before .before .before .before .before .before .before .args .costs .now) (c .before .before .before .before .before .loop .inv .3))
+slice-write-costs c =
+    let here = c .before .before .before .before .before in let loop = here .loop in let args = here .before .before .before .before .args in
+    omega (arith, c .before .before .before .before .before .before .before .before .before .pre .1 .1, over-long (listed (costOf (args .file .now) (args .s)) (loop .k)) (args .costs .now)
+      (loop .inv .3))
 
 add-k : tie.Need-add-k Inv-loop μ-loop
 add-k c = omega arith
@@ -64,22 +70,27 @@ loop-less c = omega arith
 
 loop-again : tie.Need-loop-again Inv-loop μ-loop
 loop-again c =
+    let items-of = c .before .before .items-of in let package-record = c .before .before .before .package-record in let loop = c .before .before .before .before .before .before .loop in
     let a = c .before .before .before .before .before .before .before .before .before .before .args in
-    let k = c .before .before .before .before .before .before .loop .k in
+    let k = loop .k in
     let f = a .file .now in (
       omega arith,
-      omega (arith, c .before .before .before .package-record .ensures .next),
-      rw (c .before .before .before .before .before .before .loop .inv .2) (over-more (itemsOf f (a .s)) (a .packages .now) k (c .before .before .items-of .result)
-          (c .before .before .items-of .ensures ∙ items-read f (a .s) k (c .before .before .before .before .before .before .loop .c .at) (c .before .before .before .before .before .before .loop .inv .1) (c .before .before .before .before .school-index .ensures) (c .before .before .before .package-record .ensures .slots))),
-      rw (c .before .before .before .before .before .before .loop .inv .3) (over-more (costOf f (a .s)) (a .costs .now) k (c .before .before .before .package-record .result .cost)
-          (cost-read f (a .s) k (c .before .before .before .before .before .before .loop .c .at) (c .before .before .before .before .before .before .loop .inv .1) (c .before .before .before .package-record .ensures .cost))),
+      omega (arith, package-record .ensures .next),
+      rw (loop .inv .2) (over-more (itemsOf f (a .s)) (a .packages .now) k (items-of .result)
+          (items-of .ensures ∙ items-read f (a .s) k (loop .c .at) (loop .inv .1) (c .before .before .before .before .school-index .ensures) (package-record .ensures .slots))),
+      rw (loop .inv .3) (over-more (costOf f (a .s)) (a .costs .now) k (package-record .result .cost)
+          (cost-read f (a .s) k (loop .c .at) (loop .inv .1) (package-record .ensures .cost))),
     )
 
 same-length : tie.Need-same-length Inv-loop μ-loop
-same-length c = over-long (listed (itemsOf (c .before .before .before .before .before .args .file .now) (c .before .before .before .before .before .args .s)) (c .before .loop .k)) (c .before .before .before .before .before .args .packages .now) (c .before .loop .inv .2)
+same-length c =
+    let args = c .before .before .before .before .before .args in
+    over-long (listed (itemsOf (args .file .now) (args .s)) (c .before .loop .k)) (args .packages .now) (c .before .loop .inv .2)
 
 same-length-2 : tie.Need-same-length-2 Inv-loop μ-loop
-same-length-2 c = over-long (listed (costOf (c .before .before .before .before .before .args .file .now) (c .before .before .before .before .before .args .s)) (c .before .loop .k)) (c .before .before .before .before .before .args .costs .now) (c .before .loop .inv .3)
+same-length-2 c =
+    let args = c .before .before .before .before .before .args in
+    over-long (listed (costOf (args .file .now) (args .s)) (c .before .loop .k)) (args .costs .now) (c .before .loop .inv .3)
 
 returns : tie.Need-returns Inv-loop μ-loop
 returns c =

@@ -28,10 +28,11 @@ package-record-requires-2 c κs = omega (arith, c .before .before .before .befor
 returns : tie.Need-returns Inv-loop μ-loop
 unfolding packageIn
 returns c =
-    let b = c .before .before .before .before .before .before .before .args .file .now in
-    let x = c .before .before .before .before .before .before .before .args .key .at in
-    sym (first-hit (λ j. samePackage b (packageAt (c .before .before .before .before .before .before .before .args .s) j) x) (c .before .before .before .before .before .before .before .args .n) (c .before .before .before .before .loop .k) (c .before .before .before .loop-test .taken) (c .before .before .before .before .loop .inv .2 x (c .before .before .before .before .before .package-record .ensures))
-    (same-package b (c .before .before .before .before .loop .inv .1) (c .before .before .package-record2 .ensures) (c .before .before .before .before .before .package-record .ensures) (c .before .same-package .ensures) ∙ c .if1 .taken))
+    let here = c .before .before .before .before in let loop = here .loop in let package-record = here .before .package-record in let args = here .before .before .before .args in
+    let b = args .file .now in
+    let x = args .key .at in
+    sym (first-hit (λ j. samePackage b (packageAt (args .s) j) x) (args .n) (loop .k) (c .before .before .before .loop-test .taken) (loop .inv .2 x (package-record .ensures))
+    (same-package b (loop .inv .1) (c .before .before .package-record2 .ensures) (package-record .ensures) (c .before .same-package .ensures) ∙ c .if1 .taken))
 
 loop-less : tie.Need-loop-less Inv-loop μ-loop
 loop-less c = omega arith
@@ -39,11 +40,13 @@ loop-less c = omega arith
 loop-again : tie.Need-loop-again Inv-loop μ-loop
 unfolding packageIn
 loop-again c =
-    let b = c .before .before .before .before .before .before .before .before .args .file .now in (
+    let package-record2 = c .before .before .before .package-record2 in let loop = c .before .before .before .before .before .loop in
+    let args = c .before .before .before .before .before .before .before .before .args in
+    let b = args .file .now in (
       omega arith,
-      omega (arith, c .before .before .before .package-record2 .ensures .next),
-      λ x p. first-more (λ j. samePackage b (packageAt (c .before .before .before .before .before .before .before .before .args .s) j) x) (c .before .before .before .before .before .loop .k) (c .before .before .before .before .before .loop .inv .2 x p)
-          (same-package b (c .before .before .before .before .before .loop .inv .1) (c .before .before .before .package-record2 .ensures) p (c .before .before .same-package .ensures) ∙ c .before .if1 .left),
+      omega (arith, package-record2 .ensures .next),
+      λ x p. first-more (λ j. samePackage b (packageAt (args .s) j) x) (loop .k) (loop .inv .2 x p)
+          (same-package b (loop .inv .1) (package-record2 .ensures) p (c .before .before .same-package .ensures) ∙ c .before .if1 .left),
     )
 
 returns-2 : tie.Need-returns-2 Inv-loop μ-loop

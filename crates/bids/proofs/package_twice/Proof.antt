@@ -25,11 +25,12 @@ package-index-requires c κs = omega (arith, c .before .before .before .pre)
 returns : tie.Need-returns Inv-loop μ-loop
 unfolding packageTwice
 returns c =
-    let b = c .before .before .before .before .before .args .file .now in
-    let s = c .before .before .before .before .before .args .s in
-    let i = c .before .before .before .loop .k in
-    let e : c .before .package-index .result ≡ packageIn b s i (packageAt s i) = rw (c .before .before .before .loop .inv .1 .0) at (c .before .package-index .ensures) in
-    sym (some-hit (λ j. ltb (packageIn b s j (packageAt s j)) j) (c .before .before .before .before .before .args .n) i (c .before .before .loop-test .taken) (c .before .before .before .loop .inv .1 .1)
+    let loop = c .before .before .before .loop in let args = c .before .before .before .before .before .args in
+    let b = args .file .now in
+    let s = args .s in
+    let i = loop .k in
+    let e : c .before .package-index .result ≡ packageIn b s i (packageAt s i) = rw (loop .inv .1 .0) at (c .before .package-index .ensures) in
+    sym (some-hit (λ j. ltb (packageIn b s j (packageAt s j)) j) (args .n) i (c .before .before .loop-test .taken) (loop .inv .1 .1)
     (lt-ltb (packageIn b s i (packageAt s i)) i (omega (arith, e, c .if1 .taken))))
 
 package-record-requires : tie.Need-package-record-requires Inv-loop μ-loop
@@ -43,14 +44,16 @@ loop-less c = omega arith
 
 loop-again : tie.Need-loop-again Inv-loop μ-loop
 loop-again c =
-    let b = c .before .before .before .before .before .before .before .args .file .now in
-    let s = c .before .before .before .before .before .before .before .args .s in
-    let i = c .before .before .before .before .before .loop .k in
-    let e : c .before .before .before .package-index .result ≡ packageIn b s i (packageAt s i) = rw (c .before .before .before .before .before .loop .inv .1 .0) at (c .before .before .before .package-index .ensures) in (
+    let package-index = c .before .before .before .package-index in let loop = c .before .before .before .before .before .loop in
+    let args = c .before .before .before .before .before .before .before .args in
+    let b = args .file .now in
+    let s = args .s in
+    let i = loop .k in
+    let e : package-index .result ≡ packageIn b s i (packageAt s i) = rw (loop .inv .1 .0) at (package-index .ensures) in (
       omega arith,
       (
         omega (arith, c .before .package-record .ensures .next),
-        first-more (λ j. ltb (packageIn b s j (packageAt s j)) j) i (c .before .before .before .before .before .loop .inv .1 .1)
+        first-more (λ j. ltb (packageIn b s j (packageAt s j)) j) i (loop .inv .1 .1)
             (le-ltb (packageIn b s i (packageAt s i)) i (omega (arith, e, c .before .before .if1 .left))),
       ),
     )

@@ -29,7 +29,8 @@ returns-2 : tie.Need-returns-2
 returns-2 c =
     let a = c .before .before .before .before .before .before .before .before .before .args in
     let b = a .file .now in
-    let e = few-places b (length (a .packages .now)) (length (a .costs .now)) (sym (c .before .before .before .before .before .refusal .ensures) ∙ c .before .before .before .before .if1 .left) (omega (arith, c .before .before .before .read-header .ensures .packages, c .if2 .taken)) in
+    let e = few-places b (length (a .packages .now)) (length (a .costs .now)) (sym (c .before .before .before .before .before .refusal .ensures) ∙ c .before .before .before .before .if1 .left)
+      (omega (arith, c .before .before .before .read-header .ensures .packages, c .if2 .taken)) in
     record {
       answer = reply-refused 15 (F.schools b, (F.slots b, F.packages b)) e (λ z. omega arith);
       items = unwritten 15 (packagesOf b) (a .packages .now) e (λ z. omega arith);
@@ -40,7 +41,9 @@ returns-3 : tie.Need-returns-3
 returns-3 c =
     let a = c .before .before .before .before .before .before .before .before .before .before .args in
     let b = a .file .now in
-    let e = few-costs b (length (a .packages .now)) (length (a .costs .now)) (sym (c .before .before .before .before .before .before .refusal .ensures) ∙ c .before .before .before .before .before .if1 .left) (omega (arith, c .before .before .before .before .read-header .ensures .packages, c .if3 .taken)) in
+    let e = few-costs b (length (a .packages .now)) (length (a .costs .now))
+      (sym (c .before .before .before .before .before .before .refusal .ensures) ∙ c .before .before .before .before .before .if1 .left)
+      (omega (arith, c .before .before .before .before .read-header .ensures .packages, c .if3 .taken)) in
     record {
       answer = reply-refused 15 (F.schools b, (F.slots b, F.packages b)) e (λ z. omega arith);
       items = unwritten 15 (packagesOf b) (a .packages .now) e (λ z. omega arith);
@@ -49,19 +52,29 @@ returns-3 c =
 
 fill-requires : tie.Need-fill-requires
 fill-requires c κs =
+    let args = c .before .before .before .before .before .before .before .before .before .before .before .before .before .args in
     let p = c .before .before .before .before .before .before .before .read-header .ensures in
-    (readable (c .before .before .before .before .before .before .before .before .before .before .before .before .before .args .file .now) (sym (c .before .before .before .before .before .before .before .before .before .refusal .ensures) ∙ c .before .before .before .before .before .before .before .before .if1 .left) (c .before .before .wide .ensures ∙ p .schools) (p .packages), (omega (arith, c .before .before .before .before .if2 .left), omega (arith, c .before .before .before .if3 .left)))
+    (readable (args .file .now) (sym (c .before .before .before .before .before .before .before .before .before .refusal .ensures) ∙
+      c .before .before .before .before .before .before .before .before .if1 .left) (c .before .before .wide .ensures ∙ p .schools) (p .packages),
+      (omega (arith, c .before .before .before .before .if2 .left), omega (arith, c .before .before .before .if3 .left)))
 
 returns-4 : tie.Need-returns-4
 returns-4 c =
-    let a = c .before .before .before .before .before .before .before .before .before .before .before .before .before .before .before .before .before .before .args in
+    let here = c .before .before .before .before in let fill = here .fill in let wide = here .before .before .before .wide in
+    let read-header = here .before .before .before .before .before .before .before .before .read-header in
+    let if1 = here .before .before .before .before .before .before .before .before .before .if1 in
+    let refusal′ = here .before .before .before .before .before .before .before .before .before .before .refusal in
+    let args = here .before .before .before .before .before .before .before .before .before .before .before .before .before .before .args in
+    let a = args in
     let b = a .file .now in
-    let p = c .before .before .before .before .before .before .before .before .before .before .before .before .read-header .ensures in
-    let e = accepted b (length (a .packages .now)) (length (a .costs .now)) (sym (c .before .before .before .before .before .before .before .before .before .before .before .before .before .before .refusal .ensures) ∙ c .before .before .before .before .before .before .before .before .before .before .before .before .before .if1 .left) (omega (arith, p .packages, c .before .before .before .before .before .before .before .before .before .if2 .left)) (omega (arith, p .packages, c .before .before .before .before .before .before .before .before .if3 .left)) in
+    let p = read-header .ensures in
+    let e = accepted b (length (a .packages .now)) (length (a .costs .now)) (sym (refusal′ .ensures) ∙ if1 .left)
+      (omega (arith, p .packages, c .before .before .before .before .before .before .before .before .before .if2 .left))
+      (omega (arith, p .packages, c .before .before .before .before .before .before .before .before .if3 .left)) in
     record {
       answer = (rw (p .schools, p .slots, p .packages) (reply-gives (F.schools b, (F.slots b, F.packages b)) e));
-      items = items-stored b (a .packages .now) e (c .before .before .before .before .before .before .before .wide .ensures ∙ p .schools) (p .packages) (c .before .before .before .before .fill .ensures .0);
-      costs = costs-stored b (a .costs .now) e (c .before .before .before .before .before .before .before .wide .ensures ∙ p .schools) (p .packages) (c .before .before .before .before .fill .ensures .1);
+      items = items-stored b (a .packages .now) e (wide .ensures ∙ p .schools) (p .packages) (fill .ensures .0);
+      costs = costs-stored b (a .costs .now) e (wide .ensures ∙ p .schools) (p .packages) (fill .ensures .1);
     }
 
 pub read-spec : {M : Type 1} → statement M

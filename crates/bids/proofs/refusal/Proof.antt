@@ -18,7 +18,8 @@ record-refusal-requires c κs =
     sized b (p .schools) (p .slots) (p .packages) (header-passed b [] (sym (c .before .before .header-refusal .ensures) ∙ c .before .if2 .left) .0)
 
 returns-3 : tie.Need-returns-3
-returns-3 c = c .record-refusal .ensures ∙ sym (by-records (c .before .before .before .before .before .before .before .args .file .now) (c .before .before .before .before .before .if1 .left) (sym (c .before .before .before .header-refusal .ensures) ∙ c .before .before .if2 .left))
+returns-3 c = c .record-refusal .ensures ∙ sym (by-records (c .before .before .before .before .before .before .before .args .file .now) (c .before .before .before .before .before .if1 .left)
+    (sym (c .before .before .before .header-refusal .ensures) ∙ c .before .before .if2 .left))
 
 pub refusal-spec : {M : Type 1} → statement M
 refusal-spec =

@@ -41,13 +41,14 @@ loop-less c = omega arith
 
 loop-again : tie.Need-loop-again Inv-loop μ-loop
 loop-again c =
+    let school-index = c .before .before .before .school-index in let loop = c .before .before .before .before .before .loop in
     let b = c .before .before .before .before .before .before .before .args .file .now in
-    let i = c .before .before .before .before .before .loop .j in
-    let e : c .before .before .before .school-index .result ≡ schoolIn b i (schoolAt i) = rw (c .before .before .before .before .before .loop .inv .1 .0) at (c .before .before .before .school-index .ensures) in (
+    let i = loop .j in
+    let e : school-index .result ≡ schoolIn b i (schoolAt i) = rw (loop .inv .1 .0) at (school-index .ensures) in (
       omega arith,
       (
         omega (arith, c .before .school-record .ensures .next),
-        first-more (λ j. ltb (schoolIn b j (schoolAt j)) j) i (c .before .before .before .before .before .loop .inv .1 .1)
+        first-more (λ j. ltb (schoolIn b j (schoolAt j)) j) i (loop .inv .1 .1)
             (le-ltb (schoolIn b i (schoolAt i)) i (omega (arith, e, c .before .before .if1 .left))),
       ),
     )

@@ -24,9 +24,10 @@ school-index-requires c κs = omega (arith, c .before .before .before .pre .0)
 returns : tie.Need-returns Inv-loop μ-loop
 unfolding stray
 returns c =
+    let loop = c .before .before .before .loop in
     let a = c .before .before .before .before .before .args in
-    sym (some-hit (λ j. strayb (a .file .now) (a .s) (a .t) j) (a .n) (c .before .before .before .loop .k) (c .before .before .loop-test .taken) (c .before .before .before .loop .inv .1 .1)
-    (unlisted (a .file .now) (a .s) (c .before .before .before .loop .k) (c .before .before .before .loop .c .at) (c .before .before .before .loop .inv .1 .0) (a .t) (c .before .school-index .ensures) (c .if1 .taken)))
+    sym (some-hit (λ j. strayb (a .file .now) (a .s) (a .t) j) (a .n) (loop .k) (c .before .before .loop-test .taken) (loop .inv .1 .1)
+    (unlisted (a .file .now) (a .s) (loop .k) (loop .c .at) (loop .inv .1 .0) (a .t) (c .before .school-index .ensures) (c .if1 .taken)))
 
 package-record-requires : tie.Need-package-record-requires Inv-loop μ-loop
 package-record-requires c κs = omega (arith, c .before .before .before .before .before .pre .0)
@@ -37,9 +38,11 @@ below-requires c κs = omega (arith, c .before .before .before .before .before .
 returns-2 : tie.Need-returns-2 Inv-loop μ-loop
 unfolding stray
 returns-2 c =
+    let loop = c .before .before .before .before .before .before .loop in
     let a = c .before .before .before .before .before .before .before .before .args in
-    sym (some-hit (λ j. strayb (a .file .now) (a .s) (a .t) j) (a .n) (c .before .before .before .before .before .before .loop .k) (c .before .before .before .before .before .loop-test .taken) (c .before .before .before .before .before .before .loop .inv .1 .1)
-    (outside (a .file .now) (a .s) (c .before .before .before .before .before .before .loop .k) (c .before .before .before .before .before .before .loop .c .at) (c .before .before .before .before .before .before .loop .inv .1 .0) (a .t) (c .before .before .before .before .school-index .ensures) (c .before .before .before .if1 .left) (c .before .before .package-record .ensures .slots) (c .before .below .ensures) ∙ c .if2 .taken))
+    sym (some-hit (λ j. strayb (a .file .now) (a .s) (a .t) j) (a .n) (loop .k) (c .before .before .before .before .before .loop-test .taken) (loop .inv .1 .1)
+    (outside (a .file .now) (a .s) (loop .k) (loop .c .at) (loop .inv .1 .0) (a .t) (c .before .before .before .before .school-index .ensures) (c .before .before .before .if1 .left)
+      (c .before .before .package-record .ensures .slots) (c .before .below .ensures) ∙ c .if2 .taken))
 
 add-k : tie.Need-add-k Inv-loop μ-loop
 add-k c = omega arith
@@ -49,12 +52,14 @@ loop-less c = omega arith
 
 loop-again : tie.Need-loop-again Inv-loop μ-loop
 loop-again c =
+    let package-record = c .before .before .before .package-record in let loop = c .before .before .before .before .before .before .before .loop in
     let a = c .before .before .before .before .before .before .before .before .before .args in (
       omega arith,
       (
-        omega (arith, c .before .before .before .package-record .ensures .next),
-        first-more (λ j. strayb (a .file .now) (a .s) (a .t) j) (c .before .before .before .before .before .before .before .loop .k) (c .before .before .before .before .before .before .before .loop .inv .1 .1)
-            (outside (a .file .now) (a .s) (c .before .before .before .before .before .before .before .loop .k) (c .before .before .before .before .before .before .before .loop .c .at) (c .before .before .before .before .before .before .before .loop .inv .1 .0) (a .t) (c .before .before .before .before .before .school-index .ensures) (c .before .before .before .before .if1 .left) (c .before .before .before .package-record .ensures .slots) (c .before .before .below .ensures) ∙ c .before .if2 .left),
+        omega (arith, package-record .ensures .next),
+        first-more (λ j. strayb (a .file .now) (a .s) (a .t) j) (loop .k) (loop .inv .1 .1)
+            (outside (a .file .now) (a .s) (loop .k) (loop .c .at) (loop .inv .1 .0) (a .t) (c .before .before .before .before .before .school-index .ensures)
+              (c .before .before .before .before .if1 .left) (package-record .ensures .slots) (c .before .before .below .ensures) ∙ c .before .if2 .left),
       ),
     )
 

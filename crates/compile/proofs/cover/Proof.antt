@@ -13,26 +13,43 @@ enlist-requires c κs = (c .before .before .before .before .before .pre .0, blan
 
 begin-requires : tie.Need-begin-requires
 begin-requires c κs =
-    let q = c .before .before .before .before .before .before .before .before .before .before .before .before .before .before .before .before .before .pre in
-    (c .before .before .before .before .before .before .before .before .before .before .before .enlist .ensures, (record { sound = q .1 .0; indexed = q .1 .1 .0; held = cleared-held (c .before .before .before .before .before .before .before .before .before .clear .ensures) refl (c .before .before .before .before .before .before .before .before .before .before .before .before .before .before .before .before .before .args .packs .now) (c .before .before .before .before .before .before .before .before .before .before .before .before .before .before .before .before .before .args .t .now) false (q .1 .1 .1) }, λ j l. c .before .before .before .before .before .before .before .before .before .clear .ensures .zero (2 * j) (omega arith)))
+    let here = c .before .before .before .before .before .before .before .before .before in let clear = here .clear in
+    let args = here .before .before .before .before .before .before .before .before .args in let pre = here .before .before .before .before .before .before .before .before .pre in
+    let q = pre in
+    (c .before .before .before .before .before .before .before .before .before .before .before .enlist .ensures,
+      (record { sound = q .1 .0; indexed = q .1 .1 .0; held = cleared-held (clear .ensures) refl (args .packs .now) (args .t .now) false (q .1 .1 .1) }, λ j l. clear .ensures .zero (2 * j)
+      (omega arith)))
 
 rollback-requires : tie.Need-rollback-requires
 rollback-requires c κs = c .before .before .before .before .before .before .begin .ensures .indexed .room
 
 returns : tie.Need-returns
-returns c = covered-over (c .before .before .before .before .before .before .before .before .before .before .before .before .before .before .before .before .before .before .before .before .before .before .before .before .before .before .before .pre .1 .0) (c .before .before .before .before .before .before .before .before .before .before .before .before .before .before .before .before .before .before .before .clear .ensures) refl (c .before .before .before .before .before .before .before .before .before .begin .ensures) _ _ _ (c .before .before .before .before .if1 .taken) (c .before .before .rollback .ensures _ _ (c .before .before .before .before .before .before .before .before .before .before .before .before .before .before .before .before .before .before .before .before .before .before .before .before .before .before .before .pre .1 .0) (c .before .before .before .before .before .before .before .before .before .begin .ensures .grown) refl)
+returns c =
+    let here = c .before .before .before .before .before .before .before .before .before in let begin = here .begin in
+    let clear = here .before .before .before .before .before .before .before .before .before .before .clear in
+    let pre = here .before .before .before .before .before .before .before .before .before .before .before .before .before .before .before .before .before .before .pre in
+    covered-over (pre .1 .0) (clear .ensures) refl (begin .ensures) _ _ _ (c .before .before .before .before .if1 .taken)
+      (c .before .before .rollback .ensures _ _ (pre .1 .0) (begin .ensures .grown) refl)
 
 rollback-requires-2 : tie.Need-rollback-requires-2
 rollback-requires-2 c κs = c .before .before .before .before .before .before .before .begin .ensures .indexed .room
 
 returns-2 : tie.Need-returns-2
-returns-2 c = covered-full (c .before .before .before .before .before .before .before .before .before .before .before .before .before .before .before .before .before .before .before .before .before .before .before .before .before .before .before .before .pre .1 .0) (c .before .before .before .before .before .before .before .before .before .before .before .before .before .before .before .before .before .before .before .before .clear .ensures) refl (c .before .before .before .before .before .before .before .before .before .before .begin .ensures) _ _ _ _ (c .before .before .before .before .before .if1 .left) (c .before .before .before .before .if2 .taken) (c .before .before .rollback2 .ensures _ _ (c .before .before .before .before .before .before .before .before .before .before .before .before .before .before .before .before .before .before .before .before .before .before .before .before .before .before .before .before .pre .1 .0) (c .before .before .before .before .before .before .before .before .before .before .begin .ensures .grown) refl)
+returns-2 c =
+    let here = c .before .before .before .before .before .before .before .before .before .before in let begin = here .begin in
+    let clear = here .before .before .before .before .before .before .before .before .before .before .clear in
+    let pre = here .before .before .before .before .before .before .before .before .before .before .before .before .before .before .before .before .before .before .pre in
+    covered-full (pre .1 .0) (clear .ensures) refl (begin .ensures) _ _ _ _ (c .before .before .before .before .before .if1 .left) (c .before .before .before .before .if2 .taken)
+      (c .before .before .rollback2 .ensures _ _ (pre .1 .0) (begin .ensures .grown) refl)
 
 sub-t37 : tie.Need-sub-t37
 sub-t37 c = grown-more (c .before .before .before .before .before .before .before .begin .ensures .grown)
 
 returns-3 : tie.Need-returns-3
-returns-3 c = covered-answer (c .before .before .before .before .before .before .before .before .before .before .before .before .before .before .before .before .before .before .before .before .before .before .before .before .before .pre .1 .0) (c .before .before .before .before .before .before .before .before .before .before .before .before .before .before .before .before .before .clear .ensures) refl (c .before .before .before .before .before .before .before .begin .ensures) _ (c .before .before .if1 .left) (c .before .if2 .left) refl
+returns-3 c =
+    let here = c .before .before .before .before .before .before .before .before .before .before .before .before .before .before .before .before .before in let clear = here .clear in
+    let pre = here .before .before .before .before .before .before .before .before .pre in
+    covered-answer (pre .1 .0) (clear .ensures) refl (c .before .before .before .before .before .before .before .begin .ensures) _ (c .before .before .if1 .left) (c .before .if2 .left) refl
 
 pub cover-spec : {M : Type 1} → statement M
 cover-spec =

@@ -19,10 +19,12 @@ add-if2 : tie.Need-add-if2
 add-if2 c = omega (arith, c .wide .ensures, c .before .before .before .admit .ensures .ready (c .before .before .if1 .left) .sound .few)
 
 returns-2 : tie.Need-returns-2
-returns-2 c = opened-unknown _ (c .before .before .before .before .before .admit .ensures .ready (c .before .before .before .before .if1 .left)) (omega (arith, c .before .before .wide .ensures, c .before .wide2 .ensures, c .if2 .taken))
+returns-2 c = opened-unknown _ (c .before .before .before .before .before .admit .ensures .ready (c .before .before .before .before .if1 .left))
+    (omega (arith, c .before .before .wide .ensures, c .before .wide2 .ensures, c .if2 .taken))
 
 returns-3 : tie.Need-returns-3
-returns-3 c = opened-known _ (c .before .before .before .before .before .admit .ensures .ready (c .before .before .before .before .if1 .left)) (omega (arith, c .before .before .wide .ensures, c .before .wide2 .ensures, c .if2 .left))
+returns-3 c = opened-known _ (c .before .before .before .before .before .admit .ensures .ready (c .before .before .before .before .if1 .left))
+    (omega (arith, c .before .before .wide .ensures, c .before .wide2 .ensures, c .if2 .left))
 
 pub opened-spec : {M : Type 1} → statement M
 opened-spec =

@@ -16,13 +16,17 @@ loop-holds : tie.Need-loop-holds Inv-loop μ-loop
 loop-holds c = filled-start (c .before .before .args .packages .now) (c .before .before .pre .1)
 
 key-requires : tie.Need-key-requires Inv-loop μ-loop
-key-requires c κs = (c .before .before .before .before .before .pre .0 .some (c .before .before .loop .k) (c .before .loop-test .taken), omega (arith, c .before .before .before .before .before .pre .0 .few, c .before .loop-test .taken))
+key-requires c κs =
+    let pre = c .before .before .before .before .before .pre in
+    (pre .0 .some (c .before .before .loop .k) (c .before .loop-test .taken), omega (arith, pre .0 .few, c .before .loop-test .taken))
 
 slice-write-keys : tie.Need-slice-write-keys Inv-loop μ-loop
 slice-write-keys c = omega (arith, c .before .before .before .before .before .before .pre .0 .few, c .before .before .loop-test .taken, c .before .before .before .loop .inv .long)
 
 loop-again : tie.Need-loop-again Inv-loop μ-loop
-loop-again c = filled-more (c .before .before .before .loop .k) (c .key .result) (omega (arith, c .before .before .before .before .before .before .pre .0 .few, c .before .before .loop-test .taken)) (c .key .ensures) (c .before .before .before .loop .inv)
+loop-again c =
+    let loop = c .before .before .before .loop in
+    filled-more (loop .k) (c .key .result) (omega (arith, c .before .before .before .before .before .before .pre .0 .few, c .before .before .loop-test .taken)) (c .key .ensures) (loop .inv)
 
 returns : tie.Need-returns Inv-loop μ-loop
 returns c = filled-all (c .before .loop .k) (c .before .before .before .before .pre .0) (omega (arith, c .loop-test .left)) (c .before .loop .inv)

@@ -48,52 +48,115 @@ combine-claims t = (
 )
 
 combine-place-requires : (t : ℕ) → combine-lts.Need-place-requires (combine-claims t) (combine-at t) combine.Post
-combine-place-requires t c κs = (packed-small (c .pack .ensures) (omega (arith, (c .before .before .before .before .pre .1 .1 .1) .0, (c .before .before .before .before .pre .1 .1 .1) .1, (c .before .before .before .before .pre .1 .0) .sound .few)) (omega (arith, (c .before .before .before .before .pre .1 .1 .1) .0, (c .before .before .before .before .pre .1 .1 .1) .1, (c .before .before .before .before .pre .1 .0) .sound .few)), (c .before .before .before .before .pre .1 .1 .0) .some)
+combine-place-requires t c κs =
+    let pre = c .before .before .before .before .pre in
+    (packed-small (c .pack .ensures) (omega (arith, (pre .1 .1 .1) .0, (pre .1 .1 .1) .1, (pre .1 .0) .sound .few)) (omega (arith, (pre .1 .1 .1) .0, (pre .1 .1 .1) .1, (pre .1 .0) .sound .few)),
+      (pre .1 .1 .0) .some)
 
 combine-ended-requires : (t : ℕ) → combine-lts.Need-ended-requires (combine-claims t) (combine-at t) combine.Post
 combine-ended-requires t c κs = (c .before .place .ensures, c .before .before .pack .ensures)
 
 combine-returns : (t : ℕ) → combine-lts.Need-returns (combine-claims t) (combine-at t) combine.Post
-combine-returns t c = ended-gives (c .before .before .before .before .before .before .before .before .pre .1 .0) (c .before .before .before .before .before .before .before .before .pre .1 .1 .0) (c .before .before .before .before .before .before .before .before .pre .1 .1 .1) (c .before .ended .ensures) (λ e. omega (arith, c .if1 .taken))
+combine-returns t c =
+    let pre = c .before .before .before .before .before .before .before .before .pre in
+    ended-gives (pre .1 .0) (pre .1 .1 .0) (pre .1 .1 .1) (c .before .ended .ensures) (λ e. omega (arith, c .if1 .taken))
 
 combine-cut-requires : (t : ℕ) → combine-lts.Need-cut-requires (combine-claims t) (combine-at t) combine.Post
-combine-cut-requires t c κs = ((c .before .before .before .before .before .before .before .before .before .pre .1 .0) .sound, ((c .before .before .before .before .before .before .before .before .before .pre .1 .0) .keys, ((c .before .before .before .before .before .before .before .before .before .pre .1 .1 .1), ends-two (c .before .before .before .before .before .before .before .before .before .pre .1 .0) (c .before .before .before .before .before .before .before .before .before .pre .1 .1 .0) (c .before .before .before .before .before .before .before .before .before .pre .1 .1 .1) (c .before .before .ended .ensures) (c .before .if1 .left))))
+combine-cut-requires t c κs =
+    let pre = c .before .before .before .before .before .before .before .before .before .pre in
+    ((pre .1 .0) .sound, ((pre .1 .0) .keys, ((pre .1 .1 .1), ends-two (pre .1 .0) (pre .1 .1 .0) (pre .1 .1 .1) (c .before .before .ended .ensures) (c .before .if1 .left))))
 
 combine-combine-requires : (t : ℕ) → combine-lts.Need-combine-requires (combine-claims t) (combine-at t) combine.Post
-combine-combine-requires t c κs = (omega (arith, c .before .before .before .before .before .before .before .before .before .before .before .before .before .before .pre .0, (c .before .before .before .before .cut .ensures) .falls1), ((c .before .before .before .before .before .before .before .before .before .before .before .before .before .before .pre .1 .0), ((c .before .before .before .before .before .before .before .before .before .before .before .before .before .before .pre .1 .1 .0), hi-known (c .before .before .before .before .before .before .before .before .before .before .before .before .before .before .pre .1 .0) (c .before .before .before .before .cut .ensures))))
+combine-combine-requires t c κs =
+    let here = c .before .before .before .before in let cut′ = here .cut in let pre = here .before .before .before .before .before .before .before .before .before .before .pre in
+    (omega (arith, pre .0, (cut′ .ensures) .falls1), ((pre .1 .0), ((pre .1 .1 .0), hi-known (pre .1 .0) (cut′ .ensures))))
 
 combine-returns-2 : (t : ℕ) → combine-lts.Need-returns-2 (combine-claims t) (combine-at t) combine.Post
-combine-returns-2 t c = hi-none (c .before .before .before .before .before .before .before .before .before .before .before .before .before .before .before .before .before .before .before .before .args .op) (c .before .before .before .before .before .before .before .before .before .before .before .before .before .before .before .before .before .before .before .before .pre .1 .0) (c .before .before .before .before .before .before .before .before .before .before .before .before .before .before .before .before .before .before .before .before .pre .1 .1 .1) (c .before .before .before .before .before .before .before .before .before .before .cut .ensures) (c .before .before .before .before .before .combine .ensures .0) (c .if2 .taken)
+combine-returns-2 t c =
+    let here = c .before .before .before .before .before .before .before .before .before .before .before .before .before .before .before .before .before .before .before .before in
+    let args = here .args in let pre = here .pre in
+    hi-none (args .op) (pre .1 .0) (pre .1 .1 .1) (c .before .before .before .before .before .before .before .before .before .before .cut .ensures)
+      (c .before .before .before .before .before .combine .ensures .0) (c .if2 .taken)
 
 combine-combine-requires-2 : (t : ℕ) → combine-lts.Need-combine-requires-2 (combine-claims t) (combine-at t) combine.Post
-combine-combine-requires-2 t c κs = (omega (arith, c .before .before .before .before .before .before .before .before .before .before .before .before .before .before .before .before .before .before .before .before .before .before .before .before .pre .0, (c .before .before .before .before .before .before .before .before .before .before .before .before .before .before .cut .ensures) .falls0), (hi-ready (c .before .before .before .before .before .before .before .before .before .before .before .before .before .before .before .before .before .before .before .before .before .before .before .before .args .op) (c .before .before .before .before .before .before .before .before .before .before .before .before .before .before .before .before .before .before .before .before .before .before .before .before .pre .1 .0) (c .before .before .before .before .before .before .before .before .before .before .before .before .before .before .before .before .before .before .before .before .before .before .before .before .pre .1 .1 .1) (c .before .before .before .before .before .before .before .before .before .before .before .before .before .before .cut .ensures) (c .before .before .before .before .before .before .before .before .before .combine .ensures .0), (c .before .before .before .before .before .before .before .before .before .combine .ensures .1 (omega (arith, c .before .before .before .before .before .before .before .before .before .combine .ensures .0 .small, c .before .before .before .before .if2 .left)), lo-known (c .before .before .before .before .before .before .before .before .before .before .before .before .before .before .before .before .before .before .before .before .before .before .before .before .args .op) (c .before .before .before .before .before .before .before .before .before .before .before .before .before .before .before .before .before .before .before .before .before .before .before .before .pre .1 .0) (c .before .before .before .before .before .before .before .before .before .before .before .before .before .before .before .before .before .before .before .before .before .before .before .before .pre .1 .1 .1) (c .before .before .before .before .before .before .before .before .before .before .before .before .before .before .cut .ensures) (c .before .before .before .before .before .before .before .before .before .combine .ensures .0) (omega (arith, c .before .before .before .before .before .before .before .before .before .combine .ensures .0 .small, c .before .before .before .before .if2 .left)))))
+combine-combine-requires-2 t c κs =
+    let here = c .before .before .before .before in let if2 = here .if2 in let combine′ = here .before .before .before .before .before .combine in
+    let cut′ = here .before .before .before .before .before .before .before .before .before .before .cut in
+    let args = here .before .before .before .before .before .before .before .before .before .before .before .before .before .before .before .before .before .before .before .before .args in
+    let pre = here .before .before .before .before .before .before .before .before .before .before .before .before .before .before .before .before .before .before .before .before .pre in
+    (omega (arith, pre .0, (cut′ .ensures) .falls0), (hi-ready (args .op) (pre .1 .0) (pre .1 .1 .1) (cut′ .ensures) (combine′ .ensures .0),
+      (combine′ .ensures .1 (omega (arith, combine′ .ensures .0 .small, if2 .left)), lo-known (args .op) (pre .1 .0) (pre .1 .1 .1) (cut′ .ensures) (combine′ .ensures .0)
+      (omega (arith, combine′ .ensures .0 .small, if2 .left)))))
 
 combine-returns-3 : (t : ℕ) → combine-lts.Need-returns-3 (combine-claims t) (combine-at t) combine.Post
-combine-returns-3 t c = lo-none (c .before .before .before .before .before .before .before .before .before .before .before .before .before .before .before .before .before .before .before .before .before .before .before .before .before .before .before .before .before .before .args .op) (c .before .before .before .before .before .before .before .before .before .before .before .before .before .before .before .before .before .before .before .before .before .before .before .before .before .before .before .before .before .before .pre .1 .0) (c .before .before .before .before .before .before .before .before .before .before .before .before .before .before .before .before .before .before .before .before .before .before .before .before .before .before .before .before .before .before .pre .1 .1 .1) (c .before .before .before .before .before .before .before .before .before .before .before .before .before .before .before .before .before .before .before .before .cut .ensures) (c .before .before .before .before .before .before .before .before .before .before .before .before .before .before .before .combine .ensures .0) (omega (arith, c .before .before .before .before .before .before .before .before .before .before .before .before .before .before .before .combine .ensures .0 .small, c .before .before .before .before .before .before .before .before .before .before .if2 .left)) (c .before .before .before .before .before .combine2 .ensures .0) (c .if3 .taken)
+combine-returns-3 t c =
+    let here = c .before .before .before .before .before .before .before .before .before .before .before .before .before .before .before in let combine′ = here .combine in
+    let cut′ = here .before .before .before .before .before .cut in
+    let args = here .before .before .before .before .before .before .before .before .before .before .before .before .before .before .before .args in
+    let pre = here .before .before .before .before .before .before .before .before .before .before .before .before .before .before .before .pre in
+    lo-none (args .op) (pre .1 .0) (pre .1 .1 .1) (cut′ .ensures) (combine′ .ensures .0)
+      (omega (arith, combine′ .ensures .0 .small, c .before .before .before .before .before .before .before .before .before .before .if2 .left))
+      (c .before .before .before .before .before .combine2 .ensures .0) (c .if3 .taken)
 
 combine-make-requires : (t : ℕ) → combine-lts.Need-make-requires (combine-claims t) (combine-at t) combine.Post
 combine-make-requires t c κs = (c .before .before .before .before .before .before .before .before .combine2 .ensures .0) .indexed
 
 combine-returns-4 : (t : ℕ) → combine-lts.Need-returns-4 (combine-claims t) (combine-at t) combine.Post
-combine-returns-4 t c = last-none (c .before .before .before .before .before .before .before .before .before .before .before .before .before .before .before .before .before .before .before .before .before .before .before .before .before .before .before .before .before .before .before .before .before .before .before .before .before .args .op) (c .before .before .before .before .before .before .before .before .before .before .before .before .before .before .before .before .before .before .before .before .before .before .before .before .before .before .before .before .before .before .before .before .before .before .before .before .before .pre .1 .0) (c .before .before .before .before .before .before .before .before .before .before .before .before .before .before .before .before .before .before .before .before .before .before .before .before .before .before .before .before .before .before .before .before .before .before .before .before .before .pre .1 .1 .1) (c .before .before .before .before .before .before .before .before .before .before .before .before .before .before .before .before .before .before .before .before .before .before .before .before .before .before .before .cut .ensures) (c .before .before .before .before .before .before .before .before .before .before .before .before .before .before .before .before .before .before .before .before .before .before .combine .ensures .0) (omega (arith, c .before .before .before .before .before .before .before .before .before .before .before .before .before .before .before .before .before .before .before .before .before .before .combine .ensures .0 .small, c .before .before .before .before .before .before .before .before .before .before .before .before .before .before .before .before .before .if2 .left)) (c .before .before .before .before .before .before .before .before .before .before .before .before .combine2 .ensures .0) (omega (arith, c .before .before .before .before .before .before .before .before .before .before .before .before .combine2 .ensures .0 .small, c .before .before .before .before .before .before .before .if3 .left)) (c .before .before .before .make .ensures) (c .if4 .taken)
+combine-returns-4 t c =
+    let here = c .before .before .before .before .before .before .before .before .before .before .before .before in let combine2 = here .combine2 in
+    let if2 = here .before .before .before .before .before .if2 in let combine′ = here .before .before .before .before .before .before .before .before .before .before .combine in
+    let cut′ = here .before .before .before .before .before .before .before .before .before .before .before .before .before .before .before .cut in
+    let args = here .before .before .before .before .before .before .before .before .before .before .before .before .before .before .before .before .before .before .before .before .before .before .before .before .before .args in
+    let pre = here .before .before .before .before .before .before .before .before .before .before .before .before .before .before .before .before .before .before .before .before .before .before .before .before .before .pre in
+    last-none (args .op) (pre .1 .0) (pre .1 .1 .1) (cut′ .ensures) (combine′ .ensures .0) (omega (arith, combine′ .ensures .0 .small, if2 .left)) (combine2 .ensures .0)
+      (omega (arith, combine2 .ensures .0 .small, c .before .before .before .before .before .before .before .if3 .left)) (c .before .before .before .make .ensures) (c .if4 .taken)
 
 combine-mul-memo : (t : ℕ) → combine-lts.Need-mul-memo (combine-claims t) (combine-at t) combine.Post
-combine-mul-memo t c = omega (arith, packed-small (c .before .before .before .before .before .before .before .before .before .before .before .before .before .before .before .before .before .before .before .before .before .before .before .before .before .before .before .before .before .before .before .before .before .pack .ensures) (omega (arith, (c .before .before .before .before .before .before .before .before .before .before .before .before .before .before .before .before .before .before .before .before .before .before .before .before .before .before .before .before .before .before .before .before .before .before .before .before .before .pre .1 .1 .1) .0, (c .before .before .before .before .before .before .before .before .before .before .before .before .before .before .before .before .before .before .before .before .before .before .before .before .before .before .before .before .before .before .before .before .before .before .before .before .before .pre .1 .1 .1) .1, (c .before .before .before .before .before .before .before .before .before .before .before .before .before .before .before .before .before .before .before .before .before .before .before .before .before .before .before .before .before .before .before .before .before .before .before .before .before .pre .1 .0) .sound .few)) (omega (arith, (c .before .before .before .before .before .before .before .before .before .before .before .before .before .before .before .before .before .before .before .before .before .before .before .before .before .before .before .before .before .before .before .before .before .before .before .before .before .pre .1 .1 .1) .0, (c .before .before .before .before .before .before .before .before .before .before .before .before .before .before .before .before .before .before .before .before .before .before .before .before .before .before .before .before .before .before .before .before .before .before .before .before .before .pre .1 .1 .1) .1, (c .before .before .before .before .before .before .before .before .before .before .before .before .before .before .before .before .before .before .before .before .before .before .before .before .before .before .before .before .before .before .before .before .before .before .before .before .before .pre .1 .0) .sound .few)))
+combine-mul-memo t c =
+    let here = c .before .before .before .before .before .before .before .before .before .before .before .before .before .before .before .before .before .before .before .before .before .before .before .before .before .before .before .before .before .before .before .before .before in
+    let pack′ = here .pack in let pre = here .before .before .before .before .pre in
+    omega (arith, packed-small (pack′ .ensures) (omega (arith, (pre .1 .1 .1) .0, (pre .1 .1 .1) .1, (pre .1 .0) .sound .few))
+      (omega (arith, (pre .1 .1 .1) .0, (pre .1 .1 .1) .1, (pre .1 .0) .sound .few)))
 
 combine-add-memo : (t : ℕ) → combine-lts.Need-add-memo (combine-claims t) (combine-at t) combine.Post
-combine-add-memo t c = omega (arith, c .full .ensures, packed-small (c .before .before .before .before .before .before .before .before .before .before .before .before .before .before .before .before .before .before .before .before .before .before .before .before .before .before .before .before .before .before .before .before .before .before .pack .ensures) (omega (arith, (c .before .before .before .before .before .before .before .before .before .before .before .before .before .before .before .before .before .before .before .before .before .before .before .before .before .before .before .before .before .before .before .before .before .before .before .before .before .before .pre .1 .1 .1) .0, (c .before .before .before .before .before .before .before .before .before .before .before .before .before .before .before .before .before .before .before .before .before .before .before .before .before .before .before .before .before .before .before .before .before .before .before .before .before .before .pre .1 .1 .1) .1, (c .before .before .before .before .before .before .before .before .before .before .before .before .before .before .before .before .before .before .before .before .before .before .before .before .before .before .before .before .before .before .before .before .before .before .before .before .before .before .pre .1 .0) .sound .few)) (omega (arith, (c .before .before .before .before .before .before .before .before .before .before .before .before .before .before .before .before .before .before .before .before .before .before .before .before .before .before .before .before .before .before .before .before .before .before .before .before .before .before .pre .1 .1 .1) .0, (c .before .before .before .before .before .before .before .before .before .before .before .before .before .before .before .before .before .before .before .before .before .before .before .before .before .before .before .before .before .before .before .before .before .before .before .before .before .before .pre .1 .1 .1) .1, (c .before .before .before .before .before .before .before .before .before .before .before .before .before .before .before .before .before .before .before .before .before .before .before .before .before .before .before .before .before .before .before .before .before .before .before .before .before .before .pre .1 .0) .sound .few)))
+combine-add-memo t c =
+    let here = c .before .before .before .before .before .before .before .before .before .before .before .before .before .before .before .before .before .before .before .before .before .before .before .before .before .before .before .before .before .before .before .before .before .before in
+    let pack′ = here .pack in let pre = here .before .before .before .before .pre in
+    omega (arith, c .full .ensures, packed-small (pack′ .ensures) (omega (arith, (pre .1 .1 .1) .0, (pre .1 .1 .1) .1, (pre .1 .0) .sound .few))
+      (omega (arith, (pre .1 .1 .1) .0, (pre .1 .1 .1) .1, (pre .1 .0) .sound .few)))
 
 combine-mul-memo-2 : (t : ℕ) → combine-lts.Need-mul-memo-2 (combine-claims t) (combine-at t) combine.Post
-combine-mul-memo-2 t c = omega (arith, c .before .before .before .before .before .before .before .before .before .before .before .before .before .before .before .before .before .before .before .before .before .before .before .before .before .before .before .before .before .before .before .before .before .place .ensures, c .before .before .before .before .before .before .before .before .before .before .before .before .before .before .before .before .before .before .before .before .before .before .before .before .before .before .before .before .before .before .before .before .before .before .before .before .before .before .good .1 .1 .1 .1 .0 .1)
+combine-mul-memo-2 t c =
+    let here = c .before .before .before .before .before .before .before .before .before .before .before .before .before .before .before .before .before .before .before .before .before .before .before .before .before .before .before .before .before .before .before .before .before in
+    let place′ = here .place in let good = here .before .before .before .before .before .good in
+    omega (arith, place′ .ensures, good .1 .1 .1 .1 .0 .1)
 
 combine-slice-write-memo : (t : ℕ) → combine-lts.Need-slice-write-memo (combine-claims t) (combine-at t) combine.Post
-combine-slice-write-memo t c = omega (arith, c .before .before .before .before .before .before .before .before .before .before .before .before .before .before .before .before .before .before .before .before .before .before .before .before .before .before .before .before .before .before .before .before .before .place .ensures, c .before .before .before .before .before .before .before .before .before .before .before .before .before .before .before .before .before .before .before .before .memo .given, c .before .before .before .before .before .before .before .before .before .before .memo2 .given)
+combine-slice-write-memo t c =
+    let here = c .before .before .before .before .before .before .before .before .before .before .before .before .before .before .before .before .before .before .before .before in
+    let memo = here .memo in let place′ = here .before .before .before .before .before .before .before .before .before .before .before .before .before .place in
+    omega (arith, place′ .ensures, memo .given, c .before .before .before .before .before .before .before .before .before .before .memo2 .given)
 
 combine-same-length-9 : (t : ℕ) → combine-lts.Need-same-length-9 (combine-claims t) (combine-at t) combine.Post
-combine-same-length-9 t c = simp length-set (c .before .before .before .before .before .before .before .before .before .before .memo2 .given ∙ c .before .before .before .before .before .before .before .before .before .before .before .before .before .before .before .before .before .before .before .before .memo .given)
+combine-same-length-9 t c =
+    let memo = c .before .before .before .before .before .before .before .before .before .before .before .before .before .before .before .before .before .before .before .before .memo in
+    simp length-set (c .before .before .before .before .before .before .before .before .before .before .memo2 .given ∙ memo .given)
 
 combine-returns-5 : (t : ℕ) → combine-lts.Need-returns-5 (combine-claims t) (combine-at t) combine.Post
-combine-returns-5 t c = last-stored (c .before .before .before .before .before .before .before .before .before .before .before .before .before .before .before .before .before .before .before .before .before .before .before .before .before .before .before .before .before .before .before .before .before .before .before .before .before .before .args .op) (c .before .before .before .before .before .before .before .before .before .before .before .before .before .before .before .before .before .before .before .before .before .before .before .before .before .before .before .before .before .before .before .before .before .before .before .before .before .before .pre .1 .0) (c .before .before .before .before .before .before .before .before .before .before .before .before .before .before .before .before .before .before .before .before .before .before .before .before .before .before .before .before .before .before .before .before .before .before .before .before .before .before .pre .1 .1 .1) (c .before .before .before .before .before .before .before .before .before .before .before .before .before .before .before .before .before .before .before .before .before .before .before .before .before .before .before .before .cut .ensures) (c .before .before .before .before .before .before .before .before .before .before .before .before .before .before .before .before .before .before .before .before .before .before .before .combine .ensures .0) (omega (arith, c .before .before .before .before .before .before .before .before .before .before .before .before .before .before .before .before .before .before .before .before .before .before .before .combine .ensures .0 .small, c .before .before .before .before .before .before .before .before .before .before .before .before .before .before .before .before .before .before .if2 .left)) (c .before .before .before .before .before .before .before .before .before .before .before .before .before .combine2 .ensures .0) (omega (arith, c .before .before .before .before .before .before .before .before .before .before .before .before .before .combine2 .ensures .0 .small, c .before .before .before .before .before .before .before .before .if3 .left)) (c .before .before .before .before .make .ensures) _ _ (c .before .before .before .before .before .before .before .before .before .before .before .before .before .before .before .before .before .before .before .before .before .before .before .before .before .before .before .before .before .before .before .before .before .before .pack .ensures) (omega (arith, c .before .before .before .before .before .before .before .before .before .before .before .before .before .before .before .before .before .before .before .before .before .before .before .before .before .before .before .before .before .before .before .before .before .place .ensures, c .before .before .before .before .before .before .before .before .before .before .before .before .before .before .before .before .before .before .before .before .memo .given, c .before .before .before .before .before .before .before .before .before .before .memo2 .given)) (omega (arith, c .full .ensures .0)) (c .before .before .before .before .before .before .before .before .before .before .before .before .before .combine2 .ensures .1 (omega (arith, c .before .before .before .before .before .before .before .before .before .before .before .before .before .combine2 .ensures .0 .small, c .before .before .before .before .before .before .before .before .if3 .left)))
+combine-returns-5 t c =
+    let here = c .before .before .before .before .before .before .before .before in let if3 = here .if3 in let combine2 = here .before .before .before .before .before .combine2 in
+    let if2 = here .before .before .before .before .before .before .before .before .before .before .if2 in
+    let memo = here .before .before .before .before .before .before .before .before .before .before .before .before .memo in
+    let combine′ = here .before .before .before .before .before .before .before .before .before .before .before .before .before .before .before .combine in
+    let cut′ = here .before .before .before .before .before .before .before .before .before .before .before .before .before .before .before .before .before .before .before .before .cut in
+    let place′ = here .before .before .before .before .before .before .before .before .before .before .before .before .before .before .before .before .before .before .before .before .before .before .before .before .before .place in
+    let pack′ = here .before .before .before .before .before .before .before .before .before .before .before .before .before .before .before .before .before .before .before .before .before .before .before .before .before .before .pack in
+    let args = here .before .before .before .before .before .before .before .before .before .before .before .before .before .before .before .before .before .before .before .before .before .before .before .before .before .before .before .before .before .before .args in
+    let pre = here .before .before .before .before .before .before .before .before .before .before .before .before .before .before .before .before .before .before .before .before .before .before .before .before .before .before .before .before .before .before .pre in
+    last-stored (args .op) (pre .1 .0) (pre .1 .1 .1) (cut′ .ensures) (combine′ .ensures .0) (omega (arith, combine′ .ensures .0 .small, if2 .left)) (combine2 .ensures .0)
+      (omega (arith, combine2 .ensures .0 .small, if3 .left)) (c .before .before .before .before .make .ensures) _ _ (pack′ .ensures)
+      (omega (arith, place′ .ensures, memo .given, c .before .before .before .before .before .before .before .before .before .before .memo2 .given)) (omega (arith, c .full .ensures .0))
+      (combine2 .ensures .1 (omega (arith, combine2 .ensures .0 .small, if3 .left)))
 
 pub +combine-spec : {M : Type 1} → statement M
 +combine-spec = close μ-combine λ t. combine-lts.spec (

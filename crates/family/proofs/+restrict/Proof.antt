@@ -39,79 +39,173 @@ restrict-claims t = (
 )
 
 restrict-soon-requires : (t : ℕ) → restrict-lts.Need-soon-requires (restrict-claims t) (restrict-at t) restrict.Post
-restrict-soon-requires t c κs = (c .before .before .before .before .pre .1 .0 .sound, (c .before .before .before .before .pre .1 .0 .keys, (c .before .before .before .before .pre .1 .1 .0, c .before .before .before .before .pre .1 .1 .1)))
+restrict-soon-requires t c κs =
+    let pre = c .before .before .before .before .pre in
+    (pre .1 .0 .sound, (pre .1 .0 .keys, (pre .1 .1 .0, pre .1 .1 .1)))
 
 restrict-returns : (t : ℕ) → restrict-lts.Need-returns (restrict-claims t) (restrict-at t) restrict.Post
-restrict-returns t c = soon-gives (c .before .before .before .before .before .before .pre .1 .0) (c .before .before .before .before .before .before .pre .1 .1 .0) (c .before .soon .ensures) (λ e. omega (arith, c .if1 .taken))
+restrict-returns t c =
+    let pre = c .before .before .before .before .before .before .pre in
+    soon-gives (pre .1 .0) (pre .1 .1 .0) (c .before .soon .ensures) (λ e. omega (arith, c .if1 .taken))
 
 restrict-sub-w : (t : ℕ) → restrict-lts.Need-sub-w (restrict-claims t) (restrict-at t) restrict.Post
-restrict-sub-w t c = omega (arith, c .before .before .before .before .before .before .before .pre .1 .0 .sound .room, c .wide .ensures, c .before .before .before .before .before .before .before .pre .1 .1 .1 .0, c .before .before .soon .ensures .branch (c .before .if1 .left))
+restrict-sub-w t c =
+    let pre = c .before .before .before .before .before .before .before .pre in
+    omega (arith, pre .1 .0 .sound .room, c .wide .ensures, pre .1 .1 .1 .0, c .before .before .soon .ensures .branch (c .before .if1 .left))
 
 restrict-mul-label : (t : ℕ) → restrict-lts.Need-mul-label (restrict-claims t) (restrict-at t) restrict.Post
-restrict-mul-label t c = omega (arith, c .before .before .before .before .before .before .before .pre .1 .0 .sound .room, c .wide .ensures, c .before .before .before .before .before .before .before .pre .1 .1 .1 .0, c .before .before .soon .ensures .branch (c .before .if1 .left))
+restrict-mul-label t c =
+    let pre = c .before .before .before .before .before .before .before .pre in
+    omega (arith, pre .1 .0 .sound .room, c .wide .ensures, pre .1 .1 .1 .0, c .before .before .soon .ensures .branch (c .before .if1 .left))
 
 restrict-slice-read-label : (t : ℕ) → restrict-lts.Need-slice-read-label (restrict-claims t) (restrict-at t) restrict.Post
-restrict-slice-read-label t c = omega (arith, c .before .before .before .before .before .before .before .before .pre .1 .0 .sound .room, c .before .wide .ensures, c .before .before .before .before .before .before .before .before .pre .1 .1 .1 .0, c .before .before .before .soon .ensures .branch (c .before .before .if1 .left))
+restrict-slice-read-label t c =
+    let pre = c .before .before .before .before .before .before .before .before .pre in
+    omega (arith, pre .1 .0 .sound .room, c .before .wide .ensures, pre .1 .1 .1 .0, c .before .before .before .soon .ensures .branch (c .before .before .if1 .left))
 
 restrict-add-lo : (t : ℕ) → restrict-lts.Need-add-lo (restrict-claims t) (restrict-at t) restrict.Post
-restrict-add-lo t c = omega (arith, c .before .before .before .before .before .before .before .before .pre .1 .0 .sound .room, c .before .wide .ensures, c .before .before .before .before .before .before .before .before .pre .1 .1 .1 .0, c .before .before .before .soon .ensures .branch (c .before .before .if1 .left))
+restrict-add-lo t c =
+    let pre = c .before .before .before .before .before .before .before .before .pre in
+    omega (arith, pre .1 .0 .sound .room, c .before .wide .ensures, pre .1 .1 .1 .0, c .before .before .before .soon .ensures .branch (c .before .before .if1 .left))
 
 restrict-mul-lo : (t : ℕ) → restrict-lts.Need-mul-lo (restrict-claims t) (restrict-at t) restrict.Post
-restrict-mul-lo t c = omega (arith, c .before .before .before .before .before .before .before .before .pre .1 .0 .sound .room, c .before .wide .ensures, c .before .before .before .before .before .before .before .before .pre .1 .1 .1 .0, c .before .before .before .soon .ensures .branch (c .before .before .if1 .left))
+restrict-mul-lo t c =
+    let pre = c .before .before .before .before .before .before .before .before .pre in
+    omega (arith, pre .1 .0 .sound .room, c .before .wide .ensures, pre .1 .1 .1 .0, c .before .before .before .soon .ensures .branch (c .before .before .if1 .left))
 
 restrict-slice-read-lo : (t : ℕ) → restrict-lts.Need-slice-read-lo (restrict-claims t) (restrict-at t) restrict.Post
-restrict-slice-read-lo t c = omega (arith, c .before .before .before .before .before .before .before .before .before .pre .1 .0 .sound .room, c .before .before .wide .ensures, c .before .before .before .before .before .before .before .before .before .pre .1 .1 .1 .0, c .before .before .before .before .soon .ensures .branch (c .before .before .before .if1 .left))
+restrict-slice-read-lo t c =
+    let pre = c .before .before .before .before .before .before .before .before .before .pre in
+    omega (arith, pre .1 .0 .sound .room, c .before .before .wide .ensures, pre .1 .1 .1 .0, c .before .before .before .before .soon .ensures .branch (c .before .before .before .if1 .left))
 
 restrict-add-hi : (t : ℕ) → restrict-lts.Need-add-hi (restrict-claims t) (restrict-at t) restrict.Post
-restrict-add-hi t c = omega (arith, c .before .before .before .before .before .before .before .before .before .pre .1 .0 .sound .room, c .before .before .wide .ensures, c .before .before .before .before .before .before .before .before .before .pre .1 .1 .1 .0, c .before .before .before .before .soon .ensures .branch (c .before .before .before .if1 .left))
+restrict-add-hi t c =
+    let pre = c .before .before .before .before .before .before .before .before .before .pre in
+    omega (arith, pre .1 .0 .sound .room, c .before .before .wide .ensures, pre .1 .1 .1 .0, c .before .before .before .before .soon .ensures .branch (c .before .before .before .if1 .left))
 
 restrict-mul-hi : (t : ℕ) → restrict-lts.Need-mul-hi (restrict-claims t) (restrict-at t) restrict.Post
-restrict-mul-hi t c = omega (arith, c .before .before .before .before .before .before .before .before .before .pre .1 .0 .sound .room, c .before .before .wide .ensures, c .before .before .before .before .before .before .before .before .before .pre .1 .1 .1 .0, c .before .before .before .before .soon .ensures .branch (c .before .before .before .if1 .left))
+restrict-mul-hi t c =
+    let pre = c .before .before .before .before .before .before .before .before .before .pre in
+    omega (arith, pre .1 .0 .sound .room, c .before .before .wide .ensures, pre .1 .1 .1 .0, c .before .before .before .before .soon .ensures .branch (c .before .before .before .if1 .left))
 
 restrict-slice-read-hi : (t : ℕ) → restrict-lts.Need-slice-read-hi (restrict-claims t) (restrict-at t) restrict.Post
-restrict-slice-read-hi t c = omega (arith, c .before .before .before .before .before .before .before .before .before .before .pre .1 .0 .sound .room, c .before .before .before .wide .ensures, c .before .before .before .before .before .before .before .before .before .before .pre .1 .1 .1 .0, c .before .before .before .before .before .soon .ensures .branch (c .before .before .before .before .if1 .left))
+restrict-slice-read-hi t c =
+    let pre = c .before .before .before .before .before .before .before .before .before .before .pre in
+    omega (arith, pre .1 .0 .sound .room, c .before .before .before .wide .ensures, pre .1 .1 .1 .0, c .before .before .before .before .before .soon .ensures .branch
+      (c .before .before .before .before .if1 .left))
 
 restrict-make-requires : (t : ℕ) → restrict-lts.Need-make-requires (restrict-claims t) (restrict-at t) restrict.Post
 restrict-make-requires t c κs = c .before .before .before .before .before .before .before .before .before .before .before .before .before .before .pre .1 .0 .indexed
 
 restrict-returns-2 : (t : ℕ) → restrict-lts.Need-returns-2 (restrict-claims t) (restrict-at t) restrict.Post
-restrict-returns-2 t c = own-gives (open-of (3 * c .before .before .before .before .before .before .before .before .before .before .wide .result - 5) (c .before .before .before .before .before .before .before .before .before .before .before .before .before .before .before .before .before .pre .1 .0) (c .before .before .before .before .before .before .before .before .before .before .before .before .before .before .before .before .before .pre .1 .1 .0) (c .before .before .before .before .before .before .before .before .before .before .before .before .before .before .before .before .before .pre .1 .1 .1) (c .before .before .before .before .before .before .before .before .before .before .before .before .soon .ensures) (c .before .before .before .before .before .before .before .before .before .before .before .if1 .left) (omega (arith, c .before .before .before .before .before .before .before .before .before .before .wide .ensures))) (c .before .before .before .before .before .before .if2 .taken) (c .before .before .make .ensures)
+restrict-returns-2 t c =
+    let here = c .before .before .before .before .before .before .before .before .before .before in let wide′ = here .wide in let soon′ = here .before .before .soon in
+    let pre = here .before .before .before .before .before .before .before .pre in
+    own-gives (open-of (3 * wide′ .result - 5) (pre .1 .0) (pre .1 .1 .0) (pre .1 .1 .1) (soon′ .ensures)
+      (c .before .before .before .before .before .before .before .before .before .before .before .if1 .left) (omega (arith, wide′ .ensures)))
+      (c .before .before .before .before .before .before .if2 .taken) (c .before .before .make .ensures)
 
 restrict-restrict-requires : (t : ℕ) → restrict-lts.Need-restrict-requires (restrict-claims t) (restrict-at t) restrict.Post
-restrict-restrict-requires t c κs = (omega (arith, c .before .before .before .before .before .before .before .before .before .before .before .before .before .before .before .pre .0, hi-falls (open-of (3 * c .before .before .before .before .before .before .before .before .wide .result - 5) (c .before .before .before .before .before .before .before .before .before .before .before .before .before .before .before .pre .1 .0) (c .before .before .before .before .before .before .before .before .before .before .before .before .before .before .before .pre .1 .1 .0) (c .before .before .before .before .before .before .before .before .before .before .before .before .before .before .before .pre .1 .1 .1) (c .before .before .before .before .before .before .before .before .before .before .soon .ensures) (c .before .before .before .before .before .before .before .before .before .if1 .left) (omega (arith, c .before .before .before .before .before .before .before .before .wide .ensures)))), (c .before .before .before .before .before .before .before .before .before .before .before .before .before .before .before .pre .1 .0, (c .before .before .before .before .before .before .before .before .before .before .before .before .before .before .before .pre .1 .1 .0, (hi-below (open-of (3 * c .before .before .before .before .before .before .before .before .wide .result - 5) (c .before .before .before .before .before .before .before .before .before .before .before .before .before .before .before .pre .1 .0) (c .before .before .before .before .before .before .before .before .before .before .before .before .before .before .before .pre .1 .1 .0) (c .before .before .before .before .before .before .before .before .before .before .before .before .before .before .before .pre .1 .1 .1) (c .before .before .before .before .before .before .before .before .before .before .soon .ensures) (c .before .before .before .before .before .before .before .before .before .if1 .left) (omega (arith, c .before .before .before .before .before .before .before .before .wide .ensures))), c .before .before .before .before .before .before .before .before .before .before .before .before .before .before .before .pre .1 .1 .1 .1))))
+restrict-restrict-requires t c κs =
+    let here = c .before .before .before .before .before .before .before .before in let wide′ = here .wide in let if1 = here .before .if1 in let soon′ = here .before .before .soon in
+    let pre = here .before .before .before .before .before .before .before .pre in
+    (omega (arith, pre .0, hi-falls (open-of (3 * wide′ .result - 5) (pre .1 .0) (pre .1 .1 .0) (pre .1 .1 .1) (soon′ .ensures) (if1 .left) (omega (arith, wide′ .ensures)))),
+      (pre .1 .0, (pre .1 .1 .0, (hi-below (open-of (3 * wide′ .result - 5) (pre .1 .0) (pre .1 .1 .0) (pre .1 .1 .1) (soon′ .ensures) (if1 .left) (omega (arith, wide′ .ensures))),
+      pre .1 .1 .1 .1))))
 
 restrict-same-length-3 : (t : ℕ) → restrict-lts.Need-same-length-3 (restrict-claims t) (restrict-at t) restrict.Post
 restrict-same-length-3 t c = (c .before .before .before .restrict .ensures .0) .long
 
 restrict-returns-3 : (t : ℕ) → restrict-lts.Need-returns-3 (restrict-claims t) (restrict-at t) restrict.Post
-restrict-returns-3 t c = hi-none (open-of (3 * c .before .before .before .before .before .before .before .before .before .before .before .before .wide .result - 5) (c .before .before .before .before .before .before .before .before .before .before .before .before .before .before .before .before .before .before .before .pre .1 .0) (c .before .before .before .before .before .before .before .before .before .before .before .before .before .before .before .before .before .before .before .pre .1 .1 .0) (c .before .before .before .before .before .before .before .before .before .before .before .before .before .before .before .before .before .before .before .pre .1 .1 .1) (c .before .before .before .before .before .before .before .before .before .before .before .before .before .before .soon .ensures) (c .before .before .before .before .before .before .before .before .before .before .before .before .before .if1 .left) (omega (arith, c .before .before .before .before .before .before .before .before .before .before .before .before .wide .ensures))) (λ e. omega (arith, c .before .before .before .before .before .before .before .before .if2 .left)) (c .before .before .before .restrict .ensures .0) (c .if3 .taken)
+restrict-returns-3 t c =
+    let here = c .before .before .before .before .before .before .before .before .before .before .before .before in let wide′ = here .wide in let if1 = here .before .if1 in
+    let soon′ = here .before .before .soon in let pre = here .before .before .before .before .before .before .before .pre in
+    hi-none (open-of (3 * wide′ .result - 5) (pre .1 .0) (pre .1 .1 .0) (pre .1 .1 .1) (soon′ .ensures) (if1 .left) (omega (arith, wide′ .ensures)))
+      (λ e. omega (arith, c .before .before .before .before .before .before .before .before .if2 .left)) (c .before .before .before .restrict .ensures .0) (c .if3 .taken)
 
 restrict-restrict-requires-2 : (t : ℕ) → restrict-lts.Need-restrict-requires-2 (restrict-claims t) (restrict-at t) restrict.Post
-restrict-restrict-requires-2 t c κs = (omega (arith, c .before .before .before .before .before .before .before .before .before .before .before .before .before .before .before .before .before .before .before .before .before .before .before .pre .0, lo-falls (open-of (3 * c .before .before .before .before .before .before .before .before .before .before .before .before .before .before .before .before .wide .result - 5) (c .before .before .before .before .before .before .before .before .before .before .before .before .before .before .before .before .before .before .before .before .before .before .before .pre .1 .0) (c .before .before .before .before .before .before .before .before .before .before .before .before .before .before .before .before .before .before .before .before .before .before .before .pre .1 .1 .0) (c .before .before .before .before .before .before .before .before .before .before .before .before .before .before .before .before .before .before .before .before .before .before .before .pre .1 .1 .1) (c .before .before .before .before .before .before .before .before .before .before .before .before .before .before .before .before .before .before .soon .ensures) (c .before .before .before .before .before .before .before .before .before .before .before .before .before .before .before .before .before .if1 .left) (omega (arith, c .before .before .before .before .before .before .before .before .before .before .before .before .before .before .before .before .wide .ensures)))), (hi-ready (open-of (3 * c .before .before .before .before .before .before .before .before .before .before .before .before .before .before .before .before .wide .result - 5) (c .before .before .before .before .before .before .before .before .before .before .before .before .before .before .before .before .before .before .before .before .before .before .before .pre .1 .0) (c .before .before .before .before .before .before .before .before .before .before .before .before .before .before .before .before .before .before .before .before .before .before .before .pre .1 .1 .0) (c .before .before .before .before .before .before .before .before .before .before .before .before .before .before .before .before .before .before .before .before .before .before .before .pre .1 .1 .1) (c .before .before .before .before .before .before .before .before .before .before .before .before .before .before .before .before .before .before .soon .ensures) (c .before .before .before .before .before .before .before .before .before .before .before .before .before .before .before .before .before .if1 .left) (omega (arith, c .before .before .before .before .before .before .before .before .before .before .before .before .before .before .before .before .wide .ensures))) (λ e. omega (arith, c .before .before .before .before .before .before .before .before .before .before .before .before .if2 .left)) (c .before .before .before .before .before .before .before .restrict .ensures .0), (c .before .before .before .before .before .before .before .restrict .ensures .1 (omega (arith, c .before .before .before .before .before .before .before .restrict .ensures .0 .small, c .before .before .before .before .if3 .left)), (lo-below (open-of (3 * c .before .before .before .before .before .before .before .before .before .before .before .before .before .before .before .before .wide .result - 5) (c .before .before .before .before .before .before .before .before .before .before .before .before .before .before .before .before .before .before .before .before .before .before .before .pre .1 .0) (c .before .before .before .before .before .before .before .before .before .before .before .before .before .before .before .before .before .before .before .before .before .before .before .pre .1 .1 .0) (c .before .before .before .before .before .before .before .before .before .before .before .before .before .before .before .before .before .before .before .before .before .before .before .pre .1 .1 .1) (c .before .before .before .before .before .before .before .before .before .before .before .before .before .before .before .before .before .before .soon .ensures) (c .before .before .before .before .before .before .before .before .before .before .before .before .before .before .before .before .before .if1 .left) (omega (arith, c .before .before .before .before .before .before .before .before .before .before .before .before .before .before .before .before .wide .ensures))) (λ e. omega (arith, c .before .before .before .before .before .before .before .before .before .before .before .before .if2 .left)) (c .before .before .before .before .before .before .before .restrict .ensures .0) (omega (arith, c .before .before .before .before .before .before .before .restrict .ensures .0 .small, c .before .before .before .before .if3 .left)), c .before .before .before .before .before .before .before .before .before .before .before .before .before .before .before .before .before .before .before .before .before .before .before .pre .1 .1 .1 .1))))
+restrict-restrict-requires-2 t c κs =
+    let here = c .before .before .before .before in let if3 = here .if3 in let restrict′ = here .before .before .before .restrict in
+    let if2 = here .before .before .before .before .before .before .before .before .if2 in
+    let wide′ = here .before .before .before .before .before .before .before .before .before .before .before .before .wide in
+    let if1 = here .before .before .before .before .before .before .before .before .before .before .before .before .before .if1 in
+    let soon′ = here .before .before .before .before .before .before .before .before .before .before .before .before .before .before .soon in
+    let pre = here .before .before .before .before .before .before .before .before .before .before .before .before .before .before .before .before .before .before .before .pre in
+    (omega (arith, pre .0, lo-falls (open-of (3 * wide′ .result - 5) (pre .1 .0) (pre .1 .1 .0) (pre .1 .1 .1) (soon′ .ensures) (if1 .left) (omega (arith, wide′ .ensures)))),
+      (hi-ready (open-of (3 * wide′ .result - 5) (pre .1 .0) (pre .1 .1 .0) (pre .1 .1 .1) (soon′ .ensures) (if1 .left) (omega (arith, wide′ .ensures))) (λ e. omega (arith, if2 .left))
+      (restrict′ .ensures .0), (restrict′ .ensures .1 (omega (arith, restrict′ .ensures .0 .small, if3 .left)),
+      (lo-below (open-of (3 * wide′ .result - 5) (pre .1 .0) (pre .1 .1 .0) (pre .1 .1 .1) (soon′ .ensures) (if1 .left) (omega (arith, wide′ .ensures))) (λ e. omega (arith, if2 .left))
+      (restrict′ .ensures .0) (omega (arith, restrict′ .ensures .0 .small, if3 .left)), pre .1 .1 .1 .1))))
 
 restrict-same-length-4 : (t : ℕ) → restrict-lts.Need-same-length-4 (restrict-claims t) (restrict-at t) restrict.Post
-restrict-same-length-4 t c = (c .before .before .before .restrict2 .ensures .0) .long ∙ (c .before .before .before .before .before .before .before .before .before .before .before .restrict .ensures .0) .long
+restrict-same-length-4 t c = (c .before .before .before .restrict2 .ensures .0) .long ∙
+    (c .before .before .before .before .before .before .before .before .before .before .before .restrict .ensures .0) .long
 
 restrict-returns-4 : (t : ℕ) → restrict-lts.Need-returns-4 (restrict-claims t) (restrict-at t) restrict.Post
-restrict-returns-4 t c = lo-none (open-of (3 * c .before .before .before .before .before .before .before .before .before .before .before .before .before .before .before .before .before .before .before .before .wide .result - 5) (c .before .before .before .before .before .before .before .before .before .before .before .before .before .before .before .before .before .before .before .before .before .before .before .before .before .before .before .pre .1 .0) (c .before .before .before .before .before .before .before .before .before .before .before .before .before .before .before .before .before .before .before .before .before .before .before .before .before .before .before .pre .1 .1 .0) (c .before .before .before .before .before .before .before .before .before .before .before .before .before .before .before .before .before .before .before .before .before .before .before .before .before .before .before .pre .1 .1 .1) (c .before .before .before .before .before .before .before .before .before .before .before .before .before .before .before .before .before .before .before .before .before .before .soon .ensures) (c .before .before .before .before .before .before .before .before .before .before .before .before .before .before .before .before .before .before .before .before .before .if1 .left) (omega (arith, c .before .before .before .before .before .before .before .before .before .before .before .before .before .before .before .before .before .before .before .before .wide .ensures))) (λ e. omega (arith, c .before .before .before .before .before .before .before .before .before .before .before .before .before .before .before .before .if2 .left)) (c .before .before .before .before .before .before .before .before .before .before .before .restrict .ensures .0) (omega (arith, c .before .before .before .before .before .before .before .before .before .before .before .restrict .ensures .0 .small, c .before .before .before .before .before .before .before .before .if3 .left)) (c .before .before .before .restrict2 .ensures .0) (c .if4 .taken)
+restrict-returns-4 t c =
+    let here = c .before .before .before .before .before .before .before .before .before .before .before in let restrict′ = here .restrict in
+    let if2 = here .before .before .before .before .before .if2 in let wide′ = here .before .before .before .before .before .before .before .before .before .wide in
+    let if1 = here .before .before .before .before .before .before .before .before .before .before .if1 in
+    let soon′ = here .before .before .before .before .before .before .before .before .before .before .before .soon in
+    let pre = here .before .before .before .before .before .before .before .before .before .before .before .before .before .before .before .before .pre in
+    lo-none (open-of (3 * wide′ .result - 5) (pre .1 .0) (pre .1 .1 .0) (pre .1 .1 .1) (soon′ .ensures) (if1 .left) (omega (arith, wide′ .ensures))) (λ e. omega (arith, if2 .left))
+      (restrict′ .ensures .0) (omega (arith, restrict′ .ensures .0 .small, c .before .before .before .before .before .before .before .before .if3 .left))
+      (c .before .before .before .restrict2 .ensures .0) (c .if4 .taken)
 
 restrict-make-requires-2 : (t : ℕ) → restrict-lts.Need-make-requires-2 (restrict-claims t) (restrict-at t) restrict.Post
 restrict-make-requires-2 t c κs = (c .before .before .before .before .before .before .restrict2 .ensures .0) .indexed
 
 restrict-returns-5 : (t : ℕ) → restrict-lts.Need-returns-5 (restrict-claims t) (restrict-at t) restrict.Post
-restrict-returns-5 t c = last-none (open-of (3 * c .before .before .before .before .before .before .before .before .before .before .before .before .before .before .before .before .before .before .before .before .before .before .before .before .before .before .before .wide .result - 5) (c .before .before .before .before .before .before .before .before .before .before .before .before .before .before .before .before .before .before .before .before .before .before .before .before .before .before .before .before .before .before .before .before .before .before .pre .1 .0) (c .before .before .before .before .before .before .before .before .before .before .before .before .before .before .before .before .before .before .before .before .before .before .before .before .before .before .before .before .before .before .before .before .before .before .pre .1 .1 .0) (c .before .before .before .before .before .before .before .before .before .before .before .before .before .before .before .before .before .before .before .before .before .before .before .before .before .before .before .before .before .before .before .before .before .before .pre .1 .1 .1) (c .before .before .before .before .before .before .before .before .before .before .before .before .before .before .before .before .before .before .before .before .before .before .before .before .before .before .before .before .before .soon .ensures) (c .before .before .before .before .before .before .before .before .before .before .before .before .before .before .before .before .before .before .before .before .before .before .before .before .before .before .before .before .if1 .left) (omega (arith, c .before .before .before .before .before .before .before .before .before .before .before .before .before .before .before .before .before .before .before .before .before .before .before .before .before .before .before .wide .ensures))) (λ e. omega (arith, c .before .before .before .before .before .before .before .before .before .before .before .before .before .before .before .before .before .before .before .before .before .before .before .if2 .left)) (c .before .before .before .before .before .before .before .before .before .before .before .before .before .before .before .before .before .before .restrict .ensures .0) (omega (arith, c .before .before .before .before .before .before .before .before .before .before .before .before .before .before .before .before .before .before .restrict .ensures .0 .small, c .before .before .before .before .before .before .before .before .before .before .before .before .before .before .before .if3 .left)) (c .before .before .before .before .before .before .before .before .before .before .restrict2 .ensures .0) (omega (arith, c .before .before .before .before .before .before .before .before .before .before .restrict2 .ensures .0 .small, c .before .before .before .before .before .before .before .if4 .left)) (c .before .before .before .make2 .ensures) (c .if5 .taken)
+restrict-returns-5 t c =
+    let here = c .before .before .before .before .before .before .before .before .before .before in let restrict2 = here .restrict2 in
+    let if3 = here .before .before .before .before .before .if3 in let restrict′ = here .before .before .before .before .before .before .before .before .restrict in
+    let if2 = here .before .before .before .before .before .before .before .before .before .before .before .before .before .if2 in
+    let wide′ = here .before .before .before .before .before .before .before .before .before .before .before .before .before .before .before .before .before .wide in
+    let if1 = here .before .before .before .before .before .before .before .before .before .before .before .before .before .before .before .before .before .before .if1 in
+    let soon′ = here .before .before .before .before .before .before .before .before .before .before .before .before .before .before .before .before .before .before .before .soon in
+    let pre = here .before .before .before .before .before .before .before .before .before .before .before .before .before .before .before .before .before .before .before .before .before .before .before .before .pre in
+    last-none (open-of (3 * wide′ .result - 5) (pre .1 .0) (pre .1 .1 .0) (pre .1 .1 .1) (soon′ .ensures) (if1 .left) (omega (arith, wide′ .ensures))) (λ e. omega (arith, if2 .left))
+      (restrict′ .ensures .0) (omega (arith, restrict′ .ensures .0 .small, if3 .left)) (restrict2 .ensures .0)
+      (omega (arith, restrict2 .ensures .0 .small, c .before .before .before .before .before .before .before .if4 .left)) (c .before .before .before .make2 .ensures) (c .if5 .taken)
 
 restrict-add-memo : (t : ℕ) → restrict-lts.Need-add-memo (restrict-claims t) (restrict-at t) restrict.Post
-restrict-add-memo t c = omega (arith, last-small (open-of (3 * c .before .before .before .before .before .before .before .before .before .before .before .before .before .before .before .before .before .before .before .before .before .before .before .before .before .before .before .wide .result - 5) (c .before .before .before .before .before .before .before .before .before .before .before .before .before .before .before .before .before .before .before .before .before .before .before .before .before .before .before .before .before .before .before .before .before .before .pre .1 .0) (c .before .before .before .before .before .before .before .before .before .before .before .before .before .before .before .before .before .before .before .before .before .before .before .before .before .before .before .before .before .before .before .before .before .before .pre .1 .1 .0) (c .before .before .before .before .before .before .before .before .before .before .before .before .before .before .before .before .before .before .before .before .before .before .before .before .before .before .before .before .before .before .before .before .before .before .pre .1 .1 .1) (c .before .before .before .before .before .before .before .before .before .before .before .before .before .before .before .before .before .before .before .before .before .before .before .before .before .before .before .before .before .soon .ensures) (c .before .before .before .before .before .before .before .before .before .before .before .before .before .before .before .before .before .before .before .before .before .before .before .before .before .before .before .before .if1 .left) (omega (arith, c .before .before .before .before .before .before .before .before .before .before .before .before .before .before .before .before .before .before .before .before .before .before .before .before .before .before .before .wide .ensures))) (λ e. omega (arith, c .before .before .before .before .before .before .before .before .before .before .before .before .before .before .before .before .before .before .before .before .before .before .before .if2 .left)) (c .before .before .before .before .before .before .before .before .before .before .before .before .before .before .before .before .before .before .restrict .ensures .0) (omega (arith, c .before .before .before .before .before .before .before .before .before .before .before .before .before .before .before .before .before .before .restrict .ensures .0 .small, c .before .before .before .before .before .before .before .before .before .before .before .before .before .before .before .if3 .left)) (c .before .before .before .before .before .before .before .before .before .before .restrict2 .ensures .0) (omega (arith, c .before .before .before .before .before .before .before .before .before .before .restrict2 .ensures .0 .small, c .before .before .before .before .before .before .before .if4 .left)) (c .before .before .before .make2 .ensures))
+restrict-add-memo t c =
+    let here = c .before .before .before .before .before .before .before .before .before .before in let restrict2 = here .restrict2 in
+    let if3 = here .before .before .before .before .before .if3 in let restrict′ = here .before .before .before .before .before .before .before .before .restrict in
+    let if2 = here .before .before .before .before .before .before .before .before .before .before .before .before .before .if2 in
+    let wide′ = here .before .before .before .before .before .before .before .before .before .before .before .before .before .before .before .before .before .wide in
+    let if1 = here .before .before .before .before .before .before .before .before .before .before .before .before .before .before .before .before .before .before .if1 in
+    let soon′ = here .before .before .before .before .before .before .before .before .before .before .before .before .before .before .before .before .before .before .before .soon in
+    let pre = here .before .before .before .before .before .before .before .before .before .before .before .before .before .before .before .before .before .before .before .before .before .before .before .before .pre in
+    omega (arith, last-small (open-of (3 * wide′ .result - 5) (pre .1 .0) (pre .1 .1 .0) (pre .1 .1 .1) (soon′ .ensures) (if1 .left) (omega (arith, wide′ .ensures)))
+      (λ e. omega (arith, if2 .left)) (restrict′ .ensures .0) (omega (arith, restrict′ .ensures .0 .small, if3 .left)) (restrict2 .ensures .0)
+      (omega (arith, restrict2 .ensures .0 .small, c .before .before .before .before .before .before .before .if4 .left)) (c .before .before .before .make2 .ensures))
 
 restrict-mul-memo : (t : ℕ) → restrict-lts.Need-mul-memo (restrict-claims t) (restrict-at t) restrict.Post
-restrict-mul-memo t c = omega (arith, c .before .before .before .before .before .before .before .before .before .before .before .before .before .before .before .before .before .before .before .before .before .before .before .before .before .before .before .wide .ensures, c .before .before .before .before .before .before .before .before .before .before .before .before .before .before .before .before .before .before .before .before .before .before .before .before .before .before .before .before .before .before .before .before .before .before .pre .1 .1 .1 .0, c .before .before .before .before .before .before .before .before .before .before .before .before .before .before .before .before .before .before .before .before .before .before .before .before .before .before .before .before .before .before .before .before .before .before .pre .1 .0 .sound .few)
+restrict-mul-memo t c =
+    let here = c .before .before .before .before .before .before .before .before .before .before .before .before .before .before .before .before .before .before .before .before .before .before .before .before .before .before .before in
+    let wide′ = here .wide in let pre = here .before .before .before .before .before .before .before .pre in
+    omega (arith, wide′ .ensures, pre .1 .1 .1 .0, pre .1 .0 .sound .few)
 
 restrict-element-write-memo : (t : ℕ) → restrict-lts.Need-element-write-memo (restrict-claims t) (restrict-at t) restrict.Post
-restrict-element-write-memo t c = omega (arith, c .before .before .before .before .before .before .before .before .before .before .before .before .before .before .before .before .before .before .before .before .before .before .before .before .before .before .before .wide .ensures, c .before .before .before .before .before .before .before .before .before .before .before .before .before .before .before .before .before .before .before .before .before .before .before .before .before .before .before .before .before .before .before .before .before .before .pre .1 .1 .1 .0, c .before .before .before .before .before .before .before .before .before .before .before .before .before .before .before .before .before .before .before .before .before .before .before .before .before .before .before .before .before .before .before .before .before .before .pre .1 .0 .sound .few)
+restrict-element-write-memo t c =
+    let here = c .before .before .before .before .before .before .before .before .before .before .before .before .before .before .before .before .before .before .before .before .before .before .before .before .before .before .before in
+    let wide′ = here .wide in let pre = here .before .before .before .before .before .before .before .pre in
+    omega (arith, wide′ .ensures, pre .1 .1 .1 .0, pre .1 .0 .sound .few)
 
 restrict-returns-6 : (t : ℕ) → restrict-lts.Need-returns-6 (restrict-claims t) (restrict-at t) restrict.Post
-restrict-returns-6 t c = last-stored (open-of (3 * c .before .before .before .before .before .before .before .before .before .before .before .before .before .before .before .before .before .before .before .before .before .before .before .before .before .before .before .wide .result - 5) (c .before .before .before .before .before .before .before .before .before .before .before .before .before .before .before .before .before .before .before .before .before .before .before .before .before .before .before .before .before .before .before .before .before .before .pre .1 .0) (c .before .before .before .before .before .before .before .before .before .before .before .before .before .before .before .before .before .before .before .before .before .before .before .before .before .before .before .before .before .before .before .before .before .before .pre .1 .1 .0) (c .before .before .before .before .before .before .before .before .before .before .before .before .before .before .before .before .before .before .before .before .before .before .before .before .before .before .before .before .before .before .before .before .before .before .pre .1 .1 .1) (c .before .before .before .before .before .before .before .before .before .before .before .before .before .before .before .before .before .before .before .before .before .before .before .before .before .before .before .before .before .soon .ensures) (c .before .before .before .before .before .before .before .before .before .before .before .before .before .before .before .before .before .before .before .before .before .before .before .before .before .before .before .before .if1 .left) (omega (arith, c .before .before .before .before .before .before .before .before .before .before .before .before .before .before .before .before .before .before .before .before .before .before .before .before .before .before .before .wide .ensures))) (λ e. omega (arith, c .before .before .before .before .before .before .before .before .before .before .before .before .before .before .before .before .before .before .before .before .before .before .before .if2 .left)) (c .before .before .before .before .before .before .before .before .before .before .before .before .before .before .before .before .before .before .restrict .ensures .0) (omega (arith, c .before .before .before .before .before .before .before .before .before .before .before .before .before .before .before .before .before .before .restrict .ensures .0 .small, c .before .before .before .before .before .before .before .before .before .before .before .before .before .before .before .if3 .left)) (c .before .before .before .before .before .before .before .before .before .before .restrict2 .ensures .0) (omega (arith, c .before .before .before .before .before .before .before .before .before .before .restrict2 .ensures .0 .small, c .before .before .before .before .before .before .before .if4 .left)) (c .before .before .before .make2 .ensures) _ _ (c .before .before .before .before .before .before .before .before .before .before .before .before .before .before .before .before .before .before .before .before .before .before .before .before .before .before .before .wide .ensures) refl (c .before .before .before .before .before .before .before .before .before .before .restrict2 .ensures .1 (omega (arith, c .before .before .before .before .before .before .before .before .before .before .restrict2 .ensures .0 .small, c .before .before .before .before .before .before .before .if4 .left)))
+restrict-returns-6 t c =
+    let here = c .before .before .before .before .before .before .before in let if4 = here .if4 in let restrict2 = here .before .before .before .restrict2 in
+    let if3 = here .before .before .before .before .before .before .before .before .if3 in
+    let restrict′ = here .before .before .before .before .before .before .before .before .before .before .before .restrict in
+    let if2 = here .before .before .before .before .before .before .before .before .before .before .before .before .before .before .before .before .if2 in
+    let wide′ = here .before .before .before .before .before .before .before .before .before .before .before .before .before .before .before .before .before .before .before .before .wide in
+    let if1 = here .before .before .before .before .before .before .before .before .before .before .before .before .before .before .before .before .before .before .before .before .before .if1 in
+    let soon′ = here .before .before .before .before .before .before .before .before .before .before .before .before .before .before .before .before .before .before .before .before .before .before .soon in
+    let pre = here .before .before .before .before .before .before .before .before .before .before .before .before .before .before .before .before .before .before .before .before .before .before .before .before .before .before .before .pre in
+    last-stored (open-of (3 * wide′ .result - 5) (pre .1 .0) (pre .1 .1 .0) (pre .1 .1 .1) (soon′ .ensures) (if1 .left) (omega (arith, wide′ .ensures))) (λ e. omega (arith, if2 .left))
+      (restrict′ .ensures .0) (omega (arith, restrict′ .ensures .0 .small, if3 .left)) (restrict2 .ensures .0) (omega (arith, restrict2 .ensures .0 .small, if4 .left))
+      (c .before .before .before .make2 .ensures) _ _ (wide′ .ensures) refl (restrict2 .ensures .1 (omega (arith, restrict2 .ensures .0 .small, if4 .left)))
 
 pub +restrict-spec : {M : Type 1} → statement M
 +restrict-spec = close μ-restrict λ t. restrict-lts.spec (

@@ -6,7 +6,9 @@ use Rattle.family.proofs.afresh.Statement.{statement}
 use Rattle.family.proofs.afresh.Tie as tie
 
 combine-requires : tie.Need-combine-requires
-combine-requires c κs = (c .before .before .before .before .before .before .before .before .before .before .before .pre .0, (stored-fresh _ _ _ _ (omega (arith, c .before .before .before .before .before .before .before .before .before .before .before .pre .1 .0, c .before .before .before .before .before .before .clear .ensures .same)) (cleared-reads (c .before .before .before .before .before .before .clear .ensures)), c .before .before .before .before .before .before .before .before .before .before .before .pre .1 .1))
+combine-requires c κs =
+    let here = c .before .before .before .before .before .before in let clear = here .clear in let pre = here .before .before .before .before .before .pre in
+    (pre .0, (stored-fresh _ _ _ _ (omega (arith, pre .1 .0, clear .ensures .same)) (cleared-reads (clear .ensures)), pre .1 .1))
 
 returns : tie.Need-returns
 returns c = c .before .before .before .before .combine .ensures .0

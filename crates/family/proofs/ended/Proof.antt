@@ -23,10 +23,12 @@ returns-6 : tie.Need-returns-6
 returns-6 c = ends-both-differ _ _ _ _ (c .before .if5 .taken) (omega (arith, c .if6 .left))
 
 returns-7 : tie.Need-returns-7
-returns-7 c = ends-known _ _ _ _ (c .before .before .before .before .before .args .at) (c .before .before .before .before .before .pre .1) (c .if7 .taken) (omega (arith, c .before .before .before .before .if1 .left)) (omega (arith, c .before .before .before .if3 .left))
+returns-7 c = ends-known _ _ _ _ (c .before .before .before .before .before .args .at) (c .before .before .before .before .before .pre .1) (c .if7 .taken)
+    (omega (arith, c .before .before .before .before .if1 .left)) (omega (arith, c .before .before .before .if3 .left))
 
 returns-8 : tie.Need-returns-8
-returns-8 c = ends-open _ _ _ _ (record { some = omega (arith, c .before .before .before .before .if1 .left); other = omega (arith, c .before .before .before .if3 .left); differ = λ e. omega (arith, c .before .before .if5 .left) })
+returns-8 c = ends-open _ _ _ _ (record { some = omega (arith, c .before .before .before .before .if1 .left); other = omega (arith, c .before .before .before .if3 .left); differ = λ e. omega
+    (arith, c .before .before .if5 .left) })
 
 pub ended-spec : {M : Type 1} → statement M
 ended-spec =

@@ -11,7 +11,8 @@ returns-2 : tie.Need-returns-2
 returns-2 c = noded-none _ _ _ _ _ _ _ _ (omega (arith, c .before .before .before .before .before .before .before .if1 .left)) (c .if2 .taken) (c .before .before .before .unique .ensures)
 
 returns-3 : tie.Need-returns-3
-returns-3 c = noded-made _ _ _ _ _ _ _ _ (omega (arith, c .before .before .before .before .before .before .before .if1 .left)) (omega (arith, c .if2 .left)) (c .before .before .before .unique .ensures)
+returns-3 c = noded-made _ _ _ _ _ _ _ _ (omega (arith, c .before .before .before .before .before .before .before .if1 .left)) (omega (arith, c .if2 .left))
+    (c .before .before .before .unique .ensures)
 
 pub make-spec : {M : Type 1} → statement M
 make-spec =

@@ -10,13 +10,20 @@ use Rattle.family.proofs.remembering.Statement.{statement}
 use Rattle.family.proofs.remembering.Tie as tie
 
 combine-requires : tie.Need-combine-requires
-combine-requires c κs = (c .before .before .before .before .before .before .before .before .pre .0, (stored-fresh _ _ _ _ (omega (arith, length-replicate {A = ℕ} 65536 0)) (λ i. zeros 65536 i), c .before .before .before .before .before .before .before .before .pre .1))
+combine-requires c κs =
+    let pre = c .before .before .before .before .before .before .before .before .pre in
+    (pre .0, (stored-fresh _ _ _ _ (omega (arith, length-replicate {A = ℕ} 65536 0)) (λ i. zeros 65536 i), pre .1))
 
 slice-aggregate-afresh : tie.Need-slice-aggregate-afresh
-slice-aggregate-afresh c = sym (length-take-le (c .before .before .before .before .places .result) (c .before .before .before .before .before .before .before .before .before .args .work .now) (c .before .before .before .before .places .ensures .1))
+slice-aggregate-afresh c =
+    let places = c .before .before .before .before .places in
+    sym (length-take-le (places .result) (c .before .before .before .before .before .before .before .before .before .args .work .now) (places .ensures .1))
 
 afresh-requires : tie.Need-afresh-requires
-afresh-requires c κs = (c .before .before .before .before .before .before .before .before .before .pre .0, (omega (arith, c .before .before .before .before .places .ensures .0, length-take-le (c .before .before .before .before .places .result) (c .before .before .before .before .before .before .before .before .before .args .work .now) (c .before .before .before .before .places .ensures .1)), c .before .before .before .before .before .before .before .before .before .pre .1))
+afresh-requires c κs =
+    let here = c .before .before .before .before in let places = here .places in let pre = here .before .before .before .before .before .pre in
+    (pre .0, (omega (arith, places .ensures .0, length-take-le (places .result) (c .before .before .before .before .before .before .before .before .before .args .work .now) (places .ensures .1)),
+      pre .1))
 
 pub remembering-spec : {M : Type 1} → statement M
 remembering-spec =

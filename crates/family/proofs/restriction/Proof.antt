@@ -12,13 +12,18 @@ slice-read-n : tie.Need-slice-read-n
 slice-read-n c = omega (arith, c .before .before .before .pre .0 .sound .room)
 
 restrict-requires : tie.Need-restrict-requires
-restrict-requires c κs = (c .before .before .before .before .before .before .before .pre .0, (kept-fresh _ _ _ _ _ (length-replicate {A = ℕ} 65536 0) (λ i. zeros 65536 i), c .before .before .before .before .before .before .before .pre .1))
+restrict-requires c κs =
+    let pre = c .before .before .before .before .before .before .before .pre in
+    (pre .0, (kept-fresh _ _ _ _ _ (length-replicate {A = ℕ} 65536 0) (λ i. zeros 65536 i), pre .1))
 
 rollback-requires : tie.Need-rollback-requires
 rollback-requires c κs = c .before .before .before .before .restrict .ensures .0 .indexed .room
 
 returns : tie.Need-returns
-returns c = makes-full (c .before .before .before .before .before .before .before .restrict .ensures .0) (c .before .before .before .before .if1 .taken) (c .before .before .before .before .before .before .before .before .before .before .before .before .before .before .before .pre .0 .sound) refl (c .before .before .rollback .ensures)
+returns c =
+    let pre = c .before .before .before .before .before .before .before .before .before .before .before .before .before .before .before .pre in
+    makes-full (c .before .before .before .before .before .before .before .restrict .ensures .0) (c .before .before .before .before .if1 .taken) (pre .0 .sound) refl
+      (c .before .before .rollback .ensures)
 
 returns-2 : tie.Need-returns-2
 returns-2 c = makes-done (c .before .before .before .restrict .ensures .0) (λ e. omega (arith, c .if1 .left))

@@ -9,27 +9,41 @@ use Rattle.guard.proofs.admit.Statement.{statement}
 use Rattle.guard.proofs.admit.Tie as tie
 
 returns : tie.Need-returns
-returns c = admitted-packages (c .before .before .before .before .before .args .packages .now) (c .before .before .before .before .before .args .m) (c .before .packages-refusal .result) (c .before .packages-refusal .ensures) (c .if1 .taken)
+returns c =
+    let args = c .before .before .before .before .before .args in
+    admitted-packages (args .packages .now) (args .m) (c .before .packages-refusal .result) (c .before .packages-refusal .ensures) (c .if1 .taken)
 
 keys-requires : tie.Need-keys-requires
-keys-requires c κs = (rows (c .before .before .before .before .before .before .args .packages .now) (c .before .before .before .before .before .before .args .m) (sym (c .before .before .packages-refusal .ensures) ∙ c .before .if1 .left), c .before .before .before .before .before .before .pre .keys-long)
+keys-requires c κs =
+    let args = c .before .before .before .before .before .before .args in
+    (rows (args .packages .now) (args .m) (sym (c .before .before .packages-refusal .ensures) ∙ c .before .if1 .left), c .before .before .before .before .before .before .pre .keys-long)
 
 slice-reshare-prefix-check : tie.Need-slice-reshare-prefix-check
-slice-reshare-prefix-check c = omega (arith, rows (c .before .before .before .before .before .before .before .before .before .args .packages .now) (c .before .before .before .before .before .before .before .before .before .args .m) (sym (c .before .before .before .before .before .packages-refusal .ensures) ∙ c .before .before .before .before .if1 .left) .few, c .before .before .keys .ensures .long)
+slice-reshare-prefix-check c =
+    let args = c .before .before .before .before .before .before .before .before .before .args in
+    omega (arith, rows (args .packages .now) (args .m) (sym (c .before .before .before .before .before .packages-refusal .ensures) ∙ c .before .before .before .before .if1 .left) .few,
+      c .before .before .keys .ensures .long)
 
 slice-aggregate-check : tie.Need-slice-aggregate-check
-slice-aggregate-check c = sym (ap length (c .before .before .before .keys .ensures .are) ∙ length-keys (c .before .before .before .before .before .before .before .before .before .before .args .packages .now))
+slice-aggregate-check c = sym (ap length (c .before .before .before .keys .ensures .are) ∙ length-keys
+    (c .before .before .before .before .before .before .before .before .before .before .args .packages .now))
 
 check-requires : tie.Need-check-requires
 check-requires c κs = c .before .before .before .before .before .before .before .before .before .before .before .before .pre .index
 
 returns-2 : tie.Need-returns-2
-returns-2 c = admitted-spoilt (c .before .before .before .before .before .before .before .before .before .before .before .before .before .before .args .packages .now) (c .before .before .before .before .before .before .before .before .before .before .before .before .before .before .args .m) (sym (c .before .before .before .before .before .before .before .before .before .before .packages-refusal .ensures) ∙ c .before .before .before .before .before .before .before .before .before .if1 .left)
+returns-2 c =
+    let args = c .before .before .before .before .before .before .before .before .before .before .before .before .before .before .args in
+    admitted-spoilt (args .packages .now) (args .m) (sym (c .before .before .before .before .before .before .before .before .before .before .packages-refusal .ensures) ∙
+      c .before .before .before .before .before .before .before .before .before .if1 .left)
     (rw (c .before .before .before .before .before .before .before .keys .ensures .are) at (c .before .check .ensures)) (not-true _ (c .if2 .taken))
 
 returns-3 : tie.Need-returns-3
-returns-3 c = admitted-sound (c .before .before .before .before .before .before .before .before .before .before .before .before .before .before .args .packages .now) (c .before .before .before .before .before .before .before .before .before .before .before .before .before .before .args .m) (sym (c .before .before .before .before .before .before .before .before .before .before .packages-refusal .ensures) ∙ c .before .before .before .before .before .before .before .before .before .if1 .left)
-    (c .before .before .before .before .before .before .before .keys .ensures) (rw (c .before .before .before .before .before .before .before .keys .ensures .are) at (c .before .check .ensures)) (not-false _ (c .if2 .left))
+returns-3 c =
+    let here = c .before .before .before .before .before .before .before in let keys = here .keys in let args = here .before .before .before .before .before .before .before .args in
+    admitted-sound (args .packages .now) (args .m) (sym (c .before .before .before .before .before .before .before .before .before .before .packages-refusal .ensures) ∙
+      c .before .before .before .before .before .before .before .before .before .if1 .left)
+    (keys .ensures) (rw (keys .ensures .are) at (c .before .check .ensures)) (not-false _ (c .if2 .left))
 
 pub admit-spec : {M : Type 1} → statement M
 admit-spec =

@@ -22,10 +22,14 @@ returns : tie.Need-returns Inv-loop μ-loop
 returns c = sym (ap not (stray-empty (c .before .before .before .loop .k) (c .before .before .before .loop .inv) (c .before .before .loop-test .taken) (c .if1 .taken)))
 
 returns-2 : tie.Need-returns-2 Inv-loop μ-loop
-returns-2 c = sym (ap not (stray-item (c .before .before .before .before .before .loop .k) (c .before .before .before .before .before .loop .inv) (c .before .before .before .before .loop-test .taken) (c .before .before .if1 .left) (sym (c .before .below .ensures) ∙ not-true _ (c .if2 .taken))))
+returns-2 c =
+    let loop = c .before .before .before .before .before .loop in
+    sym (ap not (stray-item (loop .k) (loop .inv) (c .before .before .before .before .loop-test .taken) (c .before .before .if1 .left) (sym (c .before .below .ensures) ∙ not-true _ (c .if2 .taken))))
 
 loop-again : tie.Need-loop-again Inv-loop μ-loop
-loop-again c = passed-more (c .before .before .before .before .before .loop .k) (c .before .before .before .before .before .loop .inv) (c .before .before .before .before .loop-test .taken) (c .before .before .if1 .left) (sym (c .before .below .ensures) ∙ not-false _ (c .if2 .left))
+loop-again c =
+    let loop = c .before .before .before .before .before .loop in
+    passed-more (loop .k) (loop .inv) (c .before .before .before .before .loop-test .taken) (c .before .before .if1 .left) (sym (c .before .below .ensures) ∙ not-false _ (c .if2 .left))
 
 returns-3 : tie.Need-returns-3 Inv-loop μ-loop
 returns-3 c = sym (ap not (passed-all (c .before .loop .k) (c .before .loop .inv) (omega (arith, c .loop-test .left))))

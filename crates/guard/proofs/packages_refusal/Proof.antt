@@ -16,7 +16,8 @@ returns-2 : tie.Need-returns-2
 returns-2 c = sym (pass 1 _ (sym (c .before .before .before .too-large .ensures) ∙ c .before .before .if1 .left) ∙ hit 2 _ (not-false _ (sym (c .before .clean .ensures) ∙ not-true _ (c .if2 .taken))))
 
 returns-3 : tie.Need-returns-3
-returns-3 c = sym (pass 1 _ (sym (c .before .before .before .too-large .ensures) ∙ c .before .before .if1 .left) ∙ pass 2 _ (not-true _ (sym (c .before .clean .ensures) ∙ not-false _ (c .if2 .left))) ∙ none)
+returns-3 c = sym (pass 1 _ (sym (c .before .before .before .too-large .ensures) ∙ c .before .before .if1 .left) ∙ pass 2 _
+    (not-true _ (sym (c .before .clean .ensures) ∙ not-false _ (c .if2 .left))) ∙ none)
 
 pub packages-refusal-spec : {M : Type 1} → statement M
 packages-refusal-spec =

@@ -22,7 +22,9 @@ dispatch-requires : tie.Need-dispatch-requires
 dispatch-requires c κs = rw (c .before .before .before .before .asked .ensures) (fitting _ _ (c .before .before .before .before .before .before .before .before .before .pre .1) .first)
 
 returns : tie.Need-returns
-returns c = step-request _ _ _ _ _ _ _ (c .before .before .before .before .before .before .before .before .before .asked .ensures) (length-take-le _ _ (rw (c .before .before .before .before .before .before .before .before .before .asked .ensures) (fitting _ _ (c .before .before .before .before .before .before .before .before .before .before .before .before .before .before .pre .1) .room-for))) (c .before .before .before .before .dispatch .ensures)
+returns c =
+    let here = c .before .before .before .before .before .before .before .before .before in let asked = here .asked in let pre = here .before .before .before .before .before .pre in
+    step-request _ _ _ _ _ _ _ (asked .ensures) (length-take-le _ _ (rw (asked .ensures) (fitting _ _ (pre .1) .room-for))) (c .before .before .before .before .dispatch .ensures)
 
 pub call-spec : {M : Type 1} → statement M
 call-spec =

@@ -20,11 +20,13 @@ returns-3 c = goes _ (lt-ltb _ _ (c .before .before .before .before .if1 .left))
 
 returns-4 : tie.Need-returns-4
 unfolding possible
-returns-4 c = goes _ (lt-ltb _ _ (c .before .before .before .before .before .before .if1 .left)) (goes _ (lt-ltb _ _ (c .before .before .before .before .if2 .left)) (goes _ (le-leb _ _ (c .before .before .if3 .left)) (sym (or-left _ _ (eq-eqb _ _ (c .if4 .taken))))))
+returns-4 c = goes _ (lt-ltb _ _ (c .before .before .before .before .before .before .if1 .left))
+    (goes _ (lt-ltb _ _ (c .before .before .before .before .if2 .left)) (goes _ (le-leb _ _ (c .before .before .if3 .left)) (sym (or-left _ _ (eq-eqb _ _ (c .if4 .taken))))))
 
 returns-5 : tie.Need-returns-5
 unfolding possible
-returns-5 c = goes _ (lt-ltb _ _ (c .before .before .before .before .before .before .before .if1 .left)) (goes _ (lt-ltb _ _ (c .before .before .before .before .before .if2 .left)) (goes _ (le-leb _ _ (c .before .before .before .if3 .left)) (or-skip _ (ne-eqb _ _ (c .before .if4 .left)))))
+returns-5 c = goes _ (lt-ltb _ _ (c .before .before .before .before .before .before .before .if1 .left))
+    (goes _ (lt-ltb _ _ (c .before .before .before .before .before .if2 .left)) (goes _ (le-leb _ _ (c .before .before .before .if3 .left)) (or-skip _ (ne-eqb _ _ (c .before .if4 .left)))))
 
 pub fits-spec : {M : Type 1} → statement M
 fits-spec = tie.close (tie.spec returns returns-2 returns-3 returns-4 returns-5)

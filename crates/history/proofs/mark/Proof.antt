@@ -12,7 +12,9 @@ element-write-given : tie.Need-element-write-given
 element-write-given c = omega (arith, c .wide .ensures, c .before .before .before .before .pre _ (ap outcomeReply (c .before .before .o .given .1)))
 
 returns : tie.Need-returns
-returns c = ap (λ (a : ℕ). set (c .before .before .before .before .args .given .now) a 1) (c .wide .ensures) ∙ sym (ap (λ o. noted (outcomeReply o) (c .before .before .before .before .args .given .now)) (c .before .before .o .given .1))
+returns c =
+    let args = c .before .before .before .before .args in
+    ap (λ (a : ℕ). set (args .given .now) a 1) (c .wide .ensures) ∙ sym (ap (λ o. noted (outcomeReply o) (args .given .now)) (c .before .before .o .given .1))
 
 returns-2 : tie.Need-returns-2
 returns-2 c = sym (ap (λ o. noted (outcomeReply o) (c .before .before .args .given .now)) (c .enum-told .given .1))

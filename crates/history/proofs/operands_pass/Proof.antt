@@ -15,7 +15,8 @@ returns-3 : tie.Need-returns-3
 returns-3 c = first-only _ _ (c .before .before .before .before .if1 .left) (sym (c .before .before .before .passes .ensures) ∙ not-false _ (c .before .before .if2 .left)) (c .if3 .taken)
 
 returns-4 : tie.Need-returns-4
-returns-4 c = c .passes2 .ensures ∙ then-second _ _ (c .before .before .before .before .before .if1 .left) (sym (c .before .before .before .before .passes .ensures) ∙ not-false _ (c .before .before .before .if2 .left)) (c .before .if3 .left)
+returns-4 c = c .passes2 .ensures ∙ then-second _ _ (c .before .before .before .before .before .if1 .left)
+    (sym (c .before .before .before .before .passes .ensures) ∙ not-false _ (c .before .before .before .if2 .left)) (c .before .if3 .left)
 
 pub operands-pass-spec : {M : Type 1} → statement M
 operands-pass-spec =

@@ -17,11 +17,17 @@ returns-2 c = goes _ (lt-ltb _ _ (c .before .if1 .left)) (stop _ (le-ltb _ _ (c 
 
 returns-3 : tie.Need-returns-3
 unfolding runs
-returns-3 c = goes _ (lt-ltb _ _ (c .before .before .before .before .if1 .left)) (goes _ (lt-ltb _ _ (c .before .before .before .if2 .left)) (stop _ (rw (c .before .before .asked .ensures) at (sym (c .before .fits2 .ensures) ∙ not-true _ (c .if3 .taken)))))
+returns-3 c = goes _ (lt-ltb _ _ (c .before .before .before .before .if1 .left))
+    (goes _ (lt-ltb _ _ (c .before .before .before .if2 .left)) (stop _ (rw (c .before .before .asked .ensures) at (sym (c .before .fits2 .ensures) ∙ not-true _ (c .if3 .taken)))))
 
 returns-4 : tie.Need-returns-4
 unfolding runs
-returns-4 c = goes _ (lt-ltb _ _ (c .before .before .before .before .before .before .if1 .left)) (goes _ (lt-ltb _ _ (c .before .before .before .before .before .if2 .left)) (goes _ (rw (c .before .before .before .before .asked .ensures) at (sym (c .before .before .before .fits2 .ensures) ∙ not-false _ (c .before .before .if3 .left))) (rw (c .before .before .before .before .asked .ensures, c .before .nodes .ensures) at (c .operands-pass .ensures))))
+returns-4 c =
+    let asked = c .before .before .before .before .asked in
+    goes _ (lt-ltb _ _ (c .before .before .before .before .before .before .if1 .left))
+      (goes _ (lt-ltb _ _ (c .before .before .before .before .before .if2 .left))
+      (goes _ (rw (asked .ensures) at (sym (c .before .before .before .fits2 .ensures) ∙ not-false _ (c .before .before .if3 .left)))
+      (rw (asked .ensures, c .before .nodes .ensures) at (c .operands-pass .ensures))))
 
 pub ready-spec : {M : Type 1} → statement M
 ready-spec =

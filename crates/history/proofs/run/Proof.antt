@@ -17,25 +17,42 @@ abbrev μ-loop : tie.MeasureT-loop
 μ-loop packages t₀ work₀ script out₀ given₀ places room i₀ t work out given i = length out₀ / 3 - i
 
 loop-holds : tie.Need-loop-holds Inv-loop μ-loop
-loop-holds c = (running-start _ _ _ _ _ _ (length (c .before .before .before .before .before .before .before .before .before .before .before .args .t .now)) 65536 refl (c .mark-first .ensures) (c .before .before .before .before .clear .ensures), refl)
+loop-holds c = (running-start _ _ _ _ _ _ (length (c .before .before .before .before .before .before .before .before .before .before .before .args .t .now)) 65536 refl (c .mark-first .ensures)
+    (c .before .before .before .before .clear .ensures), refl)
 
 call-requires : tie.Need-call-requires Inv-loop μ-loop
-call-requires c κs = let k = may-run _ _ _ _ _ (sym (c .before .before .before .ready .ensures) ∙ c .before .before .if1 .taken) in (k .there, rw (c .before .before .before .before .before .before .loop .inv .1) (k .fit))
+call-requires c κs = let k = may-run _ _ _ _ _ (sym (c .before .before .before .ready .ensures) ∙ c .before .before .if1 .taken) in
+    (k .there, rw (c .before .before .before .before .before .before .loop .inv .1) (k .fit))
 
 store-requires : tie.Need-store-requires Inv-loop μ-loop
-store-requires c κs = let k = may-run _ _ _ _ _ (sym (c .before .before .before .before .before .before .before .before .before .ready .ensures) ∙ c .before .before .before .before .before .before .before .before .if1 .taken) in rw (c .before .before .before .before .before .before .before .before .before .before .before .before .loop .inv .0 .wide) (k .placed)
+store-requires c κs =
+    let loop = c .before .before .before .before .before .before .before .before .before .before .before .before .loop in
+    let k = may-run _ _ _ _ _ (sym (c .before .before .before .before .before .before .before .before .before .ready .ensures) ∙
+      c .before .before .before .before .before .before .before .before .if1 .taken) in rw (loop .inv .0 .wide) (k .placed)
 
 mark-requires : tie.Need-mark-requires Inv-loop μ-loop
-mark-requires c κs = answer-below (c .before .before .before .before .before .before .before .before .before .before .before .before .before .before .before .before .before .before .before .before .before .before .before .before .before .before .before .before .args .packages .now) (c .before .before .before .before .before .before .before .before .before .before .before .before .before .before .before .before .loop .t) (callAt (c .before .before .before .before .before .before .before .before .before .before .before .before .before .before .before .before .before .before .before .before .before .before .before .before .before .before .before .before .args .script .now) (c .before .before .before .before .before .before .before .before .before .before .before .before .before .before .before .before .loop .i)) (c .before .before .before .before .before .before .before .before .before .call .result) (c .before .before .before .before .before .before .before .before .before .call .last .1 .0) (c .before .before .before .before .before .before .before .before .before .call .ensures)
+mark-requires c κs =
+    let here = c .before .before .before .before .before .before .before .before .before in let call = here .call in
+    let loop = here .before .before .before .before .before .before .before .loop in
+    let args = here .before .before .before .before .before .before .before .before .before .before .before .before .before .before .before .before .before .before .before .args in
+    answer-below (args .packages .now) (loop .t) (callAt (args .script .now) (loop .i)) (call .result) (call .last .1 .0) (call .ensures)
 
 add-i : tie.Need-add-i Inv-loop μ-loop
-add-i c = let k = may-run _ _ _ _ _ (sym (c .before .before .before .before .before .before .before .before .before .before .before .before .before .before .ready .ensures) ∙ c .before .before .before .before .before .before .before .before .before .before .before .before .before .if1 .taken) in omega (arith, k .placed, c .before .before .before .before .before .before .before .before .before .before .before .before .before .before .before .before .before .before .before .before .before .before .before .before .before .before .before .before .before .good .1 .1 .1 .1 .0 .1)
+add-i c =
+    let here = c .before .before .before .before .before .before .before .before .before .before .before .before .before in let if1 = here .if1 in let ready = here .before .ready in
+    let good = here .before .before .before .before .before .before .before .before .before .before .before .before .before .before .before .before .good in
+    let k = may-run _ _ _ _ _ (sym (ready .ensures) ∙ if1 .taken) in omega (arith, k .placed, good .1 .1 .1 .1 .0 .1)
 
 loop-less : tie.Need-loop-less Inv-loop μ-loop
-loop-less c = let k = may-run _ _ _ _ _ (sym (c .before .before .before .before .before .before .before .before .before .before .before .before .before .before .ready .ensures) ∙ c .before .before .before .before .before .before .before .before .before .before .before .before .before .if1 .taken) in omega (arith, k .placed)
+loop-less c =
+    let here = c .before .before .before .before .before .before .before .before .before .before .before .before .before in let if1 = here .if1 in let ready = here .before .ready in
+    let k = may-run _ _ _ _ _ (sym (ready .ensures) ∙ if1 .taken) in omega (arith, k .placed)
 
 loop-again : tie.Need-loop-again Inv-loop μ-loop
-loop-again c = (running-next (c .before .before .before .before .before .before .before .before .before .before .before .before .before .before .before .before .before .loop .inv .0) (sym (c .before .before .before .before .before .before .before .before .before .before .before .before .before .before .ready .ensures) ∙ c .before .before .before .before .before .before .before .before .before .before .before .before .before .if1 .taken) (c .before .before .before .before .before .before .before .before .before .before .call .ensures) (c .before .before .before .before .store .ensures) (c .mark .ensures), c .before .before .before .before .before .before .before .before .before .before .call .kept .1 .1 .0 ∙ c .before .before .before .before .before .before .before .before .before .before .before .before .before .before .before .before .before .loop .inv .1)
+loop-again c =
+    let here = c .before .before .before .before .before .before .before .before .before .before in let call = here .call in let if1 = here .before .before .before .if1 in
+    let ready = here .before .before .before .before .ready in let loop = here .before .before .before .before .before .before .before .loop in
+    (running-next (loop .inv .0) (sym (ready .ensures) ∙ if1 .taken) (call .ensures) (c .before .before .before .before .store .ensures) (c .mark .ensures), call .kept .1 .1 .0 ∙ loop .inv .1)
 
 same-length : tie.Need-same-length Inv-loop μ-loop
 same-length c = c .before .before .before .before .loop .inv .0 .long ∙ ap length (c .before .before .before .before .before .before .before .before .before .clear .ensures) ∙ length-replicate _ _
@@ -47,7 +64,8 @@ same-length-3 : tie.Need-same-length-3 Inv-loop μ-loop
 same-length-3 c = c .before .before .before .before .loop .inv .0 .wide
 
 returns : tie.Need-returns Inv-loop μ-loop
-returns c = ran (c .before .before .before .before .loop .inv .0) _ (ap length (c .before .before .before .before .before .before .before .before .before .clear .ensures) ∙ length-replicate _ _) (sym (c .before .ready .ensures) ∙ c .if1 .left)
+returns c = ran (c .before .before .before .before .loop .inv .0) _ (ap length (c .before .before .before .before .before .before .before .before .before .clear .ensures) ∙ length-replicate _ _)
+    (sym (c .before .ready .ensures) ∙ c .if1 .left)
 
 pub run-spec : {M : Type 1} → statement M
 run-spec =

@@ -32,7 +32,8 @@ put-digits-claims t = (
 )
 
 put-digits-returns : (t : ℕ) → put-digits-lts.Need-returns (put-digits-claims t) (put-digits-at t) put-digits.Post
-put-digits-returns t c = λ d h. puts-same (last-digit d (c .before .before .before .before .before .before .args .x) (c .before .before .before .before .if1 .taken)) (c .before .before .put-byte .ensures)
+put-digits-returns t c = λ d h. puts-same (last-digit d (c .before .before .before .before .before .before .args .x) (c .before .before .before .before .if1 .taken))
+    (c .before .before .put-byte .ensures)
 
 put-digits-put-digits-requires : (t : ℕ) → put-digits-lts.Need-put-digits-requires (put-digits-claims t) (put-digits-at t) put-digits.Post
 put-digits-put-digits-requires t c κs = (omega (arith, c .before .before .before .pre), tt)
@@ -41,7 +42,8 @@ put-digits-same-length-2 : (t : ℕ) → put-digits-lts.Need-same-length-2 (put-
 put-digits-same-length-2 t c = omega (arith, c .before .out3 .given, c .before .before .before .before .before .out2 .given)
 
 put-digits-returns-2 : (t : ℕ) → put-digits-lts.Need-returns-2 (put-digits-claims t) (put-digits-at t) put-digits.Post
-put-digits-returns-2 t c = digits-put (c .before .before .before .before .before .before .before .before .before .before .args .x) (c .before .before .before .before .before .before .before .before .if1 .left) (c .before .before .before .before .before .before .put-digits .ensures) (c .before .before .put-byte2 .ensures)
+put-digits-returns-2 t c = digits-put (c .before .before .before .before .before .before .before .before .before .before .args .x)
+    (c .before .before .before .before .before .before .before .before .if1 .left) (c .before .before .before .before .before .before .put-digits .ensures) (c .before .before .put-byte2 .ensures)
 
 pub +put-digits-spec : {M : Type 1} → statement M
 +put-digits-spec = close μ-put-digits λ t. put-digits-lts.spec (

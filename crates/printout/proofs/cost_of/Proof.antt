@@ -22,10 +22,15 @@ add-sum : tie.Need-add-sum Inv-loop μ-loop
 add-sum c = omega (arith, c .price .ensures .1, c .before .before .before .before .before .before .pre)
 
 loop-again : tie.Need-loop-again Inv-loop μ-loop
-loop-again c = (omega arith, omega (arith, c .before .before .before .loop .inv .1, c .price .ensures .0, cost-more (c .before .before .before .before .before .before .args .costs .now) (c .before .before .before .before .before .before .args .list .now) (c .before .before .before .loop .i) (c .before .before .loop-test .taken)), omega (arith, c .price .ensures .1))
+loop-again c =
+    let loop = c .before .before .before .loop in let args = c .before .before .before .before .before .before .args in
+    (omega arith, omega (arith, loop .inv .1, c .price .ensures .0, cost-more (args .costs .now) (args .list .now) (loop .i) (c .before .before .loop-test .taken)), omega
+      (arith, c .price .ensures .1))
 
 returns : tie.Need-returns Inv-loop μ-loop
-returns c = c .before .loop .inv .1 ∙ ap (cost (c .before .before .before .before .args .costs .now)) (take-all (c .before .loop .i) (c .before .before .before .before .args .list .now) (omega (arith, c .loop-test .left)))
+returns c =
+    let args = c .before .before .before .before .args in
+    c .before .loop .inv .1 ∙ ap (cost (args .costs .now)) (take-all (c .before .loop .i) (args .list .now) (omega (arith, c .loop-test .left)))
 
 pub cost-of-spec : {M : Type 1} → statement M
 cost-of-spec =

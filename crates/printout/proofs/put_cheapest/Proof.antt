@@ -6,7 +6,8 @@ use Rattle.printout.proofs.put_cheapest.Tie as tie
 
 returns : tie.Need-returns
 unfolding cheapestLine
-returns c = puts-then (field cheapestWord (c .before .before .before .before .before .before .before .before .before .before .before .args .k)) (c .before .before .before .before .before .before .before .put-field .ensures) (c .before .before .put-text .ensures)
+returns c = puts-then (field cheapestWord (c .before .before .before .before .before .before .before .before .before .before .before .args .k))
+    (c .before .before .before .before .before .before .before .put-field .ensures) (c .before .before .put-text .ensures)
 
 pub put-cheapest-spec : {M : Type 1} → statement M
 put-cheapest-spec =

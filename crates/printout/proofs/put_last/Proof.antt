@@ -13,27 +13,40 @@ use Rattle.printout.proofs.put_last.Statement.{statement}
 use Rattle.printout.proofs.put_last.Tie as tie
 
 returns : tie.Need-returns
-returns c = puts-same (last-none (c .before .before .before .before .before .before .before .before .before .before .before .args .costs .now) (familyAt (c .before .before .before .before .before .before .before .before .before .before .before .args .t .now) (c .before .before .before .before .before .before .before .before .before .before .before .args .a)) (sym (c .before .before .before .before .before .if1 .taken) ∙ c .before .before .before .before .before .before .before .before .before .before .before .pre .1 .1)) (c .before .before .put-text .ensures)
+returns c =
+    let args = c .before .before .before .before .before .before .before .before .before .before .before .args in
+    puts-same (last-none (args .costs .now) (familyAt (args .t .now) (args .a))
+      (sym (c .before .before .before .before .before .if1 .taken) ∙ c .before .before .before .before .before .before .before .before .before .before .before .pre .1 .1))
+      (c .before .before .put-text .ensures)
 
 array-share-prefix-page : tie.Need-array-share-prefix-page
 array-share-prefix-page c =
-    let l : 0 < length (familyAt (c .before .before .before .before .before .before .before .before .before .before .before .before .before .args .t .now) (c .before .before .before .before .before .before .before .before .before .before .before .before .before .args .a)) = omega (arith, c .before .before .before .before .before .before .before .if1 .left, c .before .before .before .before .before .before .before .before .before .before .before .before .before .pre .1 .1) in
-    let g = priced-page (c .before .before .before .before .before .before .before .before .before .before .before .before .before .pre .0) (c .before .before .before .before .before .before .before .before .before .before .before .before .before .args .costs .now) (c .before .before .before .before .before .before .before .before .before .before .before .before .before .pre .1 .0) l (omega arith) (c .before .before .before .before .cheapest .ensures) (c .priced .ensures) in
+    let here = c .before .before .before .before .before .before .before .before .before .before .before .before .before in let args = here .args in let pre = here .pre in
+    let l : 0 < length (familyAt (args .t .now) (args .a)) = omega (arith, c .before .before .before .before .before .before .before .if1 .left, pre .1 .1) in
+    let g = priced-page (pre .0) (args .costs .now) (pre .1 .0) l (omega arith) (c .before .before .before .before .cheapest .ensures) (c .priced .ensures) in
     omega (arith, g .0, c .before .page2 .given)
 
 slice-aggregate-place : tie.Need-slice-aggregate-place
 slice-aggregate-place c =
-    let l : 0 < length (familyAt (c .before .before .before .before .before .before .before .before .before .before .before .before .before .before .args .t .now) (c .before .before .before .before .before .before .before .before .before .before .before .before .before .before .args .a)) = omega (arith, c .before .before .before .before .before .before .before .before .if1 .left, c .before .before .before .before .before .before .before .before .before .before .before .before .before .before .pre .1 .1) in
-    let g = priced-page (c .before .before .before .before .before .before .before .before .before .before .before .before .before .before .pre .0) (c .before .before .before .before .before .before .before .before .before .before .before .before .before .before .args .costs .now) (c .before .before .before .before .before .before .before .before .before .before .before .before .before .before .pre .1 .0) l (omega arith) (c .before .before .before .before .before .cheapest .ensures) (c .before .priced .ensures) in
-    sym (length-take-le (c .before .priced .result) (c .before .before .before .before .before .cheapest .last .1 .1 .1 .1 .1 .1 .0) (omega (arith, g .0, c .before .before .page2 .given)))
+    let here = c .before .before .before .before .before in let cheapest′ = here .cheapest in let args = here .before .before .before .before .before .before .before .before .before .args in
+    let pre = here .before .before .before .before .before .before .before .before .before .pre in
+    let l : 0 < length (familyAt (args .t .now) (args .a)) = omega (arith, c .before .before .before .before .before .before .before .before .if1 .left, pre .1 .1) in
+    let g = priced-page (pre .0) (args .costs .now) (pre .1 .0) l (omega arith) (cheapest′ .ensures) (c .before .priced .ensures) in
+    sym (length-take-le (c .before .priced .result) (cheapest′ .last .1 .1 .1 .1 .1 .1 .0) (omega (arith, g .0, c .before .before .page2 .given)))
 
 returns-2 : tie.Need-returns-2
 returns-2 c =
-    let C = c .before .before .before .before .before .before .before .before .before .before .before .before .before .before .before .before .before .before .before .before .before .before .before .args .costs .now in
-    let F = familyAt (c .before .before .before .before .before .before .before .before .before .before .before .before .before .before .before .before .before .before .before .before .before .before .before .args .t .now) (c .before .before .before .before .before .before .before .before .before .before .before .before .before .before .before .before .before .before .before .before .before .before .before .args .a) in
-    let l : 0 < length F = omega (arith, c .before .before .before .before .before .before .before .before .before .before .before .before .before .before .before .before .before .if1 .left, c .before .before .before .before .before .before .before .before .before .before .before .before .before .before .before .before .before .before .before .before .before .before .before .pre .1 .1) in
-    let g = priced-page (c .before .before .before .before .before .before .before .before .before .before .before .before .before .before .before .before .before .before .before .before .before .before .before .pre .0) C (c .before .before .before .before .before .before .before .before .before .before .before .before .before .before .before .before .before .before .before .before .before .before .before .pre .1 .0) l (omega arith) (c .before .before .before .before .before .before .before .before .before .before .before .before .before .before .cheapest .ensures) (c .before .before .before .before .before .before .before .before .before .before .priced .ensures) in
-    let e : c .before .before .before .before .placed .result ≡ position (cheapest C F) F = c .before .before .before .before .placed .ensures (position (cheapest C F) F) (place-gives (c .before .before .before .before .before .before .before .before .before .before .before .before .before .before .before .before .before .before .before .before .before .before .before .pre .0) C (c .before .before .before .before .before .before .before .before .before .before .before .before .before .before .before .before .before .before .before .before .before .before .before .pre .1 .0) l (g .1) (omega (arith, c .before .before .before .before .before .before .before .before .before .before .before .before .before .work .given)) (c .before .before .before .before .before .before .before .place .ensures)) in
+    let here = c .before .before .before .before in let placed = here .placed in let work = here .before .before .before .before .before .before .before .before .before .work in
+    let cheapest′ = here .before .before .before .before .before .before .before .before .before .before .cheapest in
+    let if1 = here .before .before .before .before .before .before .before .before .before .before .before .before .before .if1 in
+    let args = here .before .before .before .before .before .before .before .before .before .before .before .before .before .before .before .before .before .before .before .args in
+    let pre = here .before .before .before .before .before .before .before .before .before .before .before .before .before .before .before .before .before .before .before .pre in
+    let C = args .costs .now in
+    let F = familyAt (args .t .now) (args .a) in
+    let l : 0 < length F = omega (arith, if1 .left, pre .1 .1) in
+    let g = priced-page (pre .0) C (pre .1 .0) l (omega arith) (cheapest′ .ensures) (c .before .before .before .before .before .before .before .before .before .before .priced .ensures) in
+    let e : placed .result ≡ position (cheapest C F) F = placed .ensures (position (cheapest C F) F)
+      (place-gives (pre .0) C (pre .1 .0) l (g .1) (omega (arith, work .given)) (c .before .before .before .before .before .before .before .place .ensures)) in
     puts-same (ap cheapestLine e ∙ last-some C F l) (c .before .before .put-cheapest .ensures)
 
 pub put-last-spec : {M : Type 1} → statement M

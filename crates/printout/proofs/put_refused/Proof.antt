@@ -6,7 +6,8 @@ use Rattle.printout.proofs.put_refused.Tie as tie
 
 returns : tie.Need-returns
 unfolding refusedLine
-returns c = puts-then (field refusedWord (c .before .before .before .before .before .before .before .before .before .before .before .args .number)) (c .before .before .before .before .before .before .before .put-field .ensures) (c .before .before .put-text .ensures)
+returns c = puts-then (field refusedWord (c .before .before .before .before .before .before .before .before .before .before .before .args .number))
+    (c .before .before .before .before .before .before .before .put-field .ensures) (c .before .before .put-text .ensures)
 
 pub put-refused-spec : {M : Type 1} → statement M
 put-refused-spec =

@@ -12,19 +12,31 @@ use Rattle.printout.proofs.put_sheet.Statement.{statement}
 use Rattle.printout.proofs.put_sheet.Tie as tie
 
 put-timetables-requires : tie.Need-put-timetables-requires
-put-timetables-requires c κs = (c .before .before .before .before .before .before .before .before .before .before .before .before .before .before .before .before .before .pre .0, omega (arith, c .before .before .least .ensures, c .before .before .before .before .before .before .before .before .before .before .before .before .before .before .before .before .before .pre .1 .1 .0))
+put-timetables-requires c κs =
+    let pre = c .before .before .before .before .before .before .before .before .before .before .before .before .before .before .before .before .before .pre in
+    (pre .0, omega (arith, c .before .before .least .ensures, pre .1 .1 .0))
 
 put-last-requires : tie.Need-put-last-requires
-put-last-requires c κs = (subst⁻¹ (λ (w : ℕ). Listable (c .before .before .before .before .before .before .before .before .before .before .before .before .before .before .before .before .before .before .before .before .before .before .before .before .args .packages .now) (c .before .before .before .before .before .before .before .before .before .before .before .before .before .before .before .before .before .before .before .before .before .before .before .before .args .c .s + c .before .before .before .before .before .before .before .before .before .before .before .before .before .before .before .before .before .before .before .before .before .before .before .before .args .c .t) (c .before .before .before .before .before .before .before .before .before .before .before .before .before .before .before .before .before .before .before .before .before .before .before .before .args .table .now) (c .before .before .before .before .before .before .before .before .before .before .before .before .before .before .before .before .before .before .before .before .before .before .before .before .args .c .answer) w) (c .before .before .before .before .before .work .given) (c .before .before .before .before .before .before .before .before .before .before .before .before .before .before .before .before .before .before .before .before .before .before .before .before .pre .0), (c .before .before .before .before .before .before .before .before .before .before .before .before .before .before .before .before .before .before .before .before .before .before .before .before .pre .1 .0, c .before .before .before .before .before .before .before .before .before .before .before .before .before .before .before .before .before .before .before .before .before .before .before .before .pre .1 .1 .0))
+put-last-requires c κs =
+    let here = c .before .before .before .before .before .before .before .before .before .before .before .before .before .before .before .before .before .before .before .before .before .before .before .before in
+    let args = here .args in let pre = here .pre in
+    (subst⁻¹ (λ (w : ℕ). Listable (args .packages .now) (args .c .s + args .c .t) (args .table .now) (args .c .answer) w) (c .before .before .before .before .before .work .given) (pre .0),
+      (pre .1 .0, pre .1 .1 .0))
 
 returns : tie.Need-returns
 returns c =
-    let a = c .before .before .before .before .before .before .before .before .before .before .before .before .before .before .before .before .before .before .before .before .before .before .before .before .before .before .before .before .before .args in
+    let here = c .before .before .before .before .before .before .before .before .before .before .before .before .before .before in let least = here .least in
+    let put-head = here .before .before .before .put-head in
+    let args = here .before .before .before .before .before .before .before .before .before .before .before .before .before .before .before .args in
+    let pre = here .before .before .before .before .before .before .before .before .before .before .before .before .before .before .before .pre in
+    let a = args in
     let C = a .costs .now in
     let F = familyAt (a .table .now) (a .c .answer) in
-    let q = puts-then (timetableLines C F (min (a .count) 10)) (puts-same (ap (timetableLines C F) (c .before .before .before .before .before .before .before .before .before .before .before .before .before .before .least .ensures)) (c .before .before .before .before .before .before .before .before .before .before .before .put-timetables .ensures)) (c .before .before .before .before .put-last .ensures) in
-    holds-same (sheet-parts C F (a .c .s) (a .c .t) (length (a .packages .now)) (a .c .made) (a .c .steps) (a .count) (c .before .before .before .before .before .before .before .before .before .before .before .before .before .before .before .before .before .before .before .before .before .before .before .before .before .before .before .before .before .pre .1 .1 .0))
-    (from-start (puts-then (head (a .c .s) (a .c .t) (length (a .packages .now)) (a .c .made) (a .c .steps) (a .count)) (c .before .before .before .before .before .before .before .before .before .before .before .before .before .before .before .before .before .put-head .ensures) q))
+    let q = puts-then (timetableLines C F (min (a .count) 10))
+      (puts-same (ap (timetableLines C F) (least .ensures)) (c .before .before .before .before .before .before .before .before .before .before .before .put-timetables .ensures))
+      (c .before .before .before .before .put-last .ensures) in
+    holds-same (sheet-parts C F (a .c .s) (a .c .t) (length (a .packages .now)) (a .c .made) (a .c .steps) (a .count) (pre .1 .1 .0))
+    (from-start (puts-then (head (a .c .s) (a .c .t) (length (a .packages .now)) (a .c .made) (a .c .steps) (a .count)) (put-head .ensures) q))
 
 pub put-sheet-spec : {M : Type 1} → statement M
 put-sheet-spec =

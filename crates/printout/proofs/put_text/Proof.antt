@@ -19,7 +19,10 @@ loop-holds : tie.Need-loop-holds Inv-loop μ-loop
 loop-holds c = (omega arith, omega arith, puts-none (c .before .before .args .out .now) (c .before .before .args .at))
 
 loop-again : tie.Need-loop-again Inv-loop μ-loop
-loop-again c = (omega arith, omega (arith, c .before .out .given, c .before .before .before .before .before .before .loop .inv .1), puts-same (text-more (c .before .before .before .before .before .before .before .before .before .args .text .now) (c .before .before .before .before .before .before .loop .i) (c .before .before .before .before .before .loop-test .taken)) (puts-then (take (c .before .before .before .before .before .before .loop .i) (c .before .before .before .before .before .before .before .before .before .args .text .now)) (c .before .before .before .before .before .before .loop .inv .2) (c .before .before .put-byte .ensures)))
+loop-again c =
+    let here = c .before .before .before .before .before .before in let loop = here .loop in let args = here .before .before .before .args in
+    (omega arith, omega (arith, c .before .out .given, loop .inv .1), puts-same (text-more (args .text .now) (loop .i) (c .before .before .before .before .before .loop-test .taken))
+      (puts-then (take (loop .i) (args .text .now)) (loop .inv .2) (c .before .before .put-byte .ensures)))
 
 same-length : tie.Need-same-length Inv-loop μ-loop
 same-length c = c .before .loop .inv .1

@@ -10,11 +10,14 @@ use Rattle.printout.proofs.put_timetable.Tie as tie
 returns : tie.Need-returns
 unfolding timetableLine
 returns c =
-    let a = c .before .before .before .before .before .before .before .before .before .before .before .before .before .before .before .before .before .before .before .before .before .before .before .before .before .before .args in
+    let here = c .before .before .before .before .before .before .before .before .before .before .before .before .before .before .before in let put-field = here .put-field in
+    let put-decimal = here .before .before .before .before .before .put-decimal in let cost-of = here .before .before .before .before .before .before .before .cost-of in
+    let args = here .before .before .before .before .before .before .before .before .before .before .before .args in
+    let a = args in
     let s = a .list .now in
-    puts-same (ap (λ (x : ℕ). decimal (a .k) ++ (field costWord x ++ ((58 ∷ []) ++ (packagesText s ++ newline)))) (c .before .before .before .before .before .before .before .before .before .before .before .before .before .before .before .before .before .before .before .before .before .before .cost-of .ensures))
-    (puts-then (decimal (a .k)) (c .before .before .before .before .before .before .before .before .before .before .before .before .before .before .before .before .before .before .before .before .put-decimal .ensures)
-    (puts-then (field costWord (c .before .before .before .before .before .before .before .before .before .before .before .before .before .before .before .before .before .before .before .before .before .before .cost-of .result)) (c .before .before .before .before .before .before .before .before .before .before .before .before .before .before .before .put-field .ensures)
+    puts-same (ap (λ (x : ℕ). decimal (a .k) ++ (field costWord x ++ ((58 ∷ []) ++ (packagesText s ++ newline)))) (cost-of .ensures))
+    (puts-then (decimal (a .k)) (put-decimal .ensures)
+    (puts-then (field costWord (cost-of .result)) (put-field .ensures)
     (puts-then (58 ∷ []) (c .before .before .before .before .before .before .before .before .before .before .before .put-byte .ensures)
     (puts-then (packagesText s) (c .before .before .before .before .before .before .before .put-packages .ensures) (c .before .before .put-text .ensures)))))
 

@@ -17,10 +17,14 @@ abbrev μ-loop : tie.MeasureT-loop
 μ-loop m packages costs t a n work₀ out₀ at to₀ k₀ work out to k = n - k
 
 loop-holds : tie.Need-loop-holds Inv-loop μ-loop
-loop-holds c = (omega arith, omega arith, omega arith, puts-same (lines-none (c .before .before .before .before .before .args .costs .now) (familyAt (c .before .before .before .before .before .args .t .now) (c .before .before .before .before .before .args .a))) (puts-none (c .before .before .before .before .before .args .out .now) (c .before .before .before .before .before .args .at)))
+loop-holds c =
+    let args = c .before .before .before .before .before .args in
+    (omega arith, omega arith, omega arith, puts-same (lines-none (args .costs .now) (familyAt (args .t .now) (args .a))) (puts-none (args .out .now) (args .at)))
 
 put-nth-requires : tie.Need-put-nth-requires Inv-loop μ-loop
-put-nth-requires c κs = (subst⁻¹ (λ (w : ℕ). Listable (c .before .before .before .before .before .before .before .before .before .args .packages .now) (c .before .before .before .before .before .before .before .before .before .args .m) (c .before .before .before .before .before .before .before .before .before .args .t .now) (c .before .before .before .before .before .before .before .before .before .args .a) w) (c .before .before .before .loop .inv .1) (c .before .before .before .before .before .before .before .before .before .pre .0), omega (arith, c .before .before .before .before .before .before .before .before .before .pre .1))
+put-nth-requires c κs =
+    let here = c .before .before .before .before .before .before .before .before .before in let args = here .args in let pre = here .pre in
+    (subst⁻¹ (λ (w : ℕ). Listable (args .packages .now) (args .m) (args .t .now) (args .a) w) (c .before .before .before .loop .inv .1) (pre .0), omega (arith, pre .1))
 
 add-k : tie.Need-add-k Inv-loop μ-loop
 add-k c = omega arith
@@ -30,9 +34,11 @@ loop-less c = omega arith
 
 loop-again : tie.Need-loop-again Inv-loop μ-loop
 loop-again c =
-    let C = c .before .before .before .before .before .before .before .before .before .before .before .before .before .before .args .costs .now in
-    let F = familyAt (c .before .before .before .before .before .before .before .before .before .before .before .before .before .before .args .t .now) (c .before .before .before .before .before .before .before .before .before .before .before .before .before .before .args .a) in
-    (omega arith, omega (arith, c .before .before .before .work .given, c .before .before .before .before .before .before .before .before .loop .inv .1), omega (arith, c .before .out .given, c .before .before .before .before .before .before .before .before .loop .inv .2), puts-same (lines-more C F (c .before .before .before .before .before .before .before .before .loop .k)) (puts-then (timetableLines C F (c .before .before .before .before .before .before .before .before .loop .k)) (c .before .before .before .before .before .before .before .before .loop .inv .3) (c .before .before .before .before .put-nth .ensures)))
+    let here = c .before .before .before .before .before .before .before .before in let loop = here .loop in let args = here .before .before .before .before .before .before .args in
+    let C = args .costs .now in
+    let F = familyAt (args .t .now) (args .a) in
+    (omega arith, omega (arith, c .before .before .before .work .given, loop .inv .1), omega (arith, c .before .out .given, loop .inv .2), puts-same (lines-more C F (loop .k))
+      (puts-then (timetableLines C F (loop .k)) (loop .inv .3) (c .before .before .before .before .put-nth .ensures)))
 
 same-length : tie.Need-same-length Inv-loop μ-loop
 same-length c = c .before .loop .inv .1
@@ -42,8 +48,9 @@ same-length-2 c = c .before .loop .inv .2
 
 returns : tie.Need-returns Inv-loop μ-loop
 returns c =
-    let e : c .before .loop .k ≡ c .before .before .before .before .before .before .before .args .n = omega (arith, c .loop-test .left) in
-    puts-same (ap (timetableLines (c .before .before .before .before .before .before .before .args .costs .now) (familyAt (c .before .before .before .before .before .before .before .args .t .now) (c .before .before .before .before .before .before .before .args .a))) e) (c .before .loop .inv .3)
+    let args = c .before .before .before .before .before .before .before .args in
+    let e : c .before .loop .k ≡ args .n = omega (arith, c .loop-test .left) in
+    puts-same (ap (timetableLines (args .costs .now) (familyAt (args .t .now) (args .a))) e) (c .before .loop .inv .3)
 
 pub put-timetables-spec : {M : Type 1} → statement M
 put-timetables-spec =

@@ -5,16 +5,24 @@ use Rattle.query.proofs.count.Statement.{statement}
 use Rattle.query.proofs.count.Tie as tie
 
 returns : tie.Need-returns
-returns c = (c .before .before .before .counts .ensures, told-none (c .before .before .before .before .before .before .before .args .t .now) (c .before .before .before .before .before .before .before .args .a) (c .if1 .taken))
+returns c =
+    let args = c .before .before .before .before .before .before .before .args in
+    (c .before .before .before .counts .ensures, told-none (args .t .now) (args .a) (c .if1 .taken))
 
 returns-2 : tie.Need-returns-2
-returns-2 c = (c .before .before .before .before .before .counts .ensures, told-many (c .before .before .before .before .before .before .before .before .before .args .t .now) (c .before .before .before .before .before .before .before .before .before .args .a) _ (c .before .before .before .before .before .counts .ensures .each (c .before .before .before .before .before .before .before .before .before .args .a) (omega arith)) (c .if2 .taken))
+returns-2 c =
+    let here = c .before .before .before .before .before in let counts = here .counts in let args = here .before .before .before .before .args in
+    (counts .ensures, told-many (args .t .now) (args .a) _ (counts .ensures .each (args .a) (omega arith)) (c .if2 .taken))
 
 add-t11 : tie.Need-add-t11
 add-t11 c = omega (arith, c .before .before .before .slice-known2 .given (c .before .before .before .before .before .before .before .before .before .args .a))
 
 returns-3 : tie.Need-returns-3
-returns-3 c = (c .before .before .before .before .before .counts .ensures, told-count (c .before .before .before .before .before .before .before .before .before .pre .0) (c .before .before .before .before .before .before .before .before .before .args .a) _ (omega arith) (c .before .before .before .before .before .before .before .before .before .pre .1 .0) (c .before .before .before .before .before .counts .ensures .each (c .before .before .before .before .before .before .before .before .before .args .a) (omega arith)) (omega (arith, c .before .before .before .slice-known2 .given (c .before .before .before .before .before .before .before .before .before .args .a))))
+returns-3 c =
+    let here = c .before .before .before .before .before in let counts = here .counts in let args = here .before .before .before .before .args in
+    let pre = here .before .before .before .before .pre in
+    (counts .ensures, told-count (pre .0) (args .a) _ (omega arith) (pre .1 .0) (counts .ensures .each (args .a) (omega arith))
+      (omega (arith, c .before .before .before .slice-known2 .given (args .a))))
 
 pub count-spec : {M : Type 1} → statement M
 count-spec =

@@ -16,18 +16,24 @@ abbrev μ-loop : tie.MeasureT-loop
 μ-loop t a work₀ k₀ work k = a + 1 - k
 
 loop-holds : tie.Need-loop-holds Inv-loop μ-loop
-loop-holds c = (filled-more (countWord (c .before .before .args .t .now)) 0 (c .before .before .args .work .now) 0 (filled-none (countWord (c .before .before .args .t .now)) (c .before .before .args .work .now)) (omega arith) (sym (word-zero (c .before .before .args .t .now))), refl, omega arith, omega arith)
+loop-holds c =
+    let args = c .before .before .args in
+    (filled-more (countWord (args .t .now)) 0 (args .work .now) 0 (filled-none (countWord (args .t .now)) (args .work .now)) (omega arith) (sym (word-zero (args .t .now))), refl, omega arith,
+      omega arith)
 
 slice-write-work-2 : tie.Need-slice-write-work-2 Inv-loop μ-loop
-slice-write-work-2 c = omega (arith, c .before .before .before .loop .inv .1, length-set (c .before .before .before .before .before .before .args .work .now) 0 0, c .before .before .before .before .before .before .pre .1)
+slice-write-work-2 c = omega (arith, c .before .before .before .loop .inv .1, length-set (c .before .before .before .before .before .before .args .work .now) 0 0,
+    c .before .before .before .before .before .before .pre .1)
 
 loop-again : tie.Need-loop-again Inv-loop μ-loop
-loop-again c = let l : c .before .before .before .loop .k < length (c .before .before .before .loop .work) = omega (arith, c .before .before .before .loop .inv .1, length-set (c .before .before .before .before .before .before .args .work .now) 0 0, c .before .before .before .before .before .before .pre .1) in (
-  filled-more (countWord (c .before .before .before .before .before .before .args .t .now)) (c .before .before .before .loop .k) (c .before .before .before .loop .work) (c .count-word .result) (c .before .before .before .loop .inv .0) l (c .count-word .ensures),
-  length-set (c .before .before .before .loop .work) (c .before .before .before .loop .k) (c .count-word .result) ∙ c .before .before .before .loop .inv .1,
-  omega arith,
-  omega arith,
-)
+loop-again c =
+    let loop = c .before .before .before .loop in let args = c .before .before .before .before .before .before .args in
+    let l : loop .k < length (loop .work) = omega (arith, loop .inv .1, length-set (args .work .now) 0 0, c .before .before .before .before .before .before .pre .1) in (
+      filled-more (countWord (args .t .now)) (loop .k) (loop .work) (c .count-word .result) (loop .inv .0) l (c .count-word .ensures),
+      length-set (loop .work) (loop .k) (c .count-word .result) ∙ loop .inv .1,
+      omega arith,
+      omega arith,
+    )
 
 same-length : tie.Need-same-length Inv-loop μ-loop
 same-length c = c .before .loop .inv .1 ∙ length-set (c .before .before .before .before .args .work .now) 0 0

@@ -7,7 +7,10 @@ use Rattle.query.proofs.price.Statement.{statement}
 use Rattle.query.proofs.price.Tie as tie
 
 returns : tie.Need-returns
-returns c = (c .long .ensures ∙ ap (λ (i : ℕ). getD (c .before .before .before .before .args .costs .now) i 0) (c .before .before .wide .ensures), omega (arith, c .long .ensures, c .before .before .before .shared-slice-known .given (c .before .before .wide .result)))
+returns c =
+    let wide = c .before .before .wide in
+    (c .long .ensures ∙ ap (λ (i : ℕ). getD (c .before .before .before .before .args .costs .now) i 0) (wide .ensures), omega
+      (arith, c .long .ensures, c .before .before .before .shared-slice-known .given (wide .result)))
 
 pub price-spec : {M : Type 1} → statement M
 price-spec =

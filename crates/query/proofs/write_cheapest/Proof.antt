@@ -13,19 +13,32 @@ abbrev μ-loop : tie.MeasureT-loop
 μ-loop costs t a work page₀ node₀ n₀ page node n = node
 
 loop-holds : tie.Need-loop-holds Inv-loop μ-loop
-loop-holds c = (way-start (c .before .before .before .before .args .t .now) (c .before .before .before .before .args .a) (c .before .before .before .before .pre .1 .0 .0) (c .before .before .before .before .pre .1 .0 .1), page-start (cheapest (c .before .before .before .before .args .costs .now) (familyAt (c .before .before .before .before .args .t .now) (c .before .before .before .before .args .a))) (c .before .before .before .before .args .page .now) (c .before .before .before .before .pre .1 .1 .1))
+loop-holds c =
+    let here = c .before .before .before .before in let args = here .args in let pre = here .pre in
+    (way-start (args .t .now) (args .a) (pre .1 .0 .0) (pre .1 .0 .1), page-start (cheapest (args .costs .now) (familyAt (args .t .now) (args .a))) (args .page .now) (pre .1 .1 .1))
 
 takes-hi-requires : tie.Need-takes-hi-requires Inv-loop μ-loop
-takes-hi-requires c κs = (c .before .before .before .before .before .before .pre .0, (((omega (arith, c .before .loop .inv .0 .holds, c .if1 .left)), (omega (arith, c .before .loop .inv .0 .short, c .before .loop .inv .0 .known))), filled-less (c .before .before .before .before .before .before .pre .1 .1 .0) (omega (arith, c .before .loop .inv .0 .short))))
+takes-hi-requires c κs =
+    let pre = c .before .before .before .before .before .before .pre in
+    (pre .0, (((omega (arith, c .before .loop .inv .0 .holds, c .if1 .left)), (omega (arith, c .before .loop .inv .0 .short, c .before .loop .inv .0 .known))), filled-less (pre .1 .1 .0)
+      (omega (arith, c .before .loop .inv .0 .short))))
 
 label-requires : tie.Need-label-requires Inv-loop μ-loop
-label-requires c κs = branch (c .before .before .before .before .before .before .before .before .pre .0 .table) (c .before .before .before .loop .node) (omega (arith, c .before .before .before .loop .inv .0 .holds, c .before .before .if1 .left)) (omega (arith, c .before .before .before .loop .inv .0 .short, c .before .before .before .loop .inv .0 .known))
+label-requires c κs =
+    let loop = c .before .before .before .loop in
+    branch (c .before .before .before .before .before .before .before .before .pre .0 .table) (loop .node) (omega (arith, loop .inv .0 .holds, c .before .before .if1 .left))
+      (omega (arith, loop .inv .0 .short, loop .inv .0 .known))
 
 cast-page : tie.Need-cast-page Inv-loop μ-loop
-cast-page c = let P = mark (c .before .before .before .before .before .before .before .before .before .pre .0 .table) (c .before .before .before .before .loop .inv .0) (omega (arith, c .before .before .before .before .loop .inv .0 .holds, c .before .before .before .if1 .left)) in omega (arith, P .label-small, c .label .ensures)
+cast-page c =
+    let loop = c .before .before .before .before .loop in
+    let P = mark (c .before .before .before .before .before .before .before .before .before .pre .0 .table) (loop .inv .0)
+      (omega (arith, loop .inv .0 .holds, c .before .before .before .if1 .left)) in omega (arith, P .label-small, c .label .ensures)
 
 mul-page : tie.Need-mul-page Inv-loop μ-loop
-mul-page c = omega (arith, c .before .before .before .before .loop .inv .0 .short, c .before .before .before .before .loop .inv .0 .known, (c .before .before .before .before .before .before .before .before .before .pre .0 .table) .sound .few)
+mul-page c =
+    let loop = c .before .before .before .before .loop in
+    omega (arith, loop .inv .0 .short, loop .inv .0 .known, (c .before .before .before .before .before .before .before .before .before .pre .0 .table) .sound .few)
 
 slice-write-page : tie.Need-slice-write-page Inv-loop μ-loop
 slice-write-page c = let r = page-room (rw (c .before .before .takes-hi .ensures .by-hi (c .before .if2 .taken)) at (c .before .before .before .before .loop .inv .1)) in omega arith
@@ -34,28 +47,51 @@ add-n : tie.Need-add-n Inv-loop μ-loop
 add-n c = omega (arith, c .before .before .before .before .loop .inv .0 .short, c .before .before .before .before .loop .inv .0 .holds)
 
 hi-requires : tie.Need-hi-requires Inv-loop μ-loop
-hi-requires c κs = branch (c .before .before .before .before .before .before .before .before .before .pre .0 .table) (c .before .before .before .before .loop .node) (omega (arith, c .before .before .before .before .loop .inv .0 .holds, c .before .before .before .if1 .left)) (omega (arith, c .before .before .before .before .loop .inv .0 .short, c .before .before .before .before .loop .inv .0 .known))
+hi-requires c κs =
+    let loop = c .before .before .before .before .loop in
+    branch (c .before .before .before .before .before .before .before .before .before .pre .0 .table) (loop .node) (omega (arith, loop .inv .0 .holds, c .before .before .before .if1 .left))
+      (omega (arith, loop .inv .0 .short, loop .inv .0 .known))
 
 loop-less : tie.Need-loop-less Inv-loop μ-loop
-loop-less c = let P = mark (c .before .before .before .before .before .before .before .before .before .before .pre .0 .table) (c .before .before .before .before .before .loop .inv .0) (omega (arith, c .before .before .before .before .before .loop .inv .0 .holds, c .before .before .before .before .if1 .left)) in omega (arith, P .hi-below, c .hi .ensures)
+loop-less c =
+    let loop = c .before .before .before .before .before .loop in
+    let P = mark (c .before .before .before .before .before .before .before .before .before .before .pre .0 .table) (loop .inv .0)
+      (omega (arith, loop .inv .0 .holds, c .before .before .before .before .if1 .left)) in omega (arith, P .hi-below, c .hi .ensures)
 
 loop-again : tie.Need-loop-again Inv-loop μ-loop
-loop-again c = (way-hi (c .before .before .before .before .before .before .before .before .before .before .pre .0 .table) (c .before .before .before .before .before .loop .inv .0) (omega (arith, c .before .before .before .before .before .loop .inv .0 .holds, c .before .before .before .before .if1 .left)) (c .hi .result) (c .hi .ensures), rw (c .before .label .ensures) (page-more (rw (goes-hi (c .before .before .before .takes-hi .ensures) (c .before .before .if2 .taken) (c .hi .result) (c .hi .ensures)) at (c .before .before .before .before .before .loop .inv .1))))
+loop-again c =
+    let loop = c .before .before .before .before .before .loop in
+    (way-hi (c .before .before .before .before .before .before .before .before .before .before .pre .0 .table) (loop .inv .0)
+      (omega (arith, loop .inv .0 .holds, c .before .before .before .before .if1 .left)) (c .hi .result) (c .hi .ensures), rw (c .before .label .ensures)
+      (page-more (rw (goes-hi (c .before .before .before .takes-hi .ensures) (c .before .before .if2 .taken) (c .hi .result) (c .hi .ensures)) at (loop .inv .1))))
 
 lo-requires : tie.Need-lo-requires Inv-loop μ-loop
-lo-requires c κs = branch (c .before .before .before .before .before .before .before .before .pre .0 .table) (c .before .before .before .loop .node) (omega (arith, c .before .before .before .loop .inv .0 .holds, c .before .before .if1 .left)) (omega (arith, c .before .before .before .loop .inv .0 .short, c .before .before .before .loop .inv .0 .known))
+lo-requires c κs =
+    let loop = c .before .before .before .loop in
+    branch (c .before .before .before .before .before .before .before .before .pre .0 .table) (loop .node) (omega (arith, loop .inv .0 .holds, c .before .before .if1 .left))
+      (omega (arith, loop .inv .0 .short, loop .inv .0 .known))
 
 loop-less-2 : tie.Need-loop-less-2 Inv-loop μ-loop
-loop-less-2 c = let P = mark (c .before .before .before .before .before .before .before .before .before .pre .0 .table) (c .before .before .before .before .loop .inv .0) (omega (arith, c .before .before .before .before .loop .inv .0 .holds, c .before .before .before .if1 .left)) in omega (arith, P .lo-below, c .lo .ensures)
+loop-less-2 c =
+    let loop = c .before .before .before .before .loop in
+    let P = mark (c .before .before .before .before .before .before .before .before .before .pre .0 .table) (loop .inv .0)
+      (omega (arith, loop .inv .0 .holds, c .before .before .before .if1 .left)) in omega (arith, P .lo-below, c .lo .ensures)
 
 loop-again-2 : tie.Need-loop-again-2 Inv-loop μ-loop
-loop-again-2 c = (way-lo (c .before .before .before .before .before .before .before .before .before .pre .0 .table) (c .before .before .before .before .loop .inv .0) (omega (arith, c .before .before .before .before .loop .inv .0 .holds, c .before .before .before .if1 .left)) (c .lo .result) (c .lo .ensures) (c .before .before .takes-hi .ensures .by-lo (c .before .if2 .left) .0), rw (goes-lo (c .before .before .takes-hi .ensures) (c .before .if2 .left) (c .lo .result) (c .lo .ensures)) at (c .before .before .before .before .loop .inv .1))
+loop-again-2 c =
+    let takes-hi = c .before .before .takes-hi in let loop = c .before .before .before .before .loop in
+    (way-lo (c .before .before .before .before .before .before .before .before .before .pre .0 .table) (loop .inv .0) (omega (arith, loop .inv .0 .holds, c .before .before .before .if1 .left))
+      (c .lo .result) (c .lo .ensures) (takes-hi .ensures .by-lo (c .before .if2 .left) .0), rw (goes-lo (takes-hi .ensures) (c .before .if2 .left) (c .lo .result) (c .lo .ensures)) at
+      (loop .inv .1))
 
 same-length : tie.Need-same-length Inv-loop μ-loop
 same-length c = c .before .loop .inv .1 .long
 
 returns : tie.Need-returns Inv-loop μ-loop
-returns c = let e = page-end (rw (at-end (c .before .before .before .before .before .before .args .costs .now) (c .before .before .before .before .before .before .args .t .now) (c .before .loop .node) (c .if1 .taken)) at (c .before .loop .inv .1)) in (e .many, c .before .before .before .before .before .before .pre .1 .1 .1, e .pages)
+returns c =
+    let args = c .before .before .before .before .before .before .args in
+    let e = page-end (rw (at-end (args .costs .now) (args .t .now) (c .before .loop .node) (c .if1 .taken)) at (c .before .loop .inv .1)) in
+      (e .many, c .before .before .before .before .before .before .pre .1 .1 .1, e .pages)
 
 pub write-cheapest-spec : {M : Type 1} → statement M
 write-cheapest-spec =

@@ -12,30 +12,43 @@ abbrev μ-loop : tie.MeasureT-loop
 μ-loop t heads next m h label lo hi k₀ k = k
 
 loop-holds : tie.Need-loop-holds Inv-loop μ-loop
-loop-holds c = let a = c .before .before .args in start (node (a .label) (a .lo) (a .hi)) (a .h) (c .before .before .pre .1 .1 .0) (c .before .before .pre .1 .1 .1 .0) (c .before .before .pre .1 .1 .1 .1)
+loop-holds c =
+    let pre = c .before .before .pre in
+    let a = c .before .before .args in start (node (a .label) (a .lo) (a .hi)) (a .h) (pre .1 .1 .0) (pre .1 .1 .1 .0) (pre .1 .1 .1 .1)
 
 sub-is-node : tie.Need-sub-is-node Inv-loop μ-loop
 sub-is-node c = omega (arith, c .before .before .loop .inv .own (omega arith), c .wide .ensures)
 
 is-node-requires : tie.Need-is-node-requires Inv-loop μ-loop
-is-node-requires c κs = (c .before .before .before .before .before .pre .0, omega (arith, c .before .before .loop .inv .own (omega arith), c .before .before .loop .inv .below, c .wide .ensures, c .before .before .before .before .before .pre .1 .0))
+is-node-requires c κs =
+    let loop = c .before .before .loop in let pre = c .before .before .before .before .before .pre in
+    (pre .0, omega (arith, loop .inv .own (omega arith), loop .inv .below, c .wide .ensures, pre .1 .0))
 
 returns : tie.Need-returns Inv-loop μ-loop
 returns c = hit (c .before .before .before .before .loop .inv) (rw (c .before .before .wide .ensures) at (c .before .is-node .ensures .yes (c .if1 .taken))) (omega arith)
 
 mul-k-2 : tie.Need-mul-k-2 Inv-loop μ-loop
-mul-k-2 c = omega (arith, c .before .before .wide .ensures, c .before .before .before .before .loop .inv .below, c .before .before .before .before .before .before .before .pre .1 .1 .0 .index .room, c .before .before .before .before .before .before .before .pre .1 .1 .0 .next-long)
+mul-k-2 c =
+    let pre = c .before .before .before .before .before .before .before .pre in
+    omega (arith, c .before .before .wide .ensures, c .before .before .before .before .loop .inv .below, pre .1 .1 .0 .index .room, pre .1 .1 .0 .next-long)
 
 element-copy-out-k-2 : tie.Need-element-copy-out-k-2 Inv-loop μ-loop
-element-copy-out-k-2 c = omega (arith, c .before .before .wide .ensures, c .before .before .before .before .loop .inv .below, c .before .before .before .before .before .before .before .pre .1 .1 .0 .index .room, c .before .before .before .before .before .before .before .pre .1 .1 .0 .next-long)
+element-copy-out-k-2 c =
+    let pre = c .before .before .before .before .before .before .before .pre in
+    omega (arith, c .before .before .wide .ensures, c .before .before .before .before .loop .inv .below, pre .1 .1 .0 .index .room, pre .1 .1 .0 .next-long)
 
 loop-less : tie.Need-loop-less Inv-loop μ-loop
-loop-less c = let a = c .before .before .before .before .before .before .before .before .args in rw (c .before .before .before .wide .ensures) (falls (node (a .label) (a .lo) (a .hi)) (c .before .before .before .before .before .loop .k) (c .before .before .before .before .before .before .before .before .pre .1 .1 .0) (c .before .before .before .before .before .loop .inv) (omega arith))
+loop-less c =
+    let loop = c .before .before .before .before .before .loop in
+    let a = c .before .before .before .before .before .before .before .before .args in rw (c .before .before .before .wide .ensures)
+      (falls (node (a .label) (a .lo) (a .hi)) (loop .k) (c .before .before .before .before .before .before .before .before .pre .1 .1 .0) (loop .inv) (omega arith))
 
 loop-again : tie.Need-loop-again Inv-loop μ-loop
 loop-again c =
+    let wide = c .before .before .before .wide in let loop = c .before .before .before .before .before .loop in
     let a = c .before .before .before .before .before .before .before .before .args in
-    rw (c .before .before .before .wide .ensures) (step (node (a .label) (a .lo) (a .hi)) (c .before .before .before .before .before .loop .k) (c .before .before .before .before .before .before .before .before .pre .1 .1 .0) (c .before .before .before .before .before .loop .inv) (omega arith) (rw (c .before .before .before .wide .ensures) at (c .before .before .is-node .ensures .no (c .before .if1 .left))))
+    rw (wide .ensures) (step (node (a .label) (a .lo) (a .hi)) (loop .k) (c .before .before .before .before .before .before .before .before .pre .1 .1 .0) (loop .inv) (omega arith)
+      (rw (wide .ensures) at (c .before .before .is-node .ensures .no (c .before .if1 .left))))
 
 returns-2 : tie.Need-returns-2 Inv-loop μ-loop
 returns-2 c = miss (c .before .loop .inv) (omega arith)

@@ -8,10 +8,14 @@ use Rattle.table.proofs.is_node.Statement.{statement}
 use Rattle.table.proofs.is_node.Tie as tie
 
 returns : tie.Need-returns
-returns c = tells-no (λ e. c .if1 .taken (ap (λ (y : Node). y .label) (sym (node-at (c .before .before .args .t .now) (c .before .before .args .i) (1 + 3 * c .before .before .args .i) (c .before .before .pre .1) refl) ∙ e)))
+returns c =
+    let args = c .before .before .args in
+    tells-no (λ e. c .if1 .taken (ap (λ (y : Node). y .label) (sym (node-at (args .t .now) (args .i) (1 + 3 * args .i) (c .before .before .pre .1) refl) ∙ e)))
 
 returns-2 : tie.Need-returns-2
-returns-2 c = tells-no (λ e. c .if2 .taken (ap (λ (y : Node). y .lo) (sym (node-at (c .before .before .before .before .args .t .now) (c .before .before .before .before .args .i) (1 + 3 * c .before .before .before .before .args .i) (c .before .before .before .before .pre .1) refl) ∙ e)))
+returns-2 c =
+    let args = c .before .before .before .before .args in
+    tells-no (λ e. c .if2 .taken (ap (λ (y : Node). y .lo) (sym (node-at (args .t .now) (args .i) (1 + 3 * args .i) (c .before .before .before .before .pre .1) refl) ∙ e)))
 
 returns-3 : tie.Need-returns-3
 returns-3 c =

@@ -10,7 +10,9 @@ returns : tie.Need-returns
 returns c = made-none (c .before .before .before .pre .0) (c .before .before .before .pre .1 .1) (full-few (c .before .before .before .pre .0 .room) (omega arith))
 
 returns-2 : tie.Need-returns-2
-returns-2 c = made-none (c .before .before .before .before .before .pre .0) (c .before .before .before .before .before .pre .1 .1) (full-long (c .before .before .before .before .before .pre .0 .room) (omega (arith, c .before .wide .ensures)))
+returns-2 c =
+    let pre = c .before .before .before .before .before .pre in
+    made-none (pre .0) (pre .1 .1) (full-long (pre .0 .room) (omega (arith, c .before .wide .ensures)))
 
 slice-write-t-2 : tie.Need-slice-write-t-2
 slice-write-t-2 c = simp length-set (omega arith)
@@ -22,16 +24,20 @@ slice-write-t-4 : tie.Need-slice-write-t-4
 slice-write-t-4 c = simp length-set (omega arith)
 
 insert-requires : tie.Need-insert-requires
-insert-requires c κs = (omega (arith, c .before .before .before .before .before .before .before .pre .1 .0 .1, c .before .before .before .before .before .before .before .pre .0 .index .heads-long), omega (arith, c .before .before .before .before .if1 .left, c .before .before .before .before .before .before .before .pre .0 .index .next-long))
+insert-requires c κs =
+    let pre = c .before .before .before .before .before .before .before .pre in
+    (omega (arith, pre .1 .0 .1, pre .0 .index .heads-long), omega (arith, c .before .before .before .before .if1 .left, pre .0 .index .next-long))
 
 same-length : tie.Need-same-length
 same-length c = simp length-set
 
 returns-3 : tie.Need-returns-3
 returns-3 c =
+    let here = c .before .before .before .before in let wide = here .wide in let pre = here .before .before .before .before .pre in
     let a = c .before .before .before .before .before .before .before .before .args in
     rw (c .insert .ensures .0, c .insert .ensures .1)
-    (made-stored {x = node (a .label) (a .lo) (a .hi)} _ (a .h) _ _ (c .before .before .before .before .before .before .before .before .pre .0) (c .before .before .before .before .before .before .before .before .pre .1 .1) (omega arith) (omega (arith, c .before .before .before .before .wide .ensures)) (c .before .before .before .before .before .before .before .before .pre .1 .0 .1) (c .before .before .before .before .before .before .before .before .pre .1 .0 .0) (omega (arith, c .before .before .before .before .wide .ensures)) (omega (arith)) (omega arith))
+    (made-stored {x = node (a .label) (a .lo) (a .hi)} _ (a .h) _ _ (pre .0) (pre .1 .1) (omega arith) (omega (arith, wide .ensures)) (pre .1 .0 .1) (pre .1 .0 .0) (omega (arith, wide .ensures))
+      (omega (arith)) (omega arith))
 
 pub make-spec : {M : Type 1} → statement M
 make-spec =

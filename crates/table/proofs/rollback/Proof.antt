@@ -31,7 +31,8 @@ same-length : tie.Need-same-length Inv-loop μ-loop
 same-length c = simp length-set (c .before .loop .inv .long)
 
 returns : tie.Need-returns Inv-loop μ-loop
-returns c = rolled (c .before .before .before .before .before .before .args .n) (c .before .loop .inv) (c .before .before .before .before .before .before .pre) (omega (arith, c .before .before .before .wide .ensures)) (omega (arith, c .before .before .wide2 .ensures))
+returns c = rolled (c .before .before .before .before .before .before .args .n) (c .before .loop .inv) (c .before .before .before .before .before .before .pre)
+    (omega (arith, c .before .before .before .wide .ensures)) (omega (arith, c .before .before .wide2 .ensures))
 
 pub rollback-spec : {M : Type 1} → statement M
 rollback-spec =

@@ -5,13 +5,19 @@ use Rattle.table.proofs.unique.Statement.{statement}
 use Rattle.table.proofs.unique.Tie as tie
 
 find-requires : tie.Need-find-requires
-find-requires c κs = (c .before .before .before .before .before .before .before .pre .room, (omega (arith, c .before .before .before .wide .ensures), (rw (c .before .before .before .wide .ensures) (c .before .before .before .before .before .before .before .pre .index), c .before .before .before .before .before .hash .ensures)))
+find-requires c κs =
+    let wide = c .before .before .before .wide in let pre = c .before .before .before .before .before .before .before .pre in
+    (pre .room, (omega (arith, wide .ensures), (rw (wide .ensures) (pre .index), c .before .before .before .before .before .hash .ensures)))
 
 returns : tie.Need-returns
-returns c = made-old (c .before .before .before .before .before .before .before .before .before .pre) (rw (c .before .before .before .before .before .wide .ensures) at (c .before .find .ensures)) (omega arith)
+returns c = made-old (c .before .before .before .before .before .before .before .before .before .pre) (rw (c .before .before .before .before .before .wide .ensures) at (c .before .find .ensures))
+    (omega arith)
 
 make-requires : tie.Need-make-requires
-make-requires c κs = (c .before .before .before .before .before .before .before .before .before .before .before .before .pre, (c .before .before .before .before .before .before .before .before .before .before .hash .ensures, λ i h e. c .before .before .before .before .find .ensures .none (c .before .before .before .if1 .left) i (omega (arith, c .before .before .before .before .before .before .before .before .wide .ensures)) e))
+make-requires c κs =
+    let pre = c .before .before .before .before .before .before .before .before .before .before .before .before .pre in
+    (pre, (c .before .before .before .before .before .before .before .before .before .before .hash .ensures, λ i h e. c .before .before .before .before .find .ensures .none
+      (c .before .before .before .if1 .left) i (omega (arith, c .before .before .before .before .before .before .before .before .wide .ensures)) e))
 
 pub unique-spec : {M : Type 1} → statement M
 unique-spec =
