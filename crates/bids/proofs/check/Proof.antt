@@ -22,9 +22,11 @@ loop-less c = omega arith
 
 loop-again : tie.Need-loop-again Inv-loop μ-loop
 loop-again c =
-    let loop = c .before .before .before .before .loop in
-    (omega arith, (rw (c .before .wide32 .ensures, loop .inv .1) at (c .wrapping-mul .ensures)) ∙ sym
-      (fnv-more (c .before .before .before .before .before .before .args .file .now) (loop .i) (omega arith)))
+    let loop = c .before .before .before .before .loop in (
+      omega arith,
+      (rw (c .before .wide32 .ensures, loop .inv .1) at (c .wrapping-mul .ensures)) ∙ sym
+          (fnv-more (c .before .before .before .before .before .before .args .file .now) (loop .i) (omega arith)),
+    )
 
 returns : tie.Need-returns Inv-loop μ-loop
 returns c = c .before .loop .inv .1 ∙ (let e : c .before .loop .i ≡ c .before .before .before .args .n = omega arith in rw e)

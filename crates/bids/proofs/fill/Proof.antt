@@ -59,8 +59,12 @@ mul-costs c = omega (arith, c .before .before .before .before .before .before .b
 slice-write-costs : tie.Need-slice-write-costs Inv-loop μ-loop
 slice-write-costs c =
     let here = c .before .before .before .before .before in let loop = here .loop in let args = here .before .before .before .before .args in
-    omega (arith, c .before .before .before .before .before .before .before .before .before .pre .1 .1, over-long (listed (costOf (args .file .now) (args .s)) (loop .k)) (args .costs .now)
-      (loop .inv .3))
+    omega (
+      arith,
+      c .before .before .before .before .before .before .before .before .before .pre .1 .1,
+      over-long (listed (costOf (args .file .now) (args .s)) (loop .k)) (args .costs .now)
+          (loop .inv .3),
+    )
 
 add-k : tie.Need-add-k Inv-loop μ-loop
 add-k c = omega arith

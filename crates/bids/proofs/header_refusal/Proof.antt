@@ -33,7 +33,7 @@ returns-4 c =
     let h = args .h in
     let p = c .before .before .before .before .before .before .before .before .pre in
     sym (pass 21 _ (mark-test b h p ∙ c .before .before .before .before .before .before .if1 .left) ∙ pass 22 _ (same-version b h p (c .before .before .before .before .if2 .left)) ∙ hit 24 _
-      (many-packages b h p (c .before .before .if3 .left) (c .if4 .taken)))
+    (many-packages b h p (c .before .before .if3 .left) (c .if4 .taken)))
 
 returns-5 : tie.Need-returns-5
 returns-5 c =
@@ -42,8 +42,8 @@ returns-5 c =
     let h = args .h in
     let p = c .before .before .before .before .before .before .before .before .before .before .before .pre in
     sym (pass 21 _ (mark-test b h p ∙ c .before .before .before .before .before .before .before .before .before .if1 .left) ∙ pass 22 _
-      (same-version b h p (c .before .before .before .before .before .before .before .if2 .left)) ∙ pass 24 _
-      (few b h p (c .before .before .before .before .before .if3 .left) (c .before .before .before .if4 .left)) ∙ hit 20 _ (other-length b h p (c .if5 .taken)))
+    (same-version b h p (c .before .before .before .before .before .before .before .if2 .left)) ∙ pass 24 _
+    (few b h p (c .before .before .before .before .before .if3 .left) (c .before .before .before .if4 .left)) ∙ hit 20 _ (other-length b h p (c .if5 .taken)))
 
 returns-6 : tie.Need-returns-6
 returns-6 c =
@@ -52,8 +52,8 @@ returns-6 c =
     let h = args .h in
     let p = c .before .before .before .before .before .before .before .before .before .before .before .pre in
     sym (pass 21 _ (mark-test b h p ∙ c .before .before .before .before .before .before .before .before .before .if1 .left) ∙ pass 22 _
-      (same-version b h p (c .before .before .before .before .before .before .before .if2 .left)) ∙ pass 24 _
-      (few b h p (c .before .before .before .before .before .if3 .left) (c .before .before .before .if4 .left)) ∙ pass 20 _ (same-length b h p (c .if5 .left)) ∙ none)
+    (same-version b h p (c .before .before .before .before .before .before .before .if2 .left)) ∙ pass 24 _
+    (few b h p (c .before .before .before .before .before .if3 .left) (c .before .before .before .if4 .left)) ∙ pass 20 _ (same-length b h p (c .if5 .left)) ∙ none)
 
 pub header-refusal-spec : {M : Type 1} → statement M
 header-refusal-spec =

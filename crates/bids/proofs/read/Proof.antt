@@ -30,7 +30,7 @@ returns-2 c =
     let a = c .before .before .before .before .before .before .before .before .before .args in
     let b = a .file .now in
     let e = few-places b (length (a .packages .now)) (length (a .costs .now)) (sym (c .before .before .before .before .before .refusal .ensures) ∙ c .before .before .before .before .if1 .left)
-      (omega (arith, c .before .before .before .read-header .ensures .packages, c .if2 .taken)) in
+    (omega (arith, c .before .before .before .read-header .ensures .packages, c .if2 .taken)) in
     record {
       answer = reply-refused 15 (F.schools b, (F.slots b, F.packages b)) e (λ z. omega arith);
       items = unwritten 15 (packagesOf b) (a .packages .now) e (λ z. omega arith);
@@ -42,8 +42,8 @@ returns-3 c =
     let a = c .before .before .before .before .before .before .before .before .before .before .args in
     let b = a .file .now in
     let e = few-costs b (length (a .packages .now)) (length (a .costs .now))
-      (sym (c .before .before .before .before .before .before .refusal .ensures) ∙ c .before .before .before .before .before .if1 .left)
-      (omega (arith, c .before .before .before .before .read-header .ensures .packages, c .if3 .taken)) in
+    (sym (c .before .before .before .before .before .before .refusal .ensures) ∙ c .before .before .before .before .before .if1 .left)
+    (omega (arith, c .before .before .before .before .read-header .ensures .packages, c .if3 .taken)) in
     record {
       answer = reply-refused 15 (F.schools b, (F.slots b, F.packages b)) e (λ z. omega arith);
       items = unwritten 15 (packagesOf b) (a .packages .now) e (λ z. omega arith);
@@ -53,10 +53,11 @@ returns-3 c =
 fill-requires : tie.Need-fill-requires
 fill-requires c κs =
     let args = c .before .before .before .before .before .before .before .before .before .before .before .before .before .args in
-    let p = c .before .before .before .before .before .before .before .read-header .ensures in
-    (readable (args .file .now) (sym (c .before .before .before .before .before .before .before .before .before .refusal .ensures) ∙
-      c .before .before .before .before .before .before .before .before .if1 .left) (c .before .before .wide .ensures ∙ p .schools) (p .packages),
-      (omega (arith, c .before .before .before .before .if2 .left), omega (arith, c .before .before .before .if3 .left)))
+    let p = c .before .before .before .before .before .before .before .read-header .ensures in (
+      readable (args .file .now) (sym (c .before .before .before .before .before .before .before .before .before .refusal .ensures) ∙
+          c .before .before .before .before .before .before .before .before .if1 .left) (c .before .before .wide .ensures ∙ p .schools) (p .packages),
+      (omega (arith, c .before .before .before .before .if2 .left), omega (arith, c .before .before .before .if3 .left)),
+    )
 
 returns-4 : tie.Need-returns-4
 returns-4 c =
@@ -69,8 +70,8 @@ returns-4 c =
     let b = a .file .now in
     let p = read-header .ensures in
     let e = accepted b (length (a .packages .now)) (length (a .costs .now)) (sym (refusal′ .ensures) ∙ if1 .left)
-      (omega (arith, p .packages, c .before .before .before .before .before .before .before .before .before .if2 .left))
-      (omega (arith, p .packages, c .before .before .before .before .before .before .before .before .if3 .left)) in
+    (omega (arith, p .packages, c .before .before .before .before .before .before .before .before .before .if2 .left))
+    (omega (arith, p .packages, c .before .before .before .before .before .before .before .before .if3 .left)) in
     record {
       answer = (rw (p .schools, p .slots, p .packages) (reply-gives (F.schools b, (F.slots b, F.packages b)) e));
       items = items-stored b (a .packages .now) e (wide .ensures ∙ p .schools) (p .packages) (fill .ensures .0);

@@ -31,7 +31,7 @@ returns-2 c =
     let b = c .before .before .before .before .before .before .before .args .file .now in
     let p = c .before .before .before .before .before .before .before .pre in
     let e1 = check-of b refl (c .before .before .before .before .check .ensures) (c .before .before .before .before .before .word32 .ensures .value) ∙ ap not
-      (eq-eqb _ _ (c .before .before .if1 .left)) in
+    (eq-eqb _ _ (c .before .before .if1 .left)) in
     sym (pass 23 _ e1 ∙ hit 25 _ (twice-of b p (c .before .school-twice .ensures) ∙ c .if2 .taken))
 
 stray-requires : tie.Need-stray-requires
@@ -42,7 +42,7 @@ returns-3 c =
     let b = c .before .before .before .before .before .before .before .before .before .args .file .now in
     let p = c .before .before .before .before .before .before .before .before .before .pre in
     let e1 = check-of b refl (c .before .before .before .before .before .before .check .ensures) (c .before .before .before .before .before .before .before .word32 .ensures .value) ∙ ap not
-      (eq-eqb _ _ (c .before .before .before .before .if1 .left)) in
+    (eq-eqb _ _ (c .before .before .before .before .if1 .left)) in
     let e2 = twice-of b p (c .before .before .before .school-twice .ensures) ∙ c .before .before .if2 .left in
     sym (pass 23 _ e1 ∙ pass 25 _ e2 ∙ hit 26 _ (stray-of b p (c .before .stray .ensures) ∙ c .if3 .taken))
 
@@ -54,7 +54,7 @@ returns-4 c =
     let b = c .before .before .before .before .before .before .before .before .before .before .before .args .file .now in
     let p = c .before .before .before .before .before .before .before .before .before .before .before .pre in
     let e1 = check-of b refl (c .before .before .before .before .before .before .before .before .check .ensures)
-      (c .before .before .before .before .before .before .before .before .before .word32 .ensures .value) ∙ ap not (eq-eqb _ _ (c .before .before .before .before .before .before .if1 .left)) in
+    (c .before .before .before .before .before .before .before .before .before .word32 .ensures .value) ∙ ap not (eq-eqb _ _ (c .before .before .before .before .before .before .if1 .left)) in
     let e2 = twice-of b p (c .before .before .before .before .before .school-twice .ensures) ∙ c .before .before .before .before .if2 .left in
     let e3 = stray-of b p (c .before .before .before .stray .ensures) ∙ c .before .before .if3 .left in
     sym (pass 23 _ e1 ∙ pass 25 _ e2 ∙ pass 26 _ e3 ∙ hit 27 _ (package-twice-of b p (c .before .package-twice .ensures) ∙ c .if4 .taken))
@@ -64,7 +64,7 @@ returns-5 c =
     let b = c .before .before .before .before .before .before .before .before .before .before .before .args .file .now in
     let p = c .before .before .before .before .before .before .before .before .before .before .before .pre in
     let e1 = check-of b refl (c .before .before .before .before .before .before .before .before .check .ensures)
-      (c .before .before .before .before .before .before .before .before .before .word32 .ensures .value) ∙ ap not (eq-eqb _ _ (c .before .before .before .before .before .before .if1 .left)) in
+    (c .before .before .before .before .before .before .before .before .before .word32 .ensures .value) ∙ ap not (eq-eqb _ _ (c .before .before .before .before .before .before .if1 .left)) in
     let e2 = twice-of b p (c .before .before .before .before .before .school-twice .ensures) ∙ c .before .before .before .before .if2 .left in
     let e3 = stray-of b p (c .before .before .before .stray .ensures) ∙ c .before .before .if3 .left in
     let e4 = package-twice-of b p (c .before .package-twice .ensures) ∙ c .if4 .left in

@@ -42,7 +42,7 @@ returns-2 c =
     let a = c .before .before .before .before .before .before .before .before .args in
     sym (some-hit (λ j. strayb (a .file .now) (a .s) (a .t) j) (a .n) (loop .k) (c .before .before .before .before .before .loop-test .taken) (loop .inv .1 .1)
     (outside (a .file .now) (a .s) (loop .k) (loop .c .at) (loop .inv .1 .0) (a .t) (c .before .before .before .before .school-index .ensures) (c .before .before .before .if1 .left)
-      (c .before .before .package-record .ensures .slots) (c .before .below .ensures) ∙ c .if2 .taken))
+    (c .before .before .package-record .ensures .slots) (c .before .below .ensures) ∙ c .if2 .taken))
 
 add-k : tie.Need-add-k Inv-loop μ-loop
 add-k c = omega arith
@@ -59,7 +59,7 @@ loop-again c =
         omega (arith, package-record .ensures .next),
         first-more (λ j. strayb (a .file .now) (a .s) (a .t) j) (loop .k) (loop .inv .1 .1)
             (outside (a .file .now) (a .s) (loop .k) (loop .c .at) (loop .inv .1 .0) (a .t) (c .before .before .before .before .before .school-index .ensures)
-              (c .before .before .before .before .if1 .left) (package-record .ensures .slots) (c .before .before .below .ensures) ∙ c .before .if2 .left),
+            (c .before .before .before .before .if1 .left) (package-record .ensures .slots) (c .before .before .below .ensures) ∙ c .before .if2 .left),
       ),
     )
 

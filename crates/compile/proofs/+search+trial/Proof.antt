@@ -69,14 +69,24 @@ search-place-requires t c κs = c .before .before .before .before .before .pre .
 search-mul-if3 : (t : ℕ) → search-lts.Need-mul-if3 (search-claims t) (search-at t) search′.Post
 search-mul-if3 t c =
     let q = c .before .before .before .before .before .before .pre .1 .1 .0 .held in
-    omega (arith, c .place .ensures, mod-lt (c .before .before .before .before .before .before .args .items) (q .some), q .long,
-      c .before .before .before .before .before .before .good .1 .1 .1 .1 .1 .1 .0 .1)
+    omega (
+      arith,
+      c .place .ensures,
+      mod-lt (c .before .before .before .before .before .before .args .items) (q .some),
+      q .long,
+      c .before .before .before .before .before .before .good .1 .1 .1 .1 .1 .1 .0 .1,
+    )
 
 search-mul-if3-2 : (t : ℕ) → search-lts.Need-mul-if3-2 (search-claims t) (search-at t) search′.Post
 search-mul-if3-2 t c =
     let q = c .before .before .before .before .before .before .pre .1 .1 .0 .held in
-    omega (arith, c .place .ensures, mod-lt (c .before .before .before .before .before .before .args .items) (q .some), q .long,
-      c .before .before .before .before .before .before .good .1 .1 .1 .1 .1 .1 .0 .1)
+    omega (
+      arith,
+      c .place .ensures,
+      mod-lt (c .before .before .before .before .before .before .args .items) (q .some),
+      q .long,
+      c .before .before .before .before .before .before .good .1 .1 .1 .1 .1 .1 .0 .1,
+    )
 
 search-slice-read-if3 : (t : ℕ) → search-lts.Need-slice-read-if3 (search-claims t) (search-at t) search′.Post
 search-slice-read-if3 t c =
@@ -86,20 +96,35 @@ search-slice-read-if3 t c =
 search-mul-t21 : (t : ℕ) → search-lts.Need-mul-t21 (search-claims t) (search-at t) search′.Post
 search-mul-t21 t c =
     let q = c .before .before .before .before .before .before .before .before .pre .1 .1 .0 .held in
-    omega (arith, c .before .before .place .ensures, mod-lt (c .before .before .before .before .before .before .before .before .args .items) (q .some), q .long,
-      c .before .before .before .before .before .before .before .before .good .1 .1 .1 .1 .1 .1 .0 .1)
+    omega (
+      arith,
+      c .before .before .place .ensures,
+      mod-lt (c .before .before .before .before .before .before .before .before .args .items) (q .some),
+      q .long,
+      c .before .before .before .before .before .before .before .before .good .1 .1 .1 .1 .1 .1 .0 .1,
+    )
 
 search-add-t22 : (t : ℕ) → search-lts.Need-add-t22 (search-claims t) (search-at t) search′.Post
 search-add-t22 t c =
     let q = c .before .before .before .before .before .before .before .before .pre .1 .1 .0 .held in
-    omega (arith, c .before .before .place .ensures, mod-lt (c .before .before .before .before .before .before .before .before .args .items) (q .some), q .long,
-      c .before .before .before .before .before .before .before .before .good .1 .1 .1 .1 .1 .1 .0 .1)
+    omega (
+      arith,
+      c .before .before .place .ensures,
+      mod-lt (c .before .before .before .before .before .before .before .before .args .items) (q .some),
+      q .long,
+      c .before .before .before .before .before .before .before .before .good .1 .1 .1 .1 .1 .1 .0 .1,
+    )
 
 search-mul-t23 : (t : ℕ) → search-lts.Need-mul-t23 (search-claims t) (search-at t) search′.Post
 search-mul-t23 t c =
     let q = c .before .before .before .before .before .before .before .before .pre .1 .1 .0 .held in
-    omega (arith, c .before .before .place .ensures, mod-lt (c .before .before .before .before .before .before .before .before .args .items) (q .some), q .long,
-      c .before .before .before .before .before .before .before .before .good .1 .1 .1 .1 .1 .1 .0 .1)
+    omega (
+      arith,
+      c .before .before .place .ensures,
+      mod-lt (c .before .before .before .before .before .before .before .before .args .items) (q .some),
+      q .long,
+      c .before .before .before .before .before .before .before .before .good .1 .1 .1 .1 .1 .1 .0 .1,
+    )
 
 search-slice-read-t25 : (t : ℕ) → search-lts.Need-slice-read-t25 (search-claims t) (search-at t) search′.Post
 search-slice-read-t25 t c =
@@ -110,21 +135,39 @@ search-cast-t26 : (t : ℕ) → search-lts.Need-cast-t26 (search-claims t) (sear
 search-cast-t26 t c =
     let place′ = c .before .before .before .place in
     let q = c .before .before .before .before .before .before .before .before .before .pre .1 .1 .0 in
-    omega (arith, q .held .values (place′ .result) (omega (arith, place′ .ensures, mod-lt (c .before .before .before .before .before .before .before .before .before .args .items)
-      (q .held .some))), q .indexed .room .few)
+    omega (
+      arith,
+      q .held .values (place′ .result) (omega (
+        arith,
+        place′ .ensures,
+        mod-lt (c .before .before .before .before .before .before .before .before .before .args .items)
+            (q .held .some),
+      )),
+      q .indexed .room .few,
+    )
 
 search-returns-3 : (t : ℕ) → search-lts.Need-returns-3 (search-claims t) (search-at t) search′.Post
 search-returns-3 t c =
     let place′ = c .before .before .before .place in let pre = c .before .before .before .before .before .before .before .before .before .pre in
     search-hit (pre .1 .0) (pre .1 .1 .0) (c .before .before .before .before .before .before .before .before .before .args .items) (place′ .result) _ _
-      (omega (arith, c .before .before .before .before .before .if1 .left)) refl (omega (arith, c .before .before .before .before .if2 .left)) (place′ .ensures) (c .before .if3 .taken) refl
+    (omega (arith, c .before .before .before .before .before .if1 .left)) refl (omega (arith, c .before .before .before .before .if2 .left)) (place′ .ensures) (c .before .if3 .taken) refl
 
 search-trial-requires : (t : ℕ) → search-lts.Need-trial-requires (search-claims t) (search-at t) search′.Post
 search-trial-requires t c κs =
     let pre = c .before .before .before .before .before .before .before .before .before .before .before .before .pre in
-    let q = pre .1 in
-    (omega (arith, pre .0), (q .0, (q .1 .0, (omega (arith, c .before .before .before .before .before .before .before .before .if1 .left),
-      (omega (arith, c .before .before .before .before .before .before .before .if2 .left), c .before .before .before .before .before .before .place .ensures)))))
+    let q = pre .1 in (
+      omega (arith, pre .0),
+      (
+        q .0,
+        (
+          q .1 .0,
+          (
+            omega (arith, c .before .before .before .before .before .before .before .before .if1 .left),
+            (omega (arith, c .before .before .before .before .before .before .before .if2 .left), c .before .before .before .before .before .before .place .ensures),
+          ),
+        ),
+      ),
+    )
 
 search-same-length : (t : ℕ) → search-lts.Need-same-length (search-claims t) (search-at t) search′.Post
 search-same-length t c = c .before .before .before .before .trial .ensures .grown .long
@@ -137,7 +180,7 @@ search-returns-4 t c =
     let here = c .before .before .before .before .before .before .before .before .before .before .before in let place′ = here .place in let if2 = here .before .if2 in
     let args = here .before .before .before .before .before .before .args in let pre = here .before .before .before .before .before .before .pre in
     search-tried (pre .1 .0) (pre .1 .1 .0) (args .items) (place′ .result) _ refl (omega (arith, if2 .left)) (place′ .ensures)
-      (c .before .before .before .before .before .before .before .before .before .if3 .left) (c .before .before .before .before .trial .ensures)
+    (c .before .before .before .before .before .before .before .before .before .if3 .left) (c .before .before .before .before .trial .ensures)
 
 abbrev trial-Inv-loop : trial-lts.InvT-loop
 trial-Inv-loop packs first after t₀ heads₀ next₀ memo₀ places at items limit low p₀ run₀ t heads next memo p run =
@@ -168,22 +211,32 @@ trial-lowest-requires : (t : ℕ) → trial-lts.Need-lowest-requires (trial-clai
 trial-lowest-requires t c κs = c .before .before .before .pre .1 .1 .1 .1 .0
 
 trial-element-copy-out-p : (t : ℕ) → trial-lts.Need-element-copy-out-p (trial-claims t) (trial-at t) trial.Post trial-Inv-loop trial-μ-loop
-trial-element-copy-out-p t c = omega (arith, c .wide .ensures, c .before .lowest .ensures, lowest-lt 64 (c .before .before .before .before .before .args .items)
-    (c .before .before .before .before .before .pre .1 .1 .1 .1 .0) (c .before .before .before .before .before .fits .items .fits))
+trial-element-copy-out-p t c = omega (
+  arith,
+  c .wide .ensures,
+  c .before .lowest .ensures,
+  lowest-lt 64 (c .before .before .before .before .before .args .items)
+      (c .before .before .before .before .before .pre .1 .1 .1 .1 .0) (c .before .before .before .before .before .fits .items .fits),
+)
 
 trial-loop-holds : (t : ℕ) → trial-lts.Need-loop-holds (trial-claims t) (trial-at t) trial.Post trial-Inv-loop trial-μ-loop
 trial-loop-holds t c =
     let here = c .before .before .before .before .before .before in let args = here .args in let fits = here .fits in
     let q = c .before .before .before .before .before .before .pre .1 in
     rw (c .before .wide .ensures, c .before .before .lowest .ensures)
-      (turn-start (q .0) (args .items) (fits .items .fits) (q .1 .1 .1 .0) (q .1 .0) (q .1 .1 .0), (at-first (q .0) (args .items) (fits .items .fits) (q .1 .1 .1 .0), refl))
+    (turn-start (q .0) (args .items) (fits .items .fits) (q .1 .1 .1 .0) (q .1 .0) (q .1 .1 .0), (at-first (q .0) (args .items) (fits .items .fits) (q .1 .1 .1 .0), refl))
 
 trial-shared-slice-read-pack : (t : ℕ) → trial-lts.Need-shared-slice-read-pack (trial-claims t) (trial-at t) trial.Post trial-Inv-loop trial-μ-loop
 trial-shared-slice-read-pack t c = omega (arith, c .before .wide2 .ensures, c .before .before .before .loop .inv .1 .0 .inside, c .before .before .loop-test .taken)
 
 trial-element-copy-out-later : (t : ℕ) → trial-lts.Need-element-copy-out-later (trial-claims t) (trial-at t) trial.Post trial-Inv-loop trial-μ-loop
-trial-element-copy-out-later t c = omega (arith, c .before .wide2 .ensures, c .before .before .before .loop .inv .1 .0 .inside, c .before .before .loop-test .taken,
-    c .before .before .before .before .before .before .before .before .before .before .pre .1 .0 .few)
+trial-element-copy-out-later t c = omega (
+  arith,
+  c .before .wide2 .ensures,
+  c .before .before .before .loop .inv .1 .0 .inside,
+  c .before .before .loop-test .taken,
+  c .before .before .before .before .before .before .before .before .before .before .pre .1 .0 .few,
+)
 
 trial-loop-less : (t : ℕ) → trial-lts.Need-loop-less (trial-claims t) (trial-at t) trial.Post trial-Inv-loop trial-μ-loop
 trial-loop-less t c =
@@ -193,7 +246,7 @@ trial-loop-less t c =
     let pre = here .before .before .before .before .before .before .before .before .before .pre in
     let q = pre .1 in
     at-falls (q .0) (args .items) (fits .items .fits) (q .1 .1 .1 .0) (loop .p) (wide2 .result) (omega (arith, wide2 .ensures, c .before .before .before .before .before .loop-test .taken))
-      (loop .inv .1 .0)
+    (loop .inv .1 .0)
 
 trial-loop-again : (t : ℕ) → trial-lts.Need-loop-again (trial-claims t) (trial-at t) trial.Post trial-Inv-loop trial-μ-loop
 trial-loop-again t c =
@@ -204,7 +257,7 @@ trial-loop-again t c =
     let q = pre .1 in
     let e : loop .p ≡ wide2 .result + 1 = omega (arith, wide2 .ensures, c .before .before .before .before .before .loop-test .taken) in (
       turn-pass (q .0) (args .items) (fits .items .fits) (q .1 .1 .1 .0) (loop .p) (wide2 .result) e (loop .inv .1 .0)
-        (sym (c .before .inside .ensures) ∙ not-true (c .before .inside .result) (c .if1 .taken)) (loop .inv .0),
+          (sym (c .before .inside .ensures) ∙ not-true (c .before .inside .result) (c .if1 .taken)) (loop .inv .0),
       (at-later (q .0) (args .items) (fits .items .fits) (q .1 .1 .1 .0) (loop .p) (wide2 .result) e (loop .inv .1 .0), loop .inv .1 .1),
     )
 
@@ -217,8 +270,14 @@ trial-search-requires t c κs =
     let u = loop .inv .0 in
     let k = wide2 .result in
     let f = q .0 .some k (omega (arith, wide2 .ensures, loop .inv .1 .0 .inside, c .before .before .before .before .before .before .before .before .before .before .loop-test .taken)) in (
-      omega (arith, pre .0, c .before .before .before .before .without .ensures, f, without-back (args .items) (getD (args .packs .now) k 0)
-        (sym (inside′ .ensures) ∙ not-false (inside′ .result) (c .before .before .before .before .before .if1 .left))),
+      omega (
+        arith,
+        pre .0,
+        c .before .before .before .before .without .ensures,
+        f,
+        without-back (args .items) (getD (args .packs .now) k 0)
+            (sym (inside′ .ensures) ∙ not-false (inside′ .result) (c .before .before .before .before .before .if1 .left)),
+      ),
       (q .0, (record { sound = u .grown .sound; indexed = u .indexed; held = u .held }, u .within)),
     )
 
@@ -243,8 +302,8 @@ trial-returns t c =
     let q = pre .1 in
     let e : loop .p ≡ wide2 .result + 1 = omega (arith, wide2 .ensures, loop-test .taken) in
     turn-over (q .0) (args .items) (fits .items .fits) (q .1 .1 .1 .0) (loop .p) (wide2 .result) (without′ .result) e (loop .inv .1 .0)
-      (sym (inside′ .ensures) ∙ not-false (inside′ .result) (c .before .before .before .before .before .before .before .before .before .before .before .if1 .left)) (without′ .ensures)
-      (c .if2 .taken) (loop .inv .0) (c .before .before .before .before .before .search .ensures)
+    (sym (inside′ .ensures) ∙ not-false (inside′ .result) (c .before .before .before .before .before .before .before .before .before .before .before .if1 .left)) (without′ .ensures)
+    (c .if2 .taken) (loop .inv .0) (c .before .before .before .before .before .search .ensures)
 
 trial-loop-less-2 : (t : ℕ) → trial-lts.Need-loop-less-2 (trial-claims t) (trial-at t) trial.Post trial-Inv-loop trial-μ-loop
 trial-loop-less-2 t c =
@@ -267,8 +326,8 @@ trial-loop-again-2 t c =
     let e : loop .p ≡ wide2 .result + 1 = omega (arith, wide2 .ensures, loop-test .taken) in (
       turn-later (q .0) (args .items) (fits .items .fits) (q .1 .1 .1 .0) (loop .p) (wide2 .result) e (loop .inv .1 .0)
           (turn-none (q .0) (args .items) (fits .items .fits) (q .1 .1 .1 .0) (loop .p) (wide2 .result) (without′ .result) e (loop .inv .1 .0)
-            (sym (inside′ .ensures) ∙ not-false (inside′ .result) (if1 .left)) (without′ .ensures) (c .before .if2 .left) (loop .inv .0)
-            (c .before .before .before .before .before .before .search .ensures) (c .if3 .taken)),
+          (sym (inside′ .ensures) ∙ not-false (inside′ .result) (if1 .left)) (without′ .ensures) (c .before .if2 .left) (loop .inv .0)
+          (c .before .before .before .before .before .before .search .ensures) (c .if3 .taken)),
       (at-later (q .0) (args .items) (fits .items .fits) (q .1 .1 .1 .0) (loop .p) (wide2 .result) e (loop .inv .1 .0), loop .inv .1 .1),
     )
 
@@ -293,8 +352,8 @@ trial-loop-again-3 t c =
     let e : loop .p ≡ wide2 .result + 1 = omega (arith, wide2 .ensures, loop-test .taken) in (
       turn-later (q .0) (args .items) (fits .items .fits) (q .1 .1 .1 .0) (loop .p) (wide2 .result) e (loop .inv .1 .0)
           (turn-idle (q .0) (args .items) (fits .items .fits) (q .1 .1 .1 .0) (loop .p) (wide2 .result) (without′ .result) e (loop .inv .1 .0)
-            (sym (inside′ .ensures) ∙ not-false (inside′ .result) (if1 .left)) (without′ .ensures) (c .before .before .if2 .left) (loop .inv .0)
-            (c .before .before .before .before .before .before .before .search .ensures) (c .if4 .taken)),
+          (sym (inside′ .ensures) ∙ not-false (inside′ .result) (if1 .left)) (without′ .ensures) (c .before .before .if2 .left) (loop .inv .0)
+          (c .before .before .before .before .before .before .before .search .ensures) (c .if4 .taken)),
       (at-later (q .0) (args .items) (fits .items .fits) (q .1 .1 .1 .0) (loop .p) (wide2 .result) e (loop .inv .1 .0), loop .inv .1 .1),
     )
 
@@ -326,9 +385,9 @@ trial-loop-again-4 t c =
     let e : loop .p ≡ wide2 .result + 1 = omega (arith, wide2 .ensures, loop-test .taken) in (
       turn-later (q .0) (args .items) (fits .items .fits) (q .1 .1 .1 .0) (loop .p) (wide2 .result) e (loop .inv .1 .0)
           (turn-made (q .0) (args .items) (fits .items .fits) (q .1 .1 .1 .0) (loop .p) (wide2 .result) (without′ .result) e (loop .inv .1 .0)
-            (sym (inside′ .ensures) ∙ not-false (inside′ .result) (if1 .left)) (without′ .ensures) (c .before .before .before .before .before .before .before .before .if2 .left) (loop .inv .0)
-            (the-search .ensures) (c .before .before .before .before .before .before .if4 .left) (omega (arith, c .before .before .before .before .before .before .before .if3 .left)) _ _
-            (sym (wide2 .ensures)) (c .before .before .unique .ensures)),
+          (sym (inside′ .ensures) ∙ not-false (inside′ .result) (if1 .left)) (without′ .ensures) (c .before .before .before .before .before .before .before .before .if2 .left) (loop .inv .0)
+          (the-search .ensures) (c .before .before .before .before .before .before .if4 .left) (omega (arith, c .before .before .before .before .before .before .before .if3 .left)) _ _
+          (sym (wide2 .ensures)) (c .before .before .unique .ensures)),
       (at-later (q .0) (args .items) (fits .items .fits) (q .1 .1 .1 .0) (loop .p) (wide2 .result) e (loop .inv .1 .0), loop .inv .1 .1),
     )
 
@@ -336,48 +395,83 @@ trial-mul-memo : (t : ℕ) → trial-lts.Need-mul-memo (trial-claims t) (trial-a
 trial-mul-memo t c =
     let pre = c .before .before .before .before .before .before .before .before .pre in
     let q = pre .1 .1 .0 .held in
-    omega (arith, pre .1 .1 .1 .1 .1, mod-lt (c .before .before .before .before .before .before .before .before .args .items) (q .some), q .long,
-      c .before .before .before .before .before .before .before .before .good .1 .1 .1 .1 .1 .1 .0 .1)
+    omega (
+      arith,
+      pre .1 .1 .1 .1 .1,
+      mod-lt (c .before .before .before .before .before .before .before .before .args .items) (q .some),
+      q .long,
+      c .before .before .before .before .before .before .before .before .good .1 .1 .1 .1 .1 .1 .0 .1,
+    )
 
 trial-mul-memo-2 : (t : ℕ) → trial-lts.Need-mul-memo-2 (trial-claims t) (trial-at t) trial.Post trial-Inv-loop trial-μ-loop
 trial-mul-memo-2 t c =
     let pre = c .before .before .before .before .before .before .before .before .pre in
     let q = pre .1 .1 .0 .held in
-    omega (arith, pre .1 .1 .1 .1 .1, mod-lt (c .before .before .before .before .before .before .before .before .args .items) (q .some), q .long,
-      c .before .before .before .before .before .before .before .before .good .1 .1 .1 .1 .1 .1 .0 .1)
+    omega (
+      arith,
+      pre .1 .1 .1 .1 .1,
+      mod-lt (c .before .before .before .before .before .before .before .before .args .items) (q .some),
+      q .long,
+      c .before .before .before .before .before .before .before .before .good .1 .1 .1 .1 .1 .1 .0 .1,
+    )
 
 trial-slice-write-memo : (t : ℕ) → trial-lts.Need-slice-write-memo (trial-claims t) (trial-at t) trial.Post trial-Inv-loop trial-μ-loop
 trial-slice-write-memo t c =
     let h = c .before .loop .inv .0 .held in
-    omega (arith, h .long, c .before .before .before .before .before .before .before .before .pre .1 .1 .1 .1 .1, mod-lt
-      (c .before .before .before .before .before .before .before .before .args .items) (h .some))
+    omega (
+      arith,
+      h .long,
+      c .before .before .before .before .before .before .before .before .pre .1 .1 .1 .1 .1,
+      mod-lt
+          (c .before .before .before .before .before .before .before .before .args .items) (h .some),
+    )
 
 trial-mul-memo-3 : (t : ℕ) → trial-lts.Need-mul-memo-3 (trial-claims t) (trial-at t) trial.Post trial-Inv-loop trial-μ-loop
 trial-mul-memo-3 t c =
     let pre = c .before .before .before .before .before .before .before .before .before .pre in
     let q = pre .1 .1 .0 .held in
-    omega (arith, pre .1 .1 .1 .1 .1, mod-lt (c .before .before .before .before .before .before .before .before .before .args .items) (q .some), q .long,
-      c .before .before .before .before .before .before .before .before .before .good .1 .1 .1 .1 .1 .1 .0 .1)
+    omega (
+      arith,
+      pre .1 .1 .1 .1 .1,
+      mod-lt (c .before .before .before .before .before .before .before .before .before .args .items) (q .some),
+      q .long,
+      c .before .before .before .before .before .before .before .before .before .good .1 .1 .1 .1 .1 .1 .0 .1,
+    )
 
 trial-add-memo : (t : ℕ) → trial-lts.Need-add-memo (trial-claims t) (trial-at t) trial.Post trial-Inv-loop trial-μ-loop
 trial-add-memo t c =
     let pre = c .before .before .before .before .before .before .before .before .before .pre in
     let q = pre .1 .1 .0 .held in
-    omega (arith, pre .1 .1 .1 .1 .1, mod-lt (c .before .before .before .before .before .before .before .before .before .args .items) (q .some), q .long,
-      c .before .before .before .before .before .before .before .before .before .good .1 .1 .1 .1 .1 .1 .0 .1)
+    omega (
+      arith,
+      pre .1 .1 .1 .1 .1,
+      mod-lt (c .before .before .before .before .before .before .before .before .before .args .items) (q .some),
+      q .long,
+      c .before .before .before .before .before .before .before .before .before .good .1 .1 .1 .1 .1 .1 .0 .1,
+    )
 
 trial-mul-memo-4 : (t : ℕ) → trial-lts.Need-mul-memo-4 (trial-claims t) (trial-at t) trial.Post trial-Inv-loop trial-μ-loop
 trial-mul-memo-4 t c =
     let pre = c .before .before .before .before .before .before .before .before .before .pre in
     let q = pre .1 .1 .0 .held in
-    omega (arith, pre .1 .1 .1 .1 .1, mod-lt (c .before .before .before .before .before .before .before .before .before .args .items) (q .some), q .long,
-      c .before .before .before .before .before .before .before .before .before .good .1 .1 .1 .1 .1 .1 .0 .1)
+    omega (
+      arith,
+      pre .1 .1 .1 .1 .1,
+      mod-lt (c .before .before .before .before .before .before .before .before .before .args .items) (q .some),
+      q .long,
+      c .before .before .before .before .before .before .before .before .before .good .1 .1 .1 .1 .1 .1 .0 .1,
+    )
 
 trial-slice-write-memo-2 : (t : ℕ) → trial-lts.Need-slice-write-memo-2 (trial-claims t) (trial-at t) trial.Post trial-Inv-loop trial-μ-loop
 trial-slice-write-memo-2 t c =
     let h = c .before .before .loop .inv .0 .held in
-    simp length-set (omega (arith, h .long, c .before .before .before .before .before .before .before .before .before .pre .1 .1 .1 .1 .1, mod-lt
-      (c .before .before .before .before .before .before .before .before .before .args .items) (h .some)))
+    simp length-set (omega (
+      arith,
+      h .long,
+      c .before .before .before .before .before .before .before .before .before .pre .1 .1 .1 .1 .1,
+      mod-lt
+          (c .before .before .before .before .before .before .before .before .before .args .items) (h .some),
+    ))
 
 trial-same-length-3 : (t : ℕ) → trial-lts.Need-same-length-3 (trial-claims t) (trial-at t) trial.Post trial-Inv-loop trial-μ-loop
 trial-same-length-3 t c = c .before .before .loop .inv .0 .grown .long
@@ -390,7 +484,7 @@ trial-returns-2 t c =
     let loop = c .before .before .loop in let args = c .before .before .before .before .before .before .before .before .before .args in
     let q = c .before .before .before .before .before .before .before .before .before .pre .1 in
     turn-done (q .0) (args .items) (c .before .before .before .before .before .before .before .before .before .fits .items .fits) (q .1 .1 .1 .0) (loop .p) (args .at) (loop .inv .1 .1)
-      (omega (arith, c .before .loop-test .left)) (q .1 .1 .1 .1) (loop .inv .0)
+    (omega (arith, c .before .loop-test .left)) (q .1 .1 .1 .1) (loop .inv .0)
 
 pub +search+trial-spec : {M : Type 1} → statement M
 +search+trial-spec = close μ-search μ-trial (λ t. search-lts.spec (

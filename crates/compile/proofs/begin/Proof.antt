@@ -18,9 +18,16 @@ place-requires c κs = c .before .before .before .before .before .pre .1 .0 .hel
 
 trial-requires : tie.Need-trial-requires
 trial-requires c κs =
-    let pre = c .before .before .before .before .before .before .before .before .before .before .pre in
-    (pre .0, (pre .1 .0, (omega (arith, c .before .before .before .before .before .before .if1 .left),
-      (omega (arith, c .before .before .before .before .before .if2 .left), c .before .before .before .before .place .ensures))))
+    let pre = c .before .before .before .before .before .before .before .before .before .before .pre in (
+      pre .0,
+      (
+        pre .1 .0,
+        (
+          omega (arith, c .before .before .before .before .before .before .if1 .left),
+          (omega (arith, c .before .before .before .before .before .if2 .left), c .before .before .before .before .place .ensures),
+        ),
+      ),
+    )
 
 same-length : tie.Need-same-length
 same-length c = c .before .before .before .before .trial .ensures .grown .long
@@ -33,8 +40,8 @@ returns-3 c =
     let here = c .before .before .before .before .before .before .before .before .before in let place = here .place in let if2 = here .before .if2 in
     let args = here .before .before .before .before .before .before .args in let pre = here .before .before .before .before .before .before .pre in
     search-tried (pre .0) (pre .1 .0) (args .items) (place .result) _ refl (omega (arith, if2 .left)) (place .ensures)
-      (λ e. omega (arith, e, if2 .left, pre .1 .1 (place .result) (omega (arith, place .ensures, mod-lt (args .items) (pre .1 .0 .held .some)))))
-      (c .before .before .before .before .trial .ensures)
+    (λ e. omega (arith, e, if2 .left, pre .1 .1 (place .result) (omega (arith, place .ensures, mod-lt (args .items) (pre .1 .0 .held .some)))))
+    (c .before .before .before .before .trial .ensures)
 
 pub begin-spec : {M : Type 1} → statement M
 begin-spec =

@@ -15,10 +15,14 @@ begin-requires : tie.Need-begin-requires
 begin-requires c κs =
     let here = c .before .before .before .before .before .before .before .before .before in let clear = here .clear in
     let args = here .before .before .before .before .before .before .before .before .args in let pre = here .before .before .before .before .before .before .before .before .pre in
-    let q = pre in
-    (c .before .before .before .before .before .before .before .before .before .before .before .enlist .ensures,
-      (record { sound = q .1 .0; indexed = q .1 .1 .0; held = cleared-held (clear .ensures) refl (args .packs .now) (args .t .now) false (q .1 .1 .1) }, λ j l. clear .ensures .zero (2 * j)
-      (omega arith)))
+    let q = pre in (
+      c .before .before .before .before .before .before .before .before .before .before .before .enlist .ensures,
+      (
+        record { sound = q .1 .0; indexed = q .1 .1 .0; held = cleared-held (clear .ensures) refl (args .packs .now) (args .t .now) false (q .1 .1 .1) },
+        λ j l. clear .ensures .zero (2 * j)
+            (omega arith),
+      ),
+    )
 
 rollback-requires : tie.Need-rollback-requires
 rollback-requires c κs = c .before .before .before .before .before .before .begin .ensures .indexed .room
@@ -29,7 +33,7 @@ returns c =
     let clear = here .before .before .before .before .before .before .before .before .before .before .clear in
     let pre = here .before .before .before .before .before .before .before .before .before .before .before .before .before .before .before .before .before .before .pre in
     covered-over (pre .1 .0) (clear .ensures) refl (begin .ensures) _ _ _ (c .before .before .before .before .if1 .taken)
-      (c .before .before .rollback .ensures _ _ (pre .1 .0) (begin .ensures .grown) refl)
+    (c .before .before .rollback .ensures _ _ (pre .1 .0) (begin .ensures .grown) refl)
 
 rollback-requires-2 : tie.Need-rollback-requires-2
 rollback-requires-2 c κs = c .before .before .before .before .before .before .before .begin .ensures .indexed .room
@@ -40,7 +44,7 @@ returns-2 c =
     let clear = here .before .before .before .before .before .before .before .before .before .before .clear in
     let pre = here .before .before .before .before .before .before .before .before .before .before .before .before .before .before .before .before .before .before .pre in
     covered-full (pre .1 .0) (clear .ensures) refl (begin .ensures) _ _ _ _ (c .before .before .before .before .before .if1 .left) (c .before .before .before .before .if2 .taken)
-      (c .before .before .rollback2 .ensures _ _ (pre .1 .0) (begin .ensures .grown) refl)
+    (c .before .before .rollback2 .ensures _ _ (pre .1 .0) (begin .ensures .grown) refl)
 
 sub-t37 : tie.Need-sub-t37
 sub-t37 c = grown-more (c .before .before .before .before .before .before .before .begin .ensures .grown)

@@ -25,11 +25,16 @@ cast-insert c = omega (arith, c .before .before .before .before .before .before 
 
 insert-requires : tie.Need-insert-requires Inv-loop μ-loop
 insert-requires c κs =
-    let here = c .before .before .before .before .before in let loop-test = here .loop-test in let loop = here .before .loop in let pre = here .before .before .before .pre in
-    (
-      omega (arith, c .before .before .wide .ensures, c .before .before .before .lowest .ensures, loop .inv .first-long, lowest-lt 64
-        (getD (c .before .before .before .before .before .before .before .before .args .packs .now) (loop .k) 0) (pre .0 .some (loop .k) (loop-test .taken))
-        (c .before .before .before .before .shared-slice-known2 .given (loop .k) .fits)),
+    let here = c .before .before .before .before .before in let loop-test = here .loop-test in let loop = here .before .loop in let pre = here .before .before .before .pre in (
+      omega (
+        arith,
+        c .before .before .wide .ensures,
+        c .before .before .before .lowest .ensures,
+        loop .inv .first-long,
+        lowest-lt 64
+            (getD (c .before .before .before .before .before .before .before .before .args .packs .now) (loop .k) 0) (pre .0 .some (loop .k) (loop-test .taken))
+            (c .before .before .before .before .shared-slice-known2 .given (loop .k) .fits),
+      ),
       omega (arith, loop .inv .after-long, pre .0 .few, loop-test .taken),
     )
 
@@ -39,8 +44,13 @@ loop-again c =
     let loop = c .before .before .before .before .before .before .before .loop in let pre = c .before .before .before .before .before .before .before .before .before .pre in
     rw (c .insert .ensures .0, c .insert .ensures .1)
     (built-more (loop .k) (wide .result) (pre .0) (loop-test .taken)
-      (omega (arith, wide .ensures, lowest .ensures, lowest-lt 64 (getD (c .before .before .before .before .before .before .before .before .before .args .packs .now) (loop .k) 0)
-      (pre .0 .some (loop .k) (loop-test .taken)) (c .before .before .before .before .before .shared-slice-known2 .given (loop .k) .fits))) (wide .ensures ∙ lowest .ensures) (loop .inv))
+    (omega (
+      arith,
+      wide .ensures,
+      lowest .ensures,
+      lowest-lt 64 (getD (c .before .before .before .before .before .before .before .before .before .args .packs .now) (loop .k) 0)
+          (pre .0 .some (loop .k) (loop-test .taken)) (c .before .before .before .before .before .shared-slice-known2 .given (loop .k) .fits),
+    )) (wide .ensures ∙ lowest .ensures) (loop .inv))
 
 returns : tie.Need-returns Inv-loop μ-loop
 returns c = built-all (c .before .loop .k) (c .before .before .before .pre .0) (omega (arith, c .loop-test .left)) (c .before .loop .inv)

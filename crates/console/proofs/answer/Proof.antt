@@ -10,9 +10,11 @@ slice-aggregate-write-2 c = sym (c .before .before .lines .ensures .long)
 
 write-requires : tie.Need-write-requires
 write-requires c κs =
-    let lines = c .before .before .lines in let read-full = c .before .before .before .before .before .before .read-full in
-    (omega (arith, lines .ensures .inside, lines .ensures .long, read-full .kept, read-full .ensures), printed-for (read-full .last .1 .0) (read-full .result) (omega (arith, read-full .kept))
-      (lines .ensures))
+    let lines = c .before .before .lines in let read-full = c .before .before .before .before .before .before .read-full in (
+      omega (arith, lines .ensures .inside, lines .ensures .long, read-full .kept, read-full .ensures),
+      printed-for (read-full .last .1 .0) (read-full .result) (omega (arith, read-full .kept))
+          (lines .ensures),
+    )
 
 pub answer-spec : {M : Type 1} → statement M
 answer-spec =

@@ -20,22 +20,30 @@ returns-3 : tie.Need-returns-3
 returns-3 c =
     let wide = c .before .before .wide in
     cheapest-nothing (c .before .before .before .before .opened-priced .ensures .ready (c .before .before .before .if1 .left)) (omega (arith, wide .ensures, c .before .if2 .left))
-      (omega (arith, wide .ensures, c .if3 .taken))
+    (omega (arith, wide .ensures, c .if3 .taken))
 
 cheapest-requires : tie.Need-cheapest-requires
 cheapest-requires c κs =
-    let here = c .before .before .before .before .before in let if1 = here .if1 in let opened-priced = here .before .opened-priced in
-    (priceable (opened-priced .ensures .ready (if1 .left)), ((omega (arith, c .before .before .if3 .left), omega
-      (arith, c .before .before .before .before .wide .ensures, opened-priced .ensures .ready (if1 .left) .answer .known)), omega (arith, c .before .before .before .if2 .left)))
+    let here = c .before .before .before .before .before in let if1 = here .if1 in let opened-priced = here .before .opened-priced in (
+      priceable (opened-priced .ensures .ready (if1 .left)),
+      (
+        (
+          omega (arith, c .before .before .if3 .left),
+          omega
+              (arith, c .before .before .before .before .wide .ensures, opened-priced .ensures .ready (if1 .left) .answer .known),
+        ),
+        omega (arith, c .before .before .before .if2 .left),
+      ),
+    )
 
 returns-4 : tie.Need-returns-4
 returns-4 c =
     let here = c .before .before .before .before .before in let cheapest′ = here .cheapest in let wide = here .before .before .before .before .before .wide in
     let opened-priced = here .before .before .before .before .before .before .before .opened-priced in
     cheapest-delivers (opened-priced .ensures .ready (c .before .before .before .before .before .before .before .before .before .before .before .if1 .left))
-      (omega (arith, wide .ensures, c .before .before .before .before .before .before .before .before .before .if2 .left))
-      (λ z. omega (arith, wide .ensures, c .before .before .before .before .before .before .before .before .if3 .left)) (c .priced .result) (cheapest′ .result) (c .priced .ensures)
-      (rw (wide .ensures) at (cheapest′ .ensures))
+    (omega (arith, wide .ensures, c .before .before .before .before .before .before .before .before .before .if2 .left))
+    (λ z. omega (arith, wide .ensures, c .before .before .before .before .before .before .before .before .if3 .left)) (c .priced .result) (cheapest′ .result) (c .priced .ensures)
+    (rw (wide .ensures) at (cheapest′ .ensures))
 
 pub cheapest-spec : {M : Type 1} → statement M
 cheapest-spec =

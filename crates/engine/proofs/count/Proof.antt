@@ -24,7 +24,7 @@ returns-3 : tie.Need-returns-3
 returns-3 c =
     let count′ = c .before .before .before .count in let wide = c .before .before .before .before .before .before .wide in
     count-delivers (c .before .before .before .before .before .before .before .before .opened .ensures .ready (c .before .before .before .before .before .before .before .if1 .left))
-      (omega (arith, wide .ensures, c .before .before .before .before .before .if2 .left)) (c .counted .result) (count′ .result) (c .counted .ensures) (rw (wide .ensures) at (count′ .ensures .1))
+    (omega (arith, wide .ensures, c .before .before .before .before .before .if2 .left)) (c .counted .result) (count′ .result) (c .counted .ensures) (rw (wide .ensures) at (count′ .ensures .1))
 
 pub count-spec : {M : Type 1} → statement M
 count-spec =

@@ -26,16 +26,24 @@ returns-3 : tie.Need-returns-3
 returns-3 c =
     let here = c .before .before .before .before in let count = here .count in let wide = here .before .before .before .wide in
     pick-end (c .before .before .before .before .before .before .before .before .before .opened .ensures .ready (c .before .before .before .before .before .before .before .before .if1 .left))
-      (omega (arith, wide .ensures, c .before .before .before .before .before .before .if2 .left)) (count .result) (rw (wide .ensures) at (count .ensures .1)) (c .before .past-end .ensures)
-      (c .if3 .taken)
+    (omega (arith, wide .ensures, c .before .before .before .before .before .before .if2 .left)) (count .result) (rw (wide .ensures) at (count .ensures .1)) (c .before .past-end .ensures)
+    (c .if3 .taken)
 
 pick-requires : tie.Need-pick-requires
 pick-requires c κs =
     let here = c .before .before .before .before .before .before in let count = here .count in let wide = here .before .before .before .wide in
     let if1 = here .before .before .before .before .if1 in let opened = here .before .before .before .before .before .opened in
-    let args = here .before .before .before .before .before .before .before .before .before .before .before .args in
-    (readable (opened .ensures .ready (if1 .left) .good), ((omega (arith, wide .ensures, opened .ensures .ready (if1 .left) .known), below-end (familyAt (args .t .now) (wide .result)) _
-      (count .result) (count .ensures .1) (sym (c .before .before .before .past-end .ensures) ∙ c .before .before .if3 .left) .1), count .ensures .0))
+    let args = here .before .before .before .before .before .before .before .before .before .before .before .args in (
+      readable (opened .ensures .ready (if1 .left) .good),
+      (
+        (
+          omega (arith, wide .ensures, opened .ensures .ready (if1 .left) .known),
+          below-end (familyAt (args .t .now) (wide .result)) _
+              (count .result) (count .ensures .1) (sym (c .before .before .before .past-end .ensures) ∙ c .before .before .if3 .left) .1,
+        ),
+        count .ensures .0,
+      ),
+    )
 
 returns-4 : tie.Need-returns-4
 returns-4 c =
@@ -45,8 +53,8 @@ returns-4 c =
     let if1 = c .before .before .before .before .before .before .before .before .before .before .before .before .before .before .if1 in
     let opened = c .before .before .before .before .before .before .before .before .before .before .before .before .before .before .before .opened in
     pick-delivers (opened .ensures .ready (if1 .left)) (omega (arith, wide .ensures, if2 .left)) (count .result) (rw (wide .ensures) at (count .ensures .1))
-      (sym (c .before .before .before .before .before .before .before .past-end .ensures) ∙ c .before .before .before .before .before .before .if3 .left) (c .picked .result) (pick′ .result)
-      (c .picked .ensures) (rw (wide .ensures) at (pick′ .ensures))
+    (sym (c .before .before .before .before .before .before .before .past-end .ensures) ∙ c .before .before .before .before .before .before .if3 .left) (c .picked .result) (pick′ .result)
+    (c .picked .ensures) (rw (wide .ensures) at (pick′ .ensures))
 
 pub pick-spec : {M : Type 1} → statement M
 pick-spec =

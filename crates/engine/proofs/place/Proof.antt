@@ -26,13 +26,13 @@ returns-2 : tie.Need-returns-2
 returns-2 c =
     let here = c .before .before .before .before in let if1 = here .if1 in let opened = here .before .opened in
     place-unlisted (opened .ensures .ready (if1 .left)) (no-list _ _ (rw (opened .ensures .ready (if1 .left) .good .keyed .are) at (c .before .before .in-precedence .ensures))
-      (not-true _ (c .if2 .taken)))
+    (not-true _ (c .if2 .taken)))
 
 returns-3 : tie.Need-returns-3
 returns-3 c =
     let here = c .before .before .before .before .before in let if1 = here .if1 in let opened = here .before .opened in
     place-words (opened .ensures .ready (if1 .left)) (is-list _ _ (rw (opened .ensures .ready (if1 .left) .good .keyed .are) at (c .before .before .before .in-precedence .ensures))
-      (not-false _ (c .before .if2 .left))) (omega (arith, c .before .before .wide .ensures, c .if3 .taken))
+    (not-false _ (c .before .if2 .left))) (omega (arith, c .before .before .wide .ensures, c .if3 .taken))
 
 count-requires : tie.Need-count-requires
 count-requires c κs =
@@ -41,19 +41,23 @@ count-requires c κs =
 
 place-requires : tie.Need-place-requires
 place-requires c κs =
-    let here = c .before .before .before .before .before .before .before .before .before .before in let if1 = here .if1 in let opened = here .before .opened in
-    (readable (opened .ensures .ready (if1 .left) .good), (omega (arith, c .before .before .before .before .before .before .before .wide .ensures, opened .ensures .ready (if1 .left) .known),
-      c .before .before .before .count .ensures .0))
+    let here = c .before .before .before .before .before .before .before .before .before .before in let if1 = here .if1 in let opened = here .before .opened in (
+      readable (opened .ensures .ready (if1 .left) .good),
+      (
+        omega (arith, c .before .before .before .before .before .before .before .wide .ensures, opened .ensures .ready (if1 .left) .known),
+        c .before .before .before .count .ensures .0,
+      ),
+    )
 
 returns-4 : tie.Need-returns-4
 returns-4 c =
     let here = c .before .before .before .before .before in let count = here .count in let wide = here .before .before .before .before .wide in
     let if1 = here .before .before .before .before .before .before .before .if1 in let opened = here .before .before .before .before .before .before .before .before .opened in
     place-delivers (opened .ensures .ready (if1 .left)) (is-list _ _
-      (rw (opened .ensures .ready (if1 .left) .good .keyed .are) at (c .before .before .before .before .before .before .before .before .before .before .in-precedence .ensures))
-      (not-false _ (c .before .before .before .before .before .before .before .before .if2 .left)))
-      (omega (arith, wide .ensures, c .before .before .before .before .before .before .before .if3 .left)) (c .placed .result) (count .result) (c .before .place .result) (c .placed .ensures)
-      (rw (wide .ensures) at (count .ensures .1)) (rw (wide .ensures) at (c .before .place .ensures))
+    (rw (opened .ensures .ready (if1 .left) .good .keyed .are) at (c .before .before .before .before .before .before .before .before .before .before .in-precedence .ensures))
+    (not-false _ (c .before .before .before .before .before .before .before .before .if2 .left)))
+    (omega (arith, wide .ensures, c .before .before .before .before .before .before .before .if3 .left)) (c .placed .result) (count .result) (c .before .place .result) (c .placed .ensures)
+    (rw (wide .ensures) at (count .ensures .1)) (rw (wide .ensures) at (c .before .place .ensures))
 
 pub place-spec : {M : Type 1} → statement M
 place-spec =

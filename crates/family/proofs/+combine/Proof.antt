@@ -49,9 +49,10 @@ combine-claims t = (
 
 combine-place-requires : (t : ℕ) → combine-lts.Need-place-requires (combine-claims t) (combine-at t) combine.Post
 combine-place-requires t c κs =
-    let pre = c .before .before .before .before .pre in
-    (packed-small (c .pack .ensures) (omega (arith, (pre .1 .1 .1) .0, (pre .1 .1 .1) .1, (pre .1 .0) .sound .few)) (omega (arith, (pre .1 .1 .1) .0, (pre .1 .1 .1) .1, (pre .1 .0) .sound .few)),
-      (pre .1 .1 .0) .some)
+    let pre = c .before .before .before .before .pre in (
+      packed-small (c .pack .ensures) (omega (arith, (pre .1 .1 .1) .0, (pre .1 .1 .1) .1, (pre .1 .0) .sound .few)) (omega (arith, (pre .1 .1 .1) .0, (pre .1 .1 .1) .1, (pre .1 .0) .sound .few)),
+      (pre .1 .1 .0) .some,
+    )
 
 combine-ended-requires : (t : ℕ) → combine-lts.Need-ended-requires (combine-claims t) (combine-at t) combine.Post
 combine-ended-requires t c κs = (c .before .place .ensures, c .before .before .pack .ensures)
@@ -76,17 +77,24 @@ combine-returns-2 t c =
     let here = c .before .before .before .before .before .before .before .before .before .before .before .before .before .before .before .before .before .before .before .before in
     let args = here .args in let pre = here .pre in
     hi-none (args .op) (pre .1 .0) (pre .1 .1 .1) (c .before .before .before .before .before .before .before .before .before .before .cut .ensures)
-      (c .before .before .before .before .before .combine .ensures .0) (c .if2 .taken)
+    (c .before .before .before .before .before .combine .ensures .0) (c .if2 .taken)
 
 combine-combine-requires-2 : (t : ℕ) → combine-lts.Need-combine-requires-2 (combine-claims t) (combine-at t) combine.Post
 combine-combine-requires-2 t c κs =
     let here = c .before .before .before .before in let if2 = here .if2 in let combine′ = here .before .before .before .before .before .combine in
     let cut′ = here .before .before .before .before .before .before .before .before .before .before .cut in
     let args = here .before .before .before .before .before .before .before .before .before .before .before .before .before .before .before .before .before .before .before .before .args in
-    let pre = here .before .before .before .before .before .before .before .before .before .before .before .before .before .before .before .before .before .before .before .before .pre in
-    (omega (arith, pre .0, (cut′ .ensures) .falls0), (hi-ready (args .op) (pre .1 .0) (pre .1 .1 .1) (cut′ .ensures) (combine′ .ensures .0),
-      (combine′ .ensures .1 (omega (arith, combine′ .ensures .0 .small, if2 .left)), lo-known (args .op) (pre .1 .0) (pre .1 .1 .1) (cut′ .ensures) (combine′ .ensures .0)
-      (omega (arith, combine′ .ensures .0 .small, if2 .left)))))
+    let pre = here .before .before .before .before .before .before .before .before .before .before .before .before .before .before .before .before .before .before .before .before .pre in (
+      omega (arith, pre .0, (cut′ .ensures) .falls0),
+      (
+        hi-ready (args .op) (pre .1 .0) (pre .1 .1 .1) (cut′ .ensures) (combine′ .ensures .0),
+        (
+          combine′ .ensures .1 (omega (arith, combine′ .ensures .0 .small, if2 .left)),
+          lo-known (args .op) (pre .1 .0) (pre .1 .1 .1) (cut′ .ensures) (combine′ .ensures .0)
+              (omega (arith, combine′ .ensures .0 .small, if2 .left)),
+        ),
+      ),
+    )
 
 combine-returns-3 : (t : ℕ) → combine-lts.Need-returns-3 (combine-claims t) (combine-at t) combine.Post
 combine-returns-3 t c =
@@ -95,8 +103,8 @@ combine-returns-3 t c =
     let args = here .before .before .before .before .before .before .before .before .before .before .before .before .before .before .before .args in
     let pre = here .before .before .before .before .before .before .before .before .before .before .before .before .before .before .before .pre in
     lo-none (args .op) (pre .1 .0) (pre .1 .1 .1) (cut′ .ensures) (combine′ .ensures .0)
-      (omega (arith, combine′ .ensures .0 .small, c .before .before .before .before .before .before .before .before .before .before .if2 .left))
-      (c .before .before .before .before .before .combine2 .ensures .0) (c .if3 .taken)
+    (omega (arith, combine′ .ensures .0 .small, c .before .before .before .before .before .before .before .before .before .before .if2 .left))
+    (c .before .before .before .before .before .combine2 .ensures .0) (c .if3 .taken)
 
 combine-make-requires : (t : ℕ) → combine-lts.Need-make-requires (combine-claims t) (combine-at t) combine.Post
 combine-make-requires t c κs = (c .before .before .before .before .before .before .before .before .combine2 .ensures .0) .indexed
@@ -109,21 +117,28 @@ combine-returns-4 t c =
     let args = here .before .before .before .before .before .before .before .before .before .before .before .before .before .before .before .before .before .before .before .before .before .before .before .before .before .args in
     let pre = here .before .before .before .before .before .before .before .before .before .before .before .before .before .before .before .before .before .before .before .before .before .before .before .before .before .pre in
     last-none (args .op) (pre .1 .0) (pre .1 .1 .1) (cut′ .ensures) (combine′ .ensures .0) (omega (arith, combine′ .ensures .0 .small, if2 .left)) (combine2 .ensures .0)
-      (omega (arith, combine2 .ensures .0 .small, c .before .before .before .before .before .before .before .if3 .left)) (c .before .before .before .make .ensures) (c .if4 .taken)
+    (omega (arith, combine2 .ensures .0 .small, c .before .before .before .before .before .before .before .if3 .left)) (c .before .before .before .make .ensures) (c .if4 .taken)
 
 combine-mul-memo : (t : ℕ) → combine-lts.Need-mul-memo (combine-claims t) (combine-at t) combine.Post
 combine-mul-memo t c =
     let here = c .before .before .before .before .before .before .before .before .before .before .before .before .before .before .before .before .before .before .before .before .before .before .before .before .before .before .before .before .before .before .before .before .before in
     let pack′ = here .pack in let pre = here .before .before .before .before .pre in
-    omega (arith, packed-small (pack′ .ensures) (omega (arith, (pre .1 .1 .1) .0, (pre .1 .1 .1) .1, (pre .1 .0) .sound .few))
-      (omega (arith, (pre .1 .1 .1) .0, (pre .1 .1 .1) .1, (pre .1 .0) .sound .few)))
+    omega (
+      arith,
+      packed-small (pack′ .ensures) (omega (arith, (pre .1 .1 .1) .0, (pre .1 .1 .1) .1, (pre .1 .0) .sound .few))
+          (omega (arith, (pre .1 .1 .1) .0, (pre .1 .1 .1) .1, (pre .1 .0) .sound .few)),
+    )
 
 combine-add-memo : (t : ℕ) → combine-lts.Need-add-memo (combine-claims t) (combine-at t) combine.Post
 combine-add-memo t c =
     let here = c .before .before .before .before .before .before .before .before .before .before .before .before .before .before .before .before .before .before .before .before .before .before .before .before .before .before .before .before .before .before .before .before .before .before in
     let pack′ = here .pack in let pre = here .before .before .before .before .pre in
-    omega (arith, c .full .ensures, packed-small (pack′ .ensures) (omega (arith, (pre .1 .1 .1) .0, (pre .1 .1 .1) .1, (pre .1 .0) .sound .few))
-      (omega (arith, (pre .1 .1 .1) .0, (pre .1 .1 .1) .1, (pre .1 .0) .sound .few)))
+    omega (
+      arith,
+      c .full .ensures,
+      packed-small (pack′ .ensures) (omega (arith, (pre .1 .1 .1) .0, (pre .1 .1 .1) .1, (pre .1 .0) .sound .few))
+          (omega (arith, (pre .1 .1 .1) .0, (pre .1 .1 .1) .1, (pre .1 .0) .sound .few)),
+    )
 
 combine-mul-memo-2 : (t : ℕ) → combine-lts.Need-mul-memo-2 (combine-claims t) (combine-at t) combine.Post
 combine-mul-memo-2 t c =
@@ -154,9 +169,9 @@ combine-returns-5 t c =
     let args = here .before .before .before .before .before .before .before .before .before .before .before .before .before .before .before .before .before .before .before .before .before .before .before .before .before .before .before .before .before .before .args in
     let pre = here .before .before .before .before .before .before .before .before .before .before .before .before .before .before .before .before .before .before .before .before .before .before .before .before .before .before .before .before .before .before .pre in
     last-stored (args .op) (pre .1 .0) (pre .1 .1 .1) (cut′ .ensures) (combine′ .ensures .0) (omega (arith, combine′ .ensures .0 .small, if2 .left)) (combine2 .ensures .0)
-      (omega (arith, combine2 .ensures .0 .small, if3 .left)) (c .before .before .before .before .make .ensures) _ _ (pack′ .ensures)
-      (omega (arith, place′ .ensures, memo .given, c .before .before .before .before .before .before .before .before .before .before .memo2 .given)) (omega (arith, c .full .ensures .0))
-      (combine2 .ensures .1 (omega (arith, combine2 .ensures .0 .small, if3 .left)))
+    (omega (arith, combine2 .ensures .0 .small, if3 .left)) (c .before .before .before .before .make .ensures) _ _ (pack′ .ensures)
+    (omega (arith, place′ .ensures, memo .given, c .before .before .before .before .before .before .before .before .before .before .memo2 .given)) (omega (arith, c .full .ensures .0))
+    (combine2 .ensures .1 (omega (arith, combine2 .ensures .0 .small, if3 .left)))
 
 pub +combine-spec : {M : Type 1} → statement M
 +combine-spec = close μ-combine λ t. combine-lts.spec (

@@ -91,8 +91,14 @@ restrict-mul-hi t c =
 restrict-slice-read-hi : (t : ℕ) → restrict-lts.Need-slice-read-hi (restrict-claims t) (restrict-at t) restrict.Post
 restrict-slice-read-hi t c =
     let pre = c .before .before .before .before .before .before .before .before .before .before .pre in
-    omega (arith, pre .1 .0 .sound .room, c .before .before .before .wide .ensures, pre .1 .1 .1 .0, c .before .before .before .before .before .soon .ensures .branch
-      (c .before .before .before .before .if1 .left))
+    omega (
+      arith,
+      pre .1 .0 .sound .room,
+      c .before .before .before .wide .ensures,
+      pre .1 .1 .1 .0,
+      c .before .before .before .before .before .soon .ensures .branch
+          (c .before .before .before .before .if1 .left),
+    )
 
 restrict-make-requires : (t : ℕ) → restrict-lts.Need-make-requires (restrict-claims t) (restrict-at t) restrict.Post
 restrict-make-requires t c κs = c .before .before .before .before .before .before .before .before .before .before .before .before .before .before .pre .1 .0 .indexed
@@ -102,16 +108,25 @@ restrict-returns-2 t c =
     let here = c .before .before .before .before .before .before .before .before .before .before in let wide′ = here .wide in let soon′ = here .before .before .soon in
     let pre = here .before .before .before .before .before .before .before .pre in
     own-gives (open-of (3 * wide′ .result - 5) (pre .1 .0) (pre .1 .1 .0) (pre .1 .1 .1) (soon′ .ensures)
-      (c .before .before .before .before .before .before .before .before .before .before .before .if1 .left) (omega (arith, wide′ .ensures)))
-      (c .before .before .before .before .before .before .if2 .taken) (c .before .before .make .ensures)
+    (c .before .before .before .before .before .before .before .before .before .before .before .if1 .left) (omega (arith, wide′ .ensures)))
+    (c .before .before .before .before .before .before .if2 .taken) (c .before .before .make .ensures)
 
 restrict-restrict-requires : (t : ℕ) → restrict-lts.Need-restrict-requires (restrict-claims t) (restrict-at t) restrict.Post
 restrict-restrict-requires t c κs =
     let here = c .before .before .before .before .before .before .before .before in let wide′ = here .wide in let if1 = here .before .if1 in let soon′ = here .before .before .soon in
-    let pre = here .before .before .before .before .before .before .before .pre in
-    (omega (arith, pre .0, hi-falls (open-of (3 * wide′ .result - 5) (pre .1 .0) (pre .1 .1 .0) (pre .1 .1 .1) (soon′ .ensures) (if1 .left) (omega (arith, wide′ .ensures)))),
-      (pre .1 .0, (pre .1 .1 .0, (hi-below (open-of (3 * wide′ .result - 5) (pre .1 .0) (pre .1 .1 .0) (pre .1 .1 .1) (soon′ .ensures) (if1 .left) (omega (arith, wide′ .ensures))),
-      pre .1 .1 .1 .1))))
+    let pre = here .before .before .before .before .before .before .before .pre in (
+      omega (arith, pre .0, hi-falls (open-of (3 * wide′ .result - 5) (pre .1 .0) (pre .1 .1 .0) (pre .1 .1 .1) (soon′ .ensures) (if1 .left) (omega (arith, wide′ .ensures)))),
+      (
+        pre .1 .0,
+        (
+          pre .1 .1 .0,
+          (
+            hi-below (open-of (3 * wide′ .result - 5) (pre .1 .0) (pre .1 .1 .0) (pre .1 .1 .1) (soon′ .ensures) (if1 .left) (omega (arith, wide′ .ensures))),
+            pre .1 .1 .1 .1,
+          ),
+        ),
+      ),
+    )
 
 restrict-same-length-3 : (t : ℕ) → restrict-lts.Need-same-length-3 (restrict-claims t) (restrict-at t) restrict.Post
 restrict-same-length-3 t c = (c .before .before .before .restrict .ensures .0) .long
@@ -121,7 +136,7 @@ restrict-returns-3 t c =
     let here = c .before .before .before .before .before .before .before .before .before .before .before .before in let wide′ = here .wide in let if1 = here .before .if1 in
     let soon′ = here .before .before .soon in let pre = here .before .before .before .before .before .before .before .pre in
     hi-none (open-of (3 * wide′ .result - 5) (pre .1 .0) (pre .1 .1 .0) (pre .1 .1 .1) (soon′ .ensures) (if1 .left) (omega (arith, wide′ .ensures)))
-      (λ e. omega (arith, c .before .before .before .before .before .before .before .before .if2 .left)) (c .before .before .before .restrict .ensures .0) (c .if3 .taken)
+    (λ e. omega (arith, c .before .before .before .before .before .before .before .before .if2 .left)) (c .before .before .before .restrict .ensures .0) (c .if3 .taken)
 
 restrict-restrict-requires-2 : (t : ℕ) → restrict-lts.Need-restrict-requires-2 (restrict-claims t) (restrict-at t) restrict.Post
 restrict-restrict-requires-2 t c κs =
@@ -130,12 +145,21 @@ restrict-restrict-requires-2 t c κs =
     let wide′ = here .before .before .before .before .before .before .before .before .before .before .before .before .wide in
     let if1 = here .before .before .before .before .before .before .before .before .before .before .before .before .before .if1 in
     let soon′ = here .before .before .before .before .before .before .before .before .before .before .before .before .before .before .soon in
-    let pre = here .before .before .before .before .before .before .before .before .before .before .before .before .before .before .before .before .before .before .before .pre in
-    (omega (arith, pre .0, lo-falls (open-of (3 * wide′ .result - 5) (pre .1 .0) (pre .1 .1 .0) (pre .1 .1 .1) (soon′ .ensures) (if1 .left) (omega (arith, wide′ .ensures)))),
-      (hi-ready (open-of (3 * wide′ .result - 5) (pre .1 .0) (pre .1 .1 .0) (pre .1 .1 .1) (soon′ .ensures) (if1 .left) (omega (arith, wide′ .ensures))) (λ e. omega (arith, if2 .left))
-      (restrict′ .ensures .0), (restrict′ .ensures .1 (omega (arith, restrict′ .ensures .0 .small, if3 .left)),
-      (lo-below (open-of (3 * wide′ .result - 5) (pre .1 .0) (pre .1 .1 .0) (pre .1 .1 .1) (soon′ .ensures) (if1 .left) (omega (arith, wide′ .ensures))) (λ e. omega (arith, if2 .left))
-      (restrict′ .ensures .0) (omega (arith, restrict′ .ensures .0 .small, if3 .left)), pre .1 .1 .1 .1))))
+    let pre = here .before .before .before .before .before .before .before .before .before .before .before .before .before .before .before .before .before .before .before .pre in (
+      omega (arith, pre .0, lo-falls (open-of (3 * wide′ .result - 5) (pre .1 .0) (pre .1 .1 .0) (pre .1 .1 .1) (soon′ .ensures) (if1 .left) (omega (arith, wide′ .ensures)))),
+      (
+        hi-ready (open-of (3 * wide′ .result - 5) (pre .1 .0) (pre .1 .1 .0) (pre .1 .1 .1) (soon′ .ensures) (if1 .left) (omega (arith, wide′ .ensures))) (λ e. omega (arith, if2 .left))
+            (restrict′ .ensures .0),
+        (
+          restrict′ .ensures .1 (omega (arith, restrict′ .ensures .0 .small, if3 .left)),
+          (
+            lo-below (open-of (3 * wide′ .result - 5) (pre .1 .0) (pre .1 .1 .0) (pre .1 .1 .1) (soon′ .ensures) (if1 .left) (omega (arith, wide′ .ensures))) (λ e. omega (arith, if2 .left))
+                (restrict′ .ensures .0) (omega (arith, restrict′ .ensures .0 .small, if3 .left)),
+            pre .1 .1 .1 .1,
+          ),
+        ),
+      ),
+    )
 
 restrict-same-length-4 : (t : ℕ) → restrict-lts.Need-same-length-4 (restrict-claims t) (restrict-at t) restrict.Post
 restrict-same-length-4 t c = (c .before .before .before .restrict2 .ensures .0) .long ∙
@@ -149,8 +173,8 @@ restrict-returns-4 t c =
     let soon′ = here .before .before .before .before .before .before .before .before .before .before .before .soon in
     let pre = here .before .before .before .before .before .before .before .before .before .before .before .before .before .before .before .before .pre in
     lo-none (open-of (3 * wide′ .result - 5) (pre .1 .0) (pre .1 .1 .0) (pre .1 .1 .1) (soon′ .ensures) (if1 .left) (omega (arith, wide′ .ensures))) (λ e. omega (arith, if2 .left))
-      (restrict′ .ensures .0) (omega (arith, restrict′ .ensures .0 .small, c .before .before .before .before .before .before .before .before .if3 .left))
-      (c .before .before .before .restrict2 .ensures .0) (c .if4 .taken)
+    (restrict′ .ensures .0) (omega (arith, restrict′ .ensures .0 .small, c .before .before .before .before .before .before .before .before .if3 .left))
+    (c .before .before .before .restrict2 .ensures .0) (c .if4 .taken)
 
 restrict-make-requires-2 : (t : ℕ) → restrict-lts.Need-make-requires-2 (restrict-claims t) (restrict-at t) restrict.Post
 restrict-make-requires-2 t c κs = (c .before .before .before .before .before .before .restrict2 .ensures .0) .indexed
@@ -165,8 +189,8 @@ restrict-returns-5 t c =
     let soon′ = here .before .before .before .before .before .before .before .before .before .before .before .before .before .before .before .before .before .before .before .soon in
     let pre = here .before .before .before .before .before .before .before .before .before .before .before .before .before .before .before .before .before .before .before .before .before .before .before .before .pre in
     last-none (open-of (3 * wide′ .result - 5) (pre .1 .0) (pre .1 .1 .0) (pre .1 .1 .1) (soon′ .ensures) (if1 .left) (omega (arith, wide′ .ensures))) (λ e. omega (arith, if2 .left))
-      (restrict′ .ensures .0) (omega (arith, restrict′ .ensures .0 .small, if3 .left)) (restrict2 .ensures .0)
-      (omega (arith, restrict2 .ensures .0 .small, c .before .before .before .before .before .before .before .if4 .left)) (c .before .before .before .make2 .ensures) (c .if5 .taken)
+    (restrict′ .ensures .0) (omega (arith, restrict′ .ensures .0 .small, if3 .left)) (restrict2 .ensures .0)
+    (omega (arith, restrict2 .ensures .0 .small, c .before .before .before .before .before .before .before .if4 .left)) (c .before .before .before .make2 .ensures) (c .if5 .taken)
 
 restrict-add-memo : (t : ℕ) → restrict-lts.Need-add-memo (restrict-claims t) (restrict-at t) restrict.Post
 restrict-add-memo t c =
@@ -177,9 +201,12 @@ restrict-add-memo t c =
     let if1 = here .before .before .before .before .before .before .before .before .before .before .before .before .before .before .before .before .before .before .if1 in
     let soon′ = here .before .before .before .before .before .before .before .before .before .before .before .before .before .before .before .before .before .before .before .soon in
     let pre = here .before .before .before .before .before .before .before .before .before .before .before .before .before .before .before .before .before .before .before .before .before .before .before .before .pre in
-    omega (arith, last-small (open-of (3 * wide′ .result - 5) (pre .1 .0) (pre .1 .1 .0) (pre .1 .1 .1) (soon′ .ensures) (if1 .left) (omega (arith, wide′ .ensures)))
-      (λ e. omega (arith, if2 .left)) (restrict′ .ensures .0) (omega (arith, restrict′ .ensures .0 .small, if3 .left)) (restrict2 .ensures .0)
-      (omega (arith, restrict2 .ensures .0 .small, c .before .before .before .before .before .before .before .if4 .left)) (c .before .before .before .make2 .ensures))
+    omega (
+      arith,
+      last-small (open-of (3 * wide′ .result - 5) (pre .1 .0) (pre .1 .1 .0) (pre .1 .1 .1) (soon′ .ensures) (if1 .left) (omega (arith, wide′ .ensures)))
+          (λ e. omega (arith, if2 .left)) (restrict′ .ensures .0) (omega (arith, restrict′ .ensures .0 .small, if3 .left)) (restrict2 .ensures .0)
+          (omega (arith, restrict2 .ensures .0 .small, c .before .before .before .before .before .before .before .if4 .left)) (c .before .before .before .make2 .ensures),
+    )
 
 restrict-mul-memo : (t : ℕ) → restrict-lts.Need-mul-memo (restrict-claims t) (restrict-at t) restrict.Post
 restrict-mul-memo t c =
@@ -204,8 +231,8 @@ restrict-returns-6 t c =
     let soon′ = here .before .before .before .before .before .before .before .before .before .before .before .before .before .before .before .before .before .before .before .before .before .before .soon in
     let pre = here .before .before .before .before .before .before .before .before .before .before .before .before .before .before .before .before .before .before .before .before .before .before .before .before .before .before .before .pre in
     last-stored (open-of (3 * wide′ .result - 5) (pre .1 .0) (pre .1 .1 .0) (pre .1 .1 .1) (soon′ .ensures) (if1 .left) (omega (arith, wide′ .ensures))) (λ e. omega (arith, if2 .left))
-      (restrict′ .ensures .0) (omega (arith, restrict′ .ensures .0 .small, if3 .left)) (restrict2 .ensures .0) (omega (arith, restrict2 .ensures .0 .small, if4 .left))
-      (c .before .before .before .make2 .ensures) _ _ (wide′ .ensures) refl (restrict2 .ensures .1 (omega (arith, restrict2 .ensures .0 .small, if4 .left)))
+    (restrict′ .ensures .0) (omega (arith, restrict′ .ensures .0 .small, if3 .left)) (restrict2 .ensures .0) (omega (arith, restrict2 .ensures .0 .small, if4 .left))
+    (c .before .before .before .make2 .ensures) _ _ (wide′ .ensures) refl (restrict2 .ensures .1 (omega (arith, restrict2 .ensures .0 .small, if4 .left)))
 
 pub +restrict-spec : {M : Type 1} → statement M
 +restrict-spec = close μ-restrict λ t. restrict-lts.spec (

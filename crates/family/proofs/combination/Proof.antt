@@ -15,7 +15,7 @@ returns : tie.Need-returns
 returns c =
     let pre = c .before .before .before .before .before .before .before .before .before .before .before .before .before .before .before .before .before .before .pre in
     makes-full (c .before .before .before .before .before .before .before .before .before .remembering .ensures) (c .before .before .before .before .if1 .taken) (pre .0 .sound) refl
-      (c .before .before .rollback .ensures)
+    (c .before .before .rollback .ensures)
 
 returns-2 : tie.Need-returns-2
 returns-2 c = makes-done (c .before .before .before .before .before .remembering .ensures) (λ e. omega (arith, c .if1 .left))

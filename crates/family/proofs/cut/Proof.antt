@@ -8,48 +8,64 @@ use Rattle.family.proofs.cut.Tie as tie
 sub-v : tie.Need-sub-v
 sub-v c =
     let here = c .before .before .before .before .before .before .before in let args = here .args in let pre = here .pre in
-    omega (arith, c .before .before .wide .ensures, left-node (pre .0) (pre .1 .0) (args .f) (args .g) (pre .1 .1 .0 .0) (pre .1 .1 .0 .1) (c .before .before .before .before .top .ensures)
-      (c .before .before .before .top2 .ensures) (c .if1 .taken))
+    omega (
+      arith,
+      c .before .before .wide .ensures,
+      left-node (pre .0) (pre .1 .0) (args .f) (args .g) (pre .1 .1 .0 .0) (pre .1 .1 .0 .1) (c .before .before .before .before .top .ensures)
+          (c .before .before .before .top2 .ensures) (c .if1 .taken),
+    )
 
 returns : tie.Need-returns
 returns c =
     let here = c .before .before .before .before .before in let wide = here .wide in let args = here .before .before .before .before .before .args in
     let pre = here .before .before .before .before .before .pre in
     cut-left (pre .0) (pre .1 .0) (args .f) (args .g) (pre .1 .1 .0 .0) (pre .1 .1 .0 .1) (c .before .before .before .before .before .before .before .top .ensures)
-      (c .before .before .before .before .before .before .top2 .ensures) (3 * wide .result - 5) (omega (arith, wide .ensures)) (c .before .before .before .if1 .taken)
+    (c .before .before .before .before .before .before .top2 .ensures) (3 * wide .result - 5) (omega (arith, wide .ensures)) (c .before .before .before .if1 .taken)
 
 sub-w : tie.Need-sub-w
 sub-w c =
     let here = c .before .before .before .before .before .before .before .before in let args = here .args in let pre = here .pre in
-    omega (arith, c .before .before .wide2 .ensures, right-node (pre .0) (pre .1 .0) (args .f) (args .g) (pre .1 .1 .0 .0) (pre .1 .1 .0 .1)
-      (c .before .before .before .before .before .top .ensures) (c .before .before .before .before .top2 .ensures) (c .if2 .taken))
+    omega (
+      arith,
+      c .before .before .wide2 .ensures,
+      right-node (pre .0) (pre .1 .0) (args .f) (args .g) (pre .1 .1 .0 .0) (pre .1 .1 .0 .1)
+          (c .before .before .before .before .before .top .ensures) (c .before .before .before .before .top2 .ensures) (c .if2 .taken),
+    )
 
 returns-2 : tie.Need-returns-2
 returns-2 c =
     let here = c .before .before .before .before .before in let wide2 = here .wide2 in let args = here .before .before .before .before .before .before .args in
     let pre = here .before .before .before .before .before .before .pre in
     cut-right (pre .0) (pre .1 .0) (args .f) (args .g) (pre .1 .1 .0 .0) (pre .1 .1 .0 .1) (c .before .before .before .before .before .before .before .before .top .ensures)
-      (c .before .before .before .before .before .before .before .top2 .ensures) (3 * wide2 .result - 5) (omega (arith, wide2 .ensures)) (c .before .before .before .if2 .taken)
+    (c .before .before .before .before .before .before .before .top2 .ensures) (3 * wide2 .result - 5) (omega (arith, wide2 .ensures)) (c .before .before .before .if2 .taken)
 
 sub-v-2 : tie.Need-sub-v-2
 sub-v-2 c =
     let here = c .before .before .before .before .before .before .before .before in let args = here .args in let pre = here .pre in
-    omega (arith, c .before .before .before .wide .ensures, same-left (pre .0) (pre .1 .0) (args .f) (args .g) (pre .1 .1 .0 .0) (pre .1 .1 .0 .1)
-      (c .before .before .before .before .before .top .ensures) (c .before .before .before .before .top2 .ensures) (pre .1 .1 .1) (omega (arith, c .before .if1 .left, c .if2 .left)))
+    omega (
+      arith,
+      c .before .before .before .wide .ensures,
+      same-left (pre .0) (pre .1 .0) (args .f) (args .g) (pre .1 .1 .0 .0) (pre .1 .1 .0 .1)
+          (c .before .before .before .before .before .top .ensures) (c .before .before .before .before .top2 .ensures) (pre .1 .1 .1) (omega (arith, c .before .if1 .left, c .if2 .left)),
+    )
 
 sub-w-2 : tie.Need-sub-w-2
 sub-w-2 c =
     let here = c .before .before .before .before .before .before .before .before in let args = here .args in let pre = here .pre in
-    omega (arith, c .before .before .wide2 .ensures, same-right (pre .0) (pre .1 .0) (args .f) (args .g) (pre .1 .1 .0 .0) (pre .1 .1 .0 .1)
-      (c .before .before .before .before .before .top .ensures) (c .before .before .before .before .top2 .ensures) (pre .1 .1 .1) (omega (arith, c .before .if1 .left, c .if2 .left)))
+    omega (
+      arith,
+      c .before .before .wide2 .ensures,
+      same-right (pre .0) (pre .1 .0) (args .f) (args .g) (pre .1 .1 .0 .0) (pre .1 .1 .0 .1)
+          (c .before .before .before .before .before .top .ensures) (c .before .before .before .before .top2 .ensures) (pre .1 .1 .1) (omega (arith, c .before .if1 .left, c .if2 .left)),
+    )
 
 returns-3 : tie.Need-returns-3
 returns-3 c =
     let here = c .before .before .before .before .before .before .before in let wide2 = here .wide2 in let wide = here .before .wide in
     let args = here .before .before .before .before .before .before .args in let pre = here .before .before .before .before .before .before .pre in
     cut-same (pre .0) (pre .1 .0) (args .f) (args .g) (pre .1 .1 .0 .0) (pre .1 .1 .0 .1) (c .before .before .before .before .before .before .before .before .before .before .top .ensures)
-      (c .before .before .before .before .before .before .before .before .before .top2 .ensures) (3 * wide .result - 5) (3 * wide2 .result - 5) (omega (arith, wide .ensures))
-      (omega (arith, wide2 .ensures)) (pre .1 .1 .1) (omega (arith, c .before .before .before .before .before .before .if1 .left, c .before .before .before .before .before .if2 .left))
+    (c .before .before .before .before .before .before .before .before .before .top2 .ensures) (3 * wide .result - 5) (3 * wide2 .result - 5) (omega (arith, wide .ensures))
+    (omega (arith, wide2 .ensures)) (pre .1 .1 .1) (omega (arith, c .before .before .before .before .before .before .if1 .left, c .before .before .before .before .before .if2 .left))
 
 pub cut-spec : {M : Type 1} → statement M
 cut-spec =

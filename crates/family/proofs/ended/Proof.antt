@@ -27,8 +27,12 @@ returns-7 c = ends-known _ _ _ _ (c .before .before .before .before .before .arg
     (omega (arith, c .before .before .before .before .if1 .left)) (omega (arith, c .before .before .before .if3 .left))
 
 returns-8 : tie.Need-returns-8
-returns-8 c = ends-open _ _ _ _ (record { some = omega (arith, c .before .before .before .before .if1 .left); other = omega (arith, c .before .before .before .if3 .left); differ = λ e. omega
-    (arith, c .before .before .if5 .left) })
+returns-8 c = ends-open _ _ _ _ (record {
+  some = omega (arith, c .before .before .before .before .if1 .left);
+  other = omega (arith, c .before .before .before .if3 .left);
+  differ = λ e. omega
+      (arith, c .before .before .if5 .left);
+})
 
 pub ended-spec : {M : Type 1} → statement M
 ended-spec =

@@ -21,9 +21,13 @@ slice-aggregate-afresh c =
 
 afresh-requires : tie.Need-afresh-requires
 afresh-requires c κs =
-    let here = c .before .before .before .before in let places = here .places in let pre = here .before .before .before .before .before .pre in
-    (pre .0, (omega (arith, places .ensures .0, length-take-le (places .result) (c .before .before .before .before .before .before .before .before .before .args .work .now) (places .ensures .1)),
-      pre .1))
+    let here = c .before .before .before .before in let places = here .places in let pre = here .before .before .before .before .before .pre in (
+      pre .0,
+      (
+        omega (arith, places .ensures .0, length-take-le (places .result) (c .before .before .before .before .before .before .before .before .before .args .work .now) (places .ensures .1)),
+        pre .1,
+      ),
+    )
 
 pub remembering-spec : {M : Type 1} → statement M
 remembering-spec =

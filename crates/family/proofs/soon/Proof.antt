@@ -24,31 +24,39 @@ returns-4 : tie.Need-returns-4
 returns-4 c =
     let here = c .before .before .before .before in let wide = here .wide in let pre = here .before .before .before .before .pre in
     soon-own-without (pre .0) (pre .1 .0) _ _ (pre .1 .1 .1 .0) (omega (arith, c .before .before .before .before .before .if1 .left)) (3 * wide .result - 5) (omega (arith, wide .ensures))
-      (c .before .before .if3 .taken) (c .before .if4 .left)
+    (c .before .before .if3 .taken) (c .before .if4 .left)
 
 mul-if5-2 : tie.Need-mul-if5-2
 mul-if5-2 c =
     let here = c .before .before .before .before .before in let wide = here .wide in let pre = here .before .before .before .before .pre in
-    omega (arith, c .before .before .wide2 .ensures, label-known (pre .0) (c .before .before .before .before .before .before .before .before .before .args .f) (3 * wide .result - 5)
-      (omega (arith, c .before .before .before .before .before .before .if1 .left)) (pre .1 .1 .1 .0) (omega (arith, wide .ensures)))
+    omega (
+      arith,
+      c .before .before .wide2 .ensures,
+      label-known (pre .0) (c .before .before .before .before .before .before .before .before .before .args .f) (3 * wide .result - 5)
+          (omega (arith, c .before .before .before .before .before .before .if1 .left)) (pre .1 .1 .1 .0) (omega (arith, wide .ensures)),
+    )
 
 shared-slice-read-if5-2 : tie.Need-shared-slice-read-if5-2
 shared-slice-read-if5-2 c =
     let here = c .before .before .before .before .before .before in let wide = here .wide in let pre = here .before .before .before .before .pre in
-    omega (arith, c .before .before .before .wide2 .ensures, label-known (pre .0) (c .before .before .before .before .before .before .before .before .before .before .args .f)
-      (3 * wide .result - 5) (omega (arith, c .before .before .before .before .before .before .before .if1 .left)) (pre .1 .1 .1 .0) (omega (arith, wide .ensures)))
+    omega (
+      arith,
+      c .before .before .before .wide2 .ensures,
+      label-known (pre .0) (c .before .before .before .before .before .before .before .before .before .before .args .f)
+          (3 * wide .result - 5) (omega (arith, c .before .before .before .before .before .before .before .if1 .left)) (pre .1 .1 .1 .0) (omega (arith, wide .ensures)),
+    )
 
 returns-5 : tie.Need-returns-5
 returns-5 c =
     let here = c .before .before .before .before .before .before .before .before in let wide = here .wide in let pre = here .before .before .before .before .pre in
     soon-late-with (pre .0) (pre .1 .0) _ _ (pre .1 .1 .1 .0) (omega (arith, c .before .before .before .before .before .before .before .before .before .if1 .left)) (3 * wide .result - 5)
-      (omega (arith, wide .ensures)) (rw (c .before .before .before .before .before .wide2 .ensures, c .before .before .before .before .wide3 .ensures) at (c .before .if5 .taken)) (c .if6 .taken)
+    (omega (arith, wide .ensures)) (rw (c .before .before .before .before .before .wide2 .ensures, c .before .before .before .before .wide3 .ensures) at (c .before .if5 .taken)) (c .if6 .taken)
 
 returns-6 : tie.Need-returns-6
 returns-6 c =
     let here = c .before .before .before .before .before .before .before .before in let wide = here .wide in let pre = here .before .before .before .before .pre in
     soon-late-without (pre .0) (pre .1 .0) _ _ (pre .1 .1 .1 .0) (omega (arith, c .before .before .before .before .before .before .before .before .before .if1 .left)) (3 * wide .result - 5)
-      (omega (arith, wide .ensures)) (rw (c .before .before .before .before .before .wide2 .ensures, c .before .before .before .before .wide3 .ensures) at (c .before .if5 .taken)) (c .if6 .left)
+    (omega (arith, wide .ensures)) (rw (c .before .before .before .before .before .wide2 .ensures, c .before .before .before .before .wide3 .ensures) at (c .before .if5 .taken)) (c .if6 .left)
 
 returns-7 : tie.Need-returns-7
 returns-7 c =
@@ -60,7 +68,7 @@ returns-8 : tie.Need-returns-8
 returns-8 c =
     let here = c .before .before .before .before .before .before .before .before .before in let wide = here .wide in let pre = here .before .before .before .before .pre in
     soon-other (pre .0) (pre .1 .0) _ _ (pre .1 .1 .1 .0) (omega (arith, c .before .before .before .before .before .before .before .before .before .before .if1 .left)) (3 * wide .result - 5)
-      (omega (arith, wide .ensures)) (λ e. omega (arith, c .before .before .before .before .before .before .before .if3 .left))
+    (omega (arith, wide .ensures)) (λ e. omega (arith, c .before .before .before .before .before .before .before .if3 .left))
 
 pub soon-spec : {M : Type 1} → statement M
 soon-spec =

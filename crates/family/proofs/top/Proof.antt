@@ -12,20 +12,28 @@ returns c = top-end _ _ _ (omega arith)
 mul-full : tie.Need-mul-full
 mul-full c =
     let wide = c .before .before .wide in let pre = c .before .before .before .before .before .before .pre in
-    omega (arith, c .wide2 .ensures, label-known (pre .0) (c .before .before .before .before .before .before .args .f) (3 * wide .result - 5) (omega (arith, c .before .before .before .if1 .left))
-      (pre .1) (omega (arith, wide .ensures)))
+    omega (
+      arith,
+      c .wide2 .ensures,
+      label-known (pre .0) (c .before .before .before .before .before .before .args .f) (3 * wide .result - 5) (omega (arith, c .before .before .before .if1 .left))
+          (pre .1) (omega (arith, wide .ensures)),
+    )
 
 shared-slice-read-full : tie.Need-shared-slice-read-full
 shared-slice-read-full c =
     let wide = c .before .before .before .wide in let pre = c .before .before .before .before .before .before .before .pre in
-    omega (arith, c .before .wide2 .ensures, label-known (pre .0) (c .before .before .before .before .before .before .before .args .f) (3 * wide .result - 5)
-      (omega (arith, c .before .before .before .before .if1 .left)) (pre .1) (omega (arith, wide .ensures)))
+    omega (
+      arith,
+      c .before .wide2 .ensures,
+      label-known (pre .0) (c .before .before .before .before .before .before .before .args .f) (3 * wide .result - 5)
+          (omega (arith, c .before .before .before .before .if1 .left)) (pre .1) (omega (arith, wide .ensures)),
+    )
 
 returns-2 : tie.Need-returns-2
 returns-2 c =
     let here = c .before .before .before .before in let wide = here .wide in let pre = here .before .before .before .before .pre in
     top-of (pre .0) (c .before .before .before .before .before .before .before .before .args .f) (3 * wide .result - 5) (omega (arith, c .before .before .before .before .before .if1 .left))
-      (pre .1) (omega (arith, wide .ensures)) _ (rw (c .before .before .wide2 .ensures) at (c .full .ensures .0)) (c .full .ensures .1)
+    (pre .1) (omega (arith, wide .ensures)) _ (rw (c .before .before .wide2 .ensures) at (c .full .ensures .0)) (c .full .ensures .1)
 
 pub top-spec : {M : Type 1} → statement M
 top-spec =

@@ -21,8 +21,11 @@ keys-requires c κs =
 slice-reshare-prefix-check : tie.Need-slice-reshare-prefix-check
 slice-reshare-prefix-check c =
     let args = c .before .before .before .before .before .before .before .before .before .args in
-    omega (arith, rows (args .packages .now) (args .m) (sym (c .before .before .before .before .before .packages-refusal .ensures) ∙ c .before .before .before .before .if1 .left) .few,
-      c .before .before .keys .ensures .long)
+    omega (
+      arith,
+      rows (args .packages .now) (args .m) (sym (c .before .before .before .before .before .packages-refusal .ensures) ∙ c .before .before .before .before .if1 .left) .few,
+      c .before .before .keys .ensures .long,
+    )
 
 slice-aggregate-check : tie.Need-slice-aggregate-check
 slice-aggregate-check c = sym (ap length (c .before .before .before .keys .ensures .are) ∙ length-keys
@@ -35,14 +38,14 @@ returns-2 : tie.Need-returns-2
 returns-2 c =
     let args = c .before .before .before .before .before .before .before .before .before .before .before .before .before .before .args in
     admitted-spoilt (args .packages .now) (args .m) (sym (c .before .before .before .before .before .before .before .before .before .before .packages-refusal .ensures) ∙
-      c .before .before .before .before .before .before .before .before .before .if1 .left)
+    c .before .before .before .before .before .before .before .before .before .if1 .left)
     (rw (c .before .before .before .before .before .before .before .keys .ensures .are) at (c .before .check .ensures)) (not-true _ (c .if2 .taken))
 
 returns-3 : tie.Need-returns-3
 returns-3 c =
     let here = c .before .before .before .before .before .before .before in let keys = here .keys in let args = here .before .before .before .before .before .before .before .args in
     admitted-sound (args .packages .now) (args .m) (sym (c .before .before .before .before .before .before .before .before .before .before .packages-refusal .ensures) ∙
-      c .before .before .before .before .before .before .before .before .before .if1 .left)
+    c .before .before .before .before .before .before .before .before .before .if1 .left)
     (keys .ensures) (rw (keys .ensures .are) at (c .before .check .ensures)) (not-false _ (c .if2 .left))
 
 pub admit-spec : {M : Type 1} → statement M

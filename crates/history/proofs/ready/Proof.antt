@@ -25,9 +25,9 @@ unfolding runs
 returns-4 c =
     let asked = c .before .before .before .before .asked in
     goes _ (lt-ltb _ _ (c .before .before .before .before .before .before .if1 .left))
-      (goes _ (lt-ltb _ _ (c .before .before .before .before .before .if2 .left))
-      (goes _ (rw (asked .ensures) at (sym (c .before .before .before .fits2 .ensures) ∙ not-false _ (c .before .before .if3 .left)))
-      (rw (asked .ensures, c .before .nodes .ensures) at (c .operands-pass .ensures))))
+    (goes _ (lt-ltb _ _ (c .before .before .before .before .before .if2 .left))
+    (goes _ (rw (asked .ensures) at (sym (c .before .before .before .fits2 .ensures) ∙ not-false _ (c .before .before .if3 .left)))
+    (rw (asked .ensures, c .before .nodes .ensures) at (c .operands-pass .ensures))))
 
 pub ready-spec : {M : Type 1} → statement M
 ready-spec =

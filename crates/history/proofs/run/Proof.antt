@@ -17,8 +17,11 @@ abbrev μ-loop : tie.MeasureT-loop
 μ-loop packages t₀ work₀ script out₀ given₀ places room i₀ t work out given i = length out₀ / 3 - i
 
 loop-holds : tie.Need-loop-holds Inv-loop μ-loop
-loop-holds c = (running-start _ _ _ _ _ _ (length (c .before .before .before .before .before .before .before .before .before .before .before .args .t .now)) 65536 refl (c .mark-first .ensures)
-    (c .before .before .before .before .clear .ensures), refl)
+loop-holds c = (
+  running-start _ _ _ _ _ _ (length (c .before .before .before .before .before .before .before .before .before .before .before .args .t .now)) 65536 refl (c .mark-first .ensures)
+      (c .before .before .before .before .clear .ensures),
+  refl,
+)
 
 call-requires : tie.Need-call-requires Inv-loop μ-loop
 call-requires c κs = let k = may-run _ _ _ _ _ (sym (c .before .before .before .ready .ensures) ∙ c .before .before .if1 .taken) in
@@ -28,7 +31,7 @@ store-requires : tie.Need-store-requires Inv-loop μ-loop
 store-requires c κs =
     let loop = c .before .before .before .before .before .before .before .before .before .before .before .before .loop in
     let k = may-run _ _ _ _ _ (sym (c .before .before .before .before .before .before .before .before .before .ready .ensures) ∙
-      c .before .before .before .before .before .before .before .before .if1 .taken) in rw (loop .inv .0 .wide) (k .placed)
+    c .before .before .before .before .before .before .before .before .if1 .taken) in rw (loop .inv .0 .wide) (k .placed)
 
 mark-requires : tie.Need-mark-requires Inv-loop μ-loop
 mark-requires c κs =

@@ -15,7 +15,7 @@ returns-3 : tie.Need-returns-3
 returns-3 c =
     let args = c .before .before .before .before .before .args in
     sym (ap (λ (b : Bool). b && (eqb (args .x .lo) 0 && eqb (args .x .hi) 0)) (eq-eqb _ _ (c .before .before .before .if1 .left)) ∙ ap (λ (b : Bool). b && eqb (args .x .hi) 0)
-      (eq-eqb _ _ (c .before .if2 .left)))
+    (eq-eqb _ _ (c .before .if2 .left)))
 
 pub blank-spec : {M : Type 1} → statement M
 blank-spec = tie.close (tie.spec returns returns-2 returns-3)

@@ -23,9 +23,12 @@ add-sum c = omega (arith, c .price .ensures .1, c .before .before .before .befor
 
 loop-again : tie.Need-loop-again Inv-loop μ-loop
 loop-again c =
-    let loop = c .before .before .before .loop in let args = c .before .before .before .before .before .before .args in
-    (omega arith, omega (arith, loop .inv .1, c .price .ensures .0, cost-more (args .costs .now) (args .list .now) (loop .i) (c .before .before .loop-test .taken)), omega
-      (arith, c .price .ensures .1))
+    let loop = c .before .before .before .loop in let args = c .before .before .before .before .before .before .args in (
+      omega arith,
+      omega (arith, loop .inv .1, c .price .ensures .0, cost-more (args .costs .now) (args .list .now) (loop .i) (c .before .before .loop-test .taken)),
+      omega
+          (arith, c .price .ensures .1),
+    )
 
 returns : tie.Need-returns Inv-loop μ-loop
 returns c =

@@ -17,7 +17,7 @@ put-sheet-requires c κs =
     let a = args in
     let k = count-left (pre .0) in
     let q = was-given _ (countRefusal (a .packages .now) (a .c .s + a .c .t) (a .table .now) (a .c .answer) (length (a .work .now))) (length (familyAt (a .table .now) (a .c .answer)))
-      (sym (ap countReply (c .before .before .before .counted2 .given .1)) ∙ c .before .before .before .before .before .before .before .count .ensures .result) in (
+    (sym (ap countReply (c .before .before .before .counted2 .given .1)) ∙ c .before .before .before .before .before .before .before .count .ensures .result) in (
       record {
         answerable = subst⁻¹ (λ (w : ℕ). Answerable (a .packages .now) (a .c .s + a .c .t) (a .table .now) (a .c .answer) w) (c .before .before .before .before .before .before .work .given) (pre .0);
         few = few-of (familyAt (a .table .now) (a .c .answer)) (sym k ∙ q .0);
@@ -33,9 +33,9 @@ returns c =
     let a = args in
     let k = count-left (pre .0) in
     let q = was-refused _ (countRefusal (a .packages .now) (a .c .s + a .c .t) (a .table .now) (a .c .answer) (length (a .work .now))) (length (familyAt (a .table .now) (a .c .answer)))
-      (sym (ap countReply (c .before .before .before .before .before .counted .given .1)) ∙ c .before .before .before .before .before .before .before .before .before .count .ensures .result) in
+    (sym (ap countReply (c .before .before .before .before .before .counted .given .1)) ∙ c .before .before .before .before .before .before .before .before .before .count .ensures .result) in
     holds-same (said _ (sheet (a .c .s) (a .c .t) (length (a .packages .now)) (a .costs .now) (familyAt (a .table .now) (a .c .answer)) (a .c .made) (a .c .steps)) (sym k ∙ q .0) (q .1))
-      (from-start (c .before .before .put-refused .ensures))
+    (from-start (c .before .before .put-refused .ensures))
 
 returns-2 : tie.Need-returns-2
 unfolding answerText
@@ -45,9 +45,9 @@ returns-2 c =
     let a = args in
     let k = count-left (pre .0) in
     let q = was-given _ (countRefusal (a .packages .now) (a .c .s + a .c .t) (a .table .now) (a .c .answer) (length (a .work .now))) (length (familyAt (a .table .now) (a .c .answer)))
-      (sym (ap countReply (c .before .before .before .before .before .before .before .before .counted2 .given .1)) ∙ count .ensures .result) in
+    (sym (ap countReply (c .before .before .before .before .before .before .before .before .counted2 .given .1)) ∙ count .ensures .result) in
     holds-same (unsaid (sheet (a .c .s) (a .c .t) (length (a .packages .now)) (a .costs .now) (familyAt (a .table .now) (a .c .answer)) (a .c .made) (a .c .steps)) (sym k ∙ q .0))
-      (c .before .before .before .before .put-sheet .ensures)
+    (c .before .before .before .before .put-sheet .ensures)
 
 pub put-answer-spec : {M : Type 1} → statement M
 put-answer-spec =

@@ -16,8 +16,8 @@ returns : tie.Need-returns
 returns c =
     let args = c .before .before .before .before .before .before .before .before .before .before .before .args in
     puts-same (last-none (args .costs .now) (familyAt (args .t .now) (args .a))
-      (sym (c .before .before .before .before .before .if1 .taken) ∙ c .before .before .before .before .before .before .before .before .before .before .before .pre .1 .1))
-      (c .before .before .put-text .ensures)
+    (sym (c .before .before .before .before .before .if1 .taken) ∙ c .before .before .before .before .before .before .before .before .before .before .before .pre .1 .1))
+    (c .before .before .put-text .ensures)
 
 array-share-prefix-page : tie.Need-array-share-prefix-page
 array-share-prefix-page c =
@@ -46,7 +46,7 @@ returns-2 c =
     let l : 0 < length F = omega (arith, if1 .left, pre .1 .1) in
     let g = priced-page (pre .0) C (pre .1 .0) l (omega arith) (cheapest′ .ensures) (c .before .before .before .before .before .before .before .before .before .before .priced .ensures) in
     let e : placed .result ≡ position (cheapest C F) F = placed .ensures (position (cheapest C F) F)
-      (place-gives (pre .0) C (pre .1 .0) l (g .1) (omega (arith, work .given)) (c .before .before .before .before .before .before .before .place .ensures)) in
+    (place-gives (pre .0) C (pre .1 .0) l (g .1) (omega (arith, work .given)) (c .before .before .before .before .before .before .before .place .ensures)) in
     puts-same (ap cheapestLine e ∙ last-some C F l) (c .before .before .put-cheapest .ensures)
 
 pub put-last-spec : {M : Type 1} → statement M

@@ -25,11 +25,14 @@ loop-less c = omega arith
 
 loop-again : tie.Need-loop-again Inv-loop μ-loop
 loop-again c =
-    let here = c .before .before .before .before .before .before .before .before in let loop = here .loop in let args = here .before .before .before .args in
-    (omega arith, omega (arith, c .before .out .given, loop .inv .1), puts-same
-      (ap (λ (p : ℕ). packagesText (take (loop .i) (args .list .now)) ++ field (32 ∷ []) p) (c .before .before .before .before .before .wide .ensures) ∙ packages-more (args .list .now) (loop .i)
-      (c .before .before .before .before .before .before .before .loop-test .taken))
-      (puts-then (packagesText (take (loop .i) (args .list .now))) (loop .inv .2) (c .before .before .put-field .ensures)))
+    let here = c .before .before .before .before .before .before .before .before in let loop = here .loop in let args = here .before .before .before .args in (
+      omega arith,
+      omega (arith, c .before .out .given, loop .inv .1),
+      puts-same
+          (ap (λ (p : ℕ). packagesText (take (loop .i) (args .list .now)) ++ field (32 ∷ []) p) (c .before .before .before .before .before .wide .ensures) ∙ packages-more (args .list .now) (loop .i)
+          (c .before .before .before .before .before .before .before .loop-test .taken))
+          (puts-then (packagesText (take (loop .i) (args .list .now))) (loop .inv .2) (c .before .before .put-field .ensures)),
+    )
 
 same-length : tie.Need-same-length Inv-loop μ-loop
 same-length c = c .before .loop .inv .1

@@ -19,9 +19,10 @@ put-timetables-requires c κs =
 put-last-requires : tie.Need-put-last-requires
 put-last-requires c κs =
     let here = c .before .before .before .before .before .before .before .before .before .before .before .before .before .before .before .before .before .before .before .before .before .before .before .before in
-    let args = here .args in let pre = here .pre in
-    (subst⁻¹ (λ (w : ℕ). Listable (args .packages .now) (args .c .s + args .c .t) (args .table .now) (args .c .answer) w) (c .before .before .before .before .before .work .given) (pre .0),
-      (pre .1 .0, pre .1 .1 .0))
+    let args = here .args in let pre = here .pre in (
+      subst⁻¹ (λ (w : ℕ). Listable (args .packages .now) (args .c .s + args .c .t) (args .table .now) (args .c .answer) w) (c .before .before .before .before .before .work .given) (pre .0),
+      (pre .1 .0, pre .1 .1 .0),
+    )
 
 returns : tie.Need-returns
 returns c =
@@ -33,8 +34,8 @@ returns c =
     let C = a .costs .now in
     let F = familyAt (a .table .now) (a .c .answer) in
     let q = puts-then (timetableLines C F (min (a .count) 10))
-      (puts-same (ap (timetableLines C F) (least .ensures)) (c .before .before .before .before .before .before .before .before .before .before .before .put-timetables .ensures))
-      (c .before .before .before .before .put-last .ensures) in
+    (puts-same (ap (timetableLines C F) (least .ensures)) (c .before .before .before .before .before .before .before .before .before .before .before .put-timetables .ensures))
+    (c .before .before .before .before .put-last .ensures) in
     holds-same (sheet-parts C F (a .c .s) (a .c .t) (length (a .packages .now)) (a .c .made) (a .c .steps) (a .count) (pre .1 .1 .0))
     (from-start (puts-then (head (a .c .s) (a .c .t) (length (a .packages .now)) (a .c .made) (a .c .steps) (a .count)) (put-head .ensures) q))
 

@@ -13,8 +13,8 @@ put-answer-requires c κs =
     let here = c .before .before .before .before .before .before .before .before .before .before .before .before .before .before .before in let args = here .args in let pre = here .pre in
     let a = args in
     let g = cover-gave (a .s) (a .t) (a .packages .now) (a .costs .now) is-blank (length-replicate {A = ℕ} 3604 0)
-      (c .before .before .before .before .before .before .before .before .before .before .before .all-items .ensures)
-      (c .before .before .before .before .before .before .before .before .cover .ensures) _ (pre .1) (ap outcomeReply (c .before .before .before .before .outcome2 .given .1)) in
+    (c .before .before .before .before .before .before .before .before .before .before .before .all-items .ensures)
+    (c .before .before .before .before .before .before .before .before .cover .ensures) _ (pre .1) (ap outcomeReply (c .before .before .before .before .outcome2 .given .1)) in
     (g .0 _ (c .before .before .before .before .before .before .work2 .given ∙ length-replicate {A = ℕ} 3604 0), (pre .0, pre .1))
 
 returns : tie.Need-returns
@@ -23,8 +23,8 @@ returns c =
     let args = here .before .before .before .before .args in
     let a = args in
     holds-same (cover-said (a .s) (a .t) (a .packages .now) (a .costs .now) is-blank (length-replicate {A = ℕ} 3604 0) (all-items .ensures)
-      (c .before .before .before .before .before .before .before .before .before .cover .ensures) _ (ap outcomeReply (c .before .before .before .before .before .outcome .given .1)))
-      (from-start (c .before .before .put-refused .ensures))
+    (c .before .before .before .before .before .before .before .before .before .cover .ensures) _ (ap outcomeReply (c .before .before .before .before .before .outcome .given .1)))
+    (from-start (c .before .before .put-refused .ensures))
 
 returns-2 : tie.Need-returns-2
 returns-2 c =
@@ -33,7 +33,7 @@ returns-2 c =
     let pre = here .before .before .before .before .before .before .before .pre in
     let a = args in
     let g = cover-gave (a .s) (a .t) (a .packages .now) (a .costs .now) is-blank (length-replicate {A = ℕ} 3604 0) (all-items .ensures) (cover .ensures) _ (pre .1)
-      (ap outcomeReply (c .before .before .before .before .before .before .before .before .outcome2 .given .1)) in
+    (ap outcomeReply (c .before .before .before .before .before .before .before .before .outcome2 .given .1)) in
     holds-same (g .1) (c .before .before .before .put-answer .ensures)
 
 pub put-solution-spec : {M : Type 1} → statement M

@@ -20,9 +20,12 @@ loop-holds c = (omega arith, omega arith, puts-none (c .before .before .args .ou
 
 loop-again : tie.Need-loop-again Inv-loop μ-loop
 loop-again c =
-    let here = c .before .before .before .before .before .before in let loop = here .loop in let args = here .before .before .before .args in
-    (omega arith, omega (arith, c .before .out .given, loop .inv .1), puts-same (text-more (args .text .now) (loop .i) (c .before .before .before .before .before .loop-test .taken))
-      (puts-then (take (loop .i) (args .text .now)) (loop .inv .2) (c .before .before .put-byte .ensures)))
+    let here = c .before .before .before .before .before .before in let loop = here .loop in let args = here .before .before .before .args in (
+      omega arith,
+      omega (arith, c .before .out .given, loop .inv .1),
+      puts-same (text-more (args .text .now) (loop .i) (c .before .before .before .before .before .loop-test .taken))
+          (puts-then (take (loop .i) (args .text .now)) (loop .inv .2) (c .before .before .put-byte .ensures)),
+    )
 
 same-length : tie.Need-same-length Inv-loop μ-loop
 same-length c = c .before .loop .inv .1

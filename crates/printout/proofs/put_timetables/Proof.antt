@@ -36,9 +36,13 @@ loop-again : tie.Need-loop-again Inv-loop μ-loop
 loop-again c =
     let here = c .before .before .before .before .before .before .before .before in let loop = here .loop in let args = here .before .before .before .before .before .before .args in
     let C = args .costs .now in
-    let F = familyAt (args .t .now) (args .a) in
-    (omega arith, omega (arith, c .before .before .before .work .given, loop .inv .1), omega (arith, c .before .out .given, loop .inv .2), puts-same (lines-more C F (loop .k))
-      (puts-then (timetableLines C F (loop .k)) (loop .inv .3) (c .before .before .before .before .put-nth .ensures)))
+    let F = familyAt (args .t .now) (args .a) in (
+      omega arith,
+      omega (arith, c .before .before .before .work .given, loop .inv .1),
+      omega (arith, c .before .out .given, loop .inv .2),
+      puts-same (lines-more C F (loop .k))
+          (puts-then (timetableLines C F (loop .k)) (loop .inv .3) (c .before .before .before .before .put-nth .ensures)),
+    )
 
 same-length : tie.Need-same-length Inv-loop μ-loop
 same-length c = c .before .loop .inv .1

@@ -23,14 +23,18 @@ cast-x c =
     let here = c .before .before .before .before .before .before .before .before .before .before .before .before .before .before .before .before in
     let shared-slice-known = here .shared-slice-known in let args = here .before .args in let pre = here .before .pre in
     let v = bounded (args .costs .now) (pre .0 .table) (λ p. omega (arith, shared-slice-known .given p)) (args .a) (pre .1 .0 .1) in omega
-      (arith, (c .before .before .before .before .before .before .before .before .before .before .before .prices .ensures .each (args .a) (omega arith)), (pre .0 .table) .sound .few, pre .1 .0 .1)
+    (arith, (c .before .before .before .before .before .before .before .before .before .before .before .prices .ensures .each (args .a) (omega arith)), (pre .0 .table) .sound .few, pre .1 .0 .1)
 
 returns-2 : tie.Need-returns-2
 returns-2 c =
     let args = c .before .before .before .before .before .before .before .before .before .before .before .before .before .before .before .before .before .args in
-    let e = c .before .before .before .write-cheapest .ensures in
-      (e .0, (c .before .before .before .before .before .before .before .before .before .before .before .prices .ensures .each (args .a) (omega arith)) ∙ price-at (args .costs .now)
-      (args .t .now) (args .a), e .1, e .2)
+    let e = c .before .before .before .write-cheapest .ensures in (
+      e .0,
+      (c .before .before .before .before .before .before .before .before .before .before .before .prices .ensures .each (args .a) (omega arith)) ∙ price-at (args .costs .now)
+          (args .t .now) (args .a),
+      e .1,
+      e .2,
+    )
 
 pub cheapest-spec : {M : Type 1} → statement M
 cheapest-spec =

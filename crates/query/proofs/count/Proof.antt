@@ -20,9 +20,11 @@ add-t11 c = omega (arith, c .before .before .before .slice-known2 .given (c .bef
 returns-3 : tie.Need-returns-3
 returns-3 c =
     let here = c .before .before .before .before .before in let counts = here .counts in let args = here .before .before .before .before .args in
-    let pre = here .before .before .before .before .pre in
-    (counts .ensures, told-count (pre .0) (args .a) _ (omega arith) (pre .1 .0) (counts .ensures .each (args .a) (omega arith))
-      (omega (arith, c .before .before .before .slice-known2 .given (args .a))))
+    let pre = here .before .before .before .before .pre in (
+      counts .ensures,
+      told-count (pre .0) (args .a) _ (omega arith) (pre .1 .0) (counts .ensures .each (args .a) (omega arith))
+          (omega (arith, c .before .before .before .slice-known2 .given (args .a))),
+    )
 
 pub count-spec : {M : Type 1} → statement M
 count-spec =

@@ -25,7 +25,7 @@ shared-slice-read-result : tie.Need-shared-slice-read-result
 shared-slice-read-result c =
     let pre = c .before .before .before .before .before .before .before .pre in
     let P = parts (pre .0) (c .before .before .before .before .before .before .before .args .k) (omega arith) (pre .1 .0 .1) in omega
-      (arith, c .before .before .before .hi .ensures, P .hi-below, pre .1 .1 .room)
+    (arith, c .before .before .before .hi .ensures, P .hi-below, pre .1 .1 .room)
 
 returns-2 : tie.Need-returns-2
 returns-2 c =
@@ -42,19 +42,19 @@ shared-slice-read-plus : tie.Need-shared-slice-read-plus
 shared-slice-read-plus c =
     let pre = c .before .before .before .before .before .before .before .pre in
     let P = parts (pre .0) (c .before .before .before .before .before .before .before .args .k) (omega arith) (pre .1 .0 .1) in omega
-      (arith, c .before .before .before .hi .ensures, P .hi-below, pre .1 .1 .room)
+    (arith, c .before .before .before .hi .ensures, P .hi-below, pre .1 .1 .room)
 
 mul-plus-2 : tie.Need-mul-plus-2
 mul-plus-2 c =
     let pre = c .before .before .before .before .before .before .before .pre in
     let P = parts (pre .0) (c .before .before .before .before .before .before .before .args .k) (omega arith) (pre .1 .0 .1) in omega
-      (arith, c .before .before .lo .ensures, P .lo-below, pre .1 .1 .room)
+    (arith, c .before .before .lo .ensures, P .lo-below, pre .1 .1 .room)
 
 shared-slice-read-plus-2 : tie.Need-shared-slice-read-plus-2
 shared-slice-read-plus-2 c =
     let pre = c .before .before .before .before .before .before .before .before .pre in
     let P = parts (pre .0) (c .before .before .before .before .before .before .before .before .args .k) (omega arith) (pre .1 .0 .1) in omega
-      (arith, c .before .before .before .lo .ensures, P .lo-below, pre .1 .1 .room)
+    (arith, c .before .before .before .lo .ensures, P .lo-below, pre .1 .1 .room)
 
 returns-3 : tie.Need-returns-3
 returns-3 c =

@@ -17,13 +17,20 @@ abbrev μ-loop : tie.MeasureT-loop
 
 loop-holds : tie.Need-loop-holds Inv-loop μ-loop
 loop-holds c =
-    let args = c .before .before .args in
-    (filled-more (countWord (args .t .now)) 0 (args .work .now) 0 (filled-none (countWord (args .t .now)) (args .work .now)) (omega arith) (sym (word-zero (args .t .now))), refl, omega arith,
-      omega arith)
+    let args = c .before .before .args in (
+      filled-more (countWord (args .t .now)) 0 (args .work .now) 0 (filled-none (countWord (args .t .now)) (args .work .now)) (omega arith) (sym (word-zero (args .t .now))),
+      refl,
+      omega arith,
+      omega arith,
+    )
 
 slice-write-work-2 : tie.Need-slice-write-work-2 Inv-loop μ-loop
-slice-write-work-2 c = omega (arith, c .before .before .before .loop .inv .1, length-set (c .before .before .before .before .before .before .args .work .now) 0 0,
-    c .before .before .before .before .before .before .pre .1)
+slice-write-work-2 c = omega (
+  arith,
+  c .before .before .before .loop .inv .1,
+  length-set (c .before .before .before .before .before .before .args .work .now) 0 0,
+  c .before .before .before .before .before .before .pre .1,
+)
 
 loop-again : tie.Need-loop-again Inv-loop μ-loop
 loop-again c =

@@ -27,14 +27,14 @@ returns-3 : tie.Need-returns-3 Inv-loop μ-loop
 returns-3 c =
     let here = c .before .before .before .before .before in let index = here .index in let loop-test = here .before .before .loop-test in
     along-unknown-2 (c .before .before .before .before .before .before .before .before .loop .inv) (index .result) (loop-test .taken) (index .ensures) (c .before .index2 .result)
-      (omega (arith, loop-test .taken, c .before .before .before .if2 .left)) (c .before .index2 .ensures) (c .if3 .taken)
+    (omega (arith, loop-test .taken, c .before .before .before .if2 .left)) (c .before .index2 .ensures) (c .if3 .taken)
 
 returns-4 : tie.Need-returns-4 Inv-loop μ-loop
 returns-4 c =
     let here = c .before .before .before .before in let index2 = here .index2 in let index = here .before .before .before .before .index in
     let loop-test = here .before .before .before .before .before .before .loop-test in
     along-disordered (c .before .before .before .before .before .before .before .before .before .before .before .loop .inv) (index .result) (loop-test .taken) (index .ensures) (index2 .result)
-      (omega (arith, loop-test .taken, c .before .before .before .before .before .before .if2 .left)) (index2 .ensures) (c .if4 .taken)
+    (omega (arith, loop-test .taken, c .before .before .before .before .before .before .if2 .left)) (index2 .ensures) (c .if4 .taken)
 
 loop-less : tie.Need-loop-less Inv-loop μ-loop
 loop-less c = omega (arith, c .before .before .before .before .before .before .before .before .before .before .loop-test .taken)
@@ -44,8 +44,8 @@ loop-again c =
     let here = c .before .before .before .before in let index2 = here .index2 in let index = here .before .before .before .before .index in
     let loop-test = here .before .before .before .before .before .before .loop-test in
     along-more (c .before .before .before .before .before .before .before .before .before .before .before .loop .inv) (index .result) (loop-test .taken) (index .ensures) (index2 .result)
-      (omega (arith, loop-test .taken, c .before .before .before .before .before .before .if2 .left)) (index2 .ensures) (c .before .before .before .before .before .before .before .if1 .left)
-      (c .if4 .left)
+    (omega (arith, loop-test .taken, c .before .before .before .before .before .before .if2 .left)) (index2 .ensures) (c .before .before .before .before .before .before .before .if1 .left)
+    (c .if4 .left)
 
 returns-5 : tie.Need-returns-5 Inv-loop μ-loop
 returns-5 c = along-end (c .before .loop .inv) (c .loop-test .left)

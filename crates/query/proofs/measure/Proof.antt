@@ -28,13 +28,13 @@ mul-c : tie.Need-mul-c Inv-loop μ-loop
 mul-c c =
     let loop = c .before .before .loop in let pre = c .before .before .before .before .before .pre in
     let P = here (pre .0) (loop .inv .0) (walk-inside (loop .inv .0) (c .before .if1 .left)) (c .before .before .before .before .before .args .work .now) (pre .1 .1) in omega
-      (arith, P .hi-below, c .hi .ensures, loop .inv .0 .short, pre .1 .1 .room)
+    (arith, P .hi-below, c .hi .ensures, loop .inv .0 .short, pre .1 .1 .room)
 
 shared-slice-read-c : tie.Need-shared-slice-read-c Inv-loop μ-loop
 shared-slice-read-c c =
     let loop = c .before .before .before .loop in let pre = c .before .before .before .before .before .before .pre in
     let P = here (pre .0) (loop .inv .0) (walk-inside (loop .inv .0) (c .before .before .if1 .left)) (c .before .before .before .before .before .before .args .work .now) (pre .1 .1) in omega
-      (arith, P .hi-below, c .before .hi .ensures, loop .inv .0 .short, pre .1 .1 .room)
+    (arith, P .hi-below, c .before .hi .ensures, loop .inv .0 .short, pre .1 .1 .room)
 
 add-n : tie.Need-add-n Inv-loop μ-loop
 add-n c = let i = (walk-inside (c .before .before .before .before .loop .inv .0) (c .before .before .before .if1 .left)) in omega (arith, c .before .before .before .before .loop .inv .0 .short)
@@ -43,33 +43,33 @@ loop-less : tie.Need-loop-less Inv-loop μ-loop
 loop-less c =
     let here′ = c .before .before .before .before in let loop = here′ .loop in let pre = here′ .before .before .before .pre in
     let P = here (pre .0) (loop .inv .0) (walk-inside (loop .inv .0) (c .before .before .before .if1 .left)) (c .before .before .before .before .before .before .before .args .work .now)
-      (pre .1 .1) in omega (arith, P .hi-below, c .before .before .hi .ensures)
+    (pre .1 .1) in omega (arith, P .hi-below, c .before .before .hi .ensures)
 
 loop-again : tie.Need-loop-again Inv-loop μ-loop
 loop-again c =
     let hi = c .before .before .hi in let loop = c .before .before .before .before .loop in let pre = c .before .before .before .before .before .before .before .pre in
     let d = walk-hi (pre .0) (loop .inv .0) (walk-inside (loop .inv .0) (c .before .before .before .if1 .left)) (c .before .before .before .before .before .before .before .args .work .now)
-      (pre .1 .1) (hi .result) (hi .ensures) (c .if2 .taken) in (d .next, loop .inv .1, omega (arith, loop .inv .2, ap length (d .taken)))
+    (pre .1 .1) (hi .result) (hi .ensures) (c .if2 .taken) in (d .next, loop .inv .1, omega (arith, loop .inv .2, ap length (d .taken)))
 
 lo-requires : tie.Need-lo-requires Inv-loop μ-loop
 lo-requires c κs =
     let loop = c .before .before .before .before .loop in
     branch (c .before .before .before .before .before .before .before .pre .0) (loop .node) (walk-inside (loop .inv .0) (c .before .before .before .if1 .left))
-      (omega (arith, loop .inv .0 .short, loop .inv .0 .known))
+    (omega (arith, loop .inv .0 .short, loop .inv .0 .known))
 
 loop-less-2 : tie.Need-loop-less-2 Inv-loop μ-loop
 loop-less-2 c =
     let here′ = c .before .before .before .before .before in let loop = here′ .loop in let pre = here′ .before .before .before .pre in
     let P = here (pre .0) (loop .inv .0) (walk-inside (loop .inv .0) (c .before .before .before .before .if1 .left))
-      (c .before .before .before .before .before .before .before .before .args .work .now) (pre .1 .1) in omega (arith, P .lo-below, c .lo .ensures)
+    (c .before .before .before .before .before .before .before .before .args .work .now) (pre .1 .1) in omega (arith, P .lo-below, c .lo .ensures)
 
 loop-again-2 : tie.Need-loop-again-2 Inv-loop μ-loop
 loop-again-2 c =
     let hi = c .before .before .before .hi in let loop = c .before .before .before .before .before .loop in let pre = c .before .before .before .before .before .before .before .before .pre in
     let d = walk-lo (pre .0) (loop .inv .0) (walk-inside (loop .inv .0) (c .before .before .before .before .if1 .left))
-      (c .before .before .before .before .before .before .before .before .args .work .now) (pre .1 .1) (hi .result) (c .lo .result) (hi .ensures) (c .lo .ensures)
-      (omega (arith, c .before .before .before .before .before .before .before .before .fits .k .fits, loop .inv .1)) (c .before .if2 .left) in
-      (d .next, omega (arith, loop .inv .1), omega (arith, loop .inv .2, ap length (d .left)))
+    (c .before .before .before .before .before .before .before .before .args .work .now) (pre .1 .1) (hi .result) (c .lo .result) (hi .ensures) (c .lo .ensures)
+    (omega (arith, c .before .before .before .before .before .before .before .before .fits .k .fits, loop .inv .1)) (c .before .if2 .left) in
+    (d .next, omega (arith, loop .inv .1), omega (arith, loop .inv .2, ap length (d .left)))
 
 returns : tie.Need-returns Inv-loop μ-loop
 returns c = omega (arith, c .before .loop .inv .2, ap length (walk-end (c .before .loop .inv .0) (c .if1 .taken)))

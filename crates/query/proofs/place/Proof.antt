@@ -27,7 +27,7 @@ label-requires : tie.Need-label-requires Inv-loop μ-loop
 label-requires c κs =
     let loop = c .before .before .before .loop in
     branch (c .before .before .before .before .before .before .before .pre .0) (loop .node) (omega (arith, c .before .before .if1 .left, c .before .if2 .left))
-      (omega (arith, loop .inv .within, loop .inv .known))
+    (omega (arith, loop .inv .within, loop .inv .known))
 
 add-i : tie.Need-add-i Inv-loop μ-loop
 add-i c = let g = c .before .goes-on .ensures .0 (c .if3 .taken) in omega (arith, g .0)
@@ -40,43 +40,43 @@ loop-again : tie.Need-loop-again Inv-loop μ-loop
 loop-again c =
     let hi = c .before .before .before .hi in
     let g = c .before .goes-on .ensures .0 (c .if3 .taken) in seek-hi (c .before .before .before .before .before .before .before .before .before .before .pre .0)
-      (c .before .before .before .before .before .before .loop .inv) (omega (arith, c .before .before .before .before .before .if1 .left, c .before .before .before .before .if2 .left))
-      (hi .result) (hi .ensures) (g .0) (g .1 ∙ c .before .before .label .ensures)
+    (c .before .before .before .before .before .before .loop .inv) (omega (arith, c .before .before .before .before .before .if1 .left, c .before .before .before .before .if2 .left))
+    (hi .result) (hi .ensures) (g .0) (g .1 ∙ c .before .before .label .ensures)
 
 mul-plus : tie.Need-mul-plus Inv-loop μ-loop
 mul-plus c =
     let here = c .before .before .before .before .before .before in let loop = here .loop in let pre = here .before .before .before .before .pre in
     let P = spot (pre .0) (loop .inv) (omega (arith, c .before .before .before .before .before .if1 .left, c .before .before .before .before .if2 .left)) in omega
-      (arith, P .hi-below, c .before .before .before .hi .ensures, loop .inv .within, (pre .1 .1) .room)
+    (arith, P .hi-below, c .before .before .before .hi .ensures, loop .inv .within, (pre .1 .1) .room)
 
 shared-slice-read-plus : tie.Need-shared-slice-read-plus Inv-loop μ-loop
 shared-slice-read-plus c =
     let here = c .before .before .before .before .before .before .before in let loop = here .loop in let pre = here .before .before .before .before .pre in
     let P = spot (pre .0) (loop .inv) (omega (arith, c .before .before .before .before .before .before .if1 .left, c .before .before .before .before .before .if2 .left)) in omega
-      (arith, P .hi-below, c .before .before .before .before .hi .ensures, loop .inv .within, (pre .1 .1) .room)
+    (arith, P .hi-below, c .before .before .before .before .hi .ensures, loop .inv .within, (pre .1 .1) .room)
 
 lo-requires : tie.Need-lo-requires Inv-loop μ-loop
 lo-requires c κs =
     let here = c .before .before .before .before .before .before .before .before in let loop = here .loop in let pre = here .before .before .before .before .pre in
     branch (pre .0) (loop .node) (omega (arith, c .before .before .before .before .before .before .before .if1 .left, c .before .before .before .before .before .before .if2 .left))
-      (omega (arith, loop .inv .within, loop .inv .known))
+    (omega (arith, loop .inv .within, loop .inv .known))
 
 loop-less-2 : tie.Need-loop-less-2 Inv-loop μ-loop
 loop-less-2 c =
     let pre = c .before .before .before .before .before .before .before .before .before .before .before .before .before .pre in
     let P = spot (pre .0) (c .before .before .before .before .before .before .before .before .before .loop .inv)
-      (omega (arith, c .before .before .before .before .before .before .before .before .if1 .left, c .before .before .before .before .before .before .before .if2 .left)) in omega
-      (arith, P .lo-below, c .lo .ensures)
+    (omega (arith, c .before .before .before .before .before .before .before .before .if1 .left, c .before .before .before .before .before .before .before .if2 .left)) in omega
+    (arith, P .lo-below, c .lo .ensures)
 
 loop-again-2 : tie.Need-loop-again-2 Inv-loop μ-loop
 loop-again-2 c =
     let here = c .before .before .before .before .before .before in let hi = here .hi in let args = here .before .before .before .before .before .before .before .args in
     let pre = here .before .before .before .before .before .before .before .pre in
     seek-lo (pre .0) (c .before .before .before .before .before .before .before .before .before .loop .inv)
-      (omega (arith, c .before .before .before .before .before .before .before .before .if1 .left, c .before .before .before .before .before .before .before .if2 .left)) (args .work .now)
-      (pre .1 .1) (hi .result) (c .lo .result) (c .before .plus .result) (hi .ensures) (c .lo .ensures)
-      (λ l q. c .before .before .before .before .goes-on .ensures .1 (c .before .before .before .if3 .left) l (q ∙ sym (c .before .before .before .before .before .label .ensures)))
-      (c .before .plus .ensures)
+    (omega (arith, c .before .before .before .before .before .before .before .before .if1 .left, c .before .before .before .before .before .before .before .if2 .left)) (args .work .now)
+    (pre .1 .1) (hi .result) (c .lo .result) (c .before .plus .result) (hi .ensures) (c .lo .ensures)
+    (λ l q. c .before .before .before .before .goes-on .ensures .1 (c .before .before .before .if3 .left) l (q ∙ sym (c .before .before .before .before .before .label .ensures)))
+    (c .before .plus .ensures)
 
 returns-2 : tie.Need-returns-2 Inv-loop μ-loop
 returns-2 c = seek-end (c .before .before .before .loop .inv) (c .before .if2 .taken) (c .if4 .taken)

@@ -8,9 +8,11 @@ use Rattle.query.proofs.price.Tie as tie
 
 returns : tie.Need-returns
 returns c =
-    let wide = c .before .before .wide in
-    (c .long .ensures ∙ ap (λ (i : ℕ). getD (c .before .before .before .before .args .costs .now) i 0) (wide .ensures), omega
-      (arith, c .long .ensures, c .before .before .before .shared-slice-known .given (wide .result)))
+    let wide = c .before .before .wide in (
+      c .long .ensures ∙ ap (λ (i : ℕ). getD (c .before .before .before .before .args .costs .now) i 0) (wide .ensures),
+      omega
+          (arith, c .long .ensures, c .before .before .before .shared-slice-known .given (wide .result)),
+    )
 
 pub price-spec : {M : Type 1} → statement M
 price-spec =

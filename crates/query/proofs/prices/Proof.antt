@@ -17,9 +17,13 @@ abbrev μ-loop : tie.MeasureT-loop
 
 loop-holds : tie.Need-loop-holds Inv-loop μ-loop
 loop-holds c =
-    let args = c .before .before .before .args in
-    (filled-more (costWord (args .costs .now) (args .t .now)) 0 (args .work .now) 0 (filled-none (costWord (args .costs .now) (args .t .now)) (args .work .now)) (omega arith)
-      (sym (price-zero (args .costs .now) (args .t .now))), refl, omega arith, omega arith)
+    let args = c .before .before .before .args in (
+      filled-more (costWord (args .costs .now) (args .t .now)) 0 (args .work .now) 0 (filled-none (costWord (args .costs .now) (args .t .now)) (args .work .now)) (omega arith)
+          (sym (price-zero (args .costs .now) (args .t .now))),
+      refl,
+      omega arith,
+      omega arith,
+    )
 
 cost-word-requires : tie.Need-cost-word-requires Inv-loop μ-loop
 cost-word-requires c κs =
@@ -27,8 +31,12 @@ cost-word-requires c κs =
     (pre .0, ((loop .inv .2, omega (arith, pre .1 .0, c .before .loop-test .taken)), loop .inv .0))
 
 slice-write-work-2 : tie.Need-slice-write-work-2 Inv-loop μ-loop
-slice-write-work-2 c = omega (arith, c .before .before .before .loop .inv .1, length-set (c .before .before .before .before .before .before .before .args .work .now) 0 0,
-    c .before .before .before .before .before .before .before .pre .1)
+slice-write-work-2 c = omega (
+  arith,
+  c .before .before .before .loop .inv .1,
+  length-set (c .before .before .before .before .before .before .before .args .work .now) 0 0,
+  c .before .before .before .before .before .before .before .pre .1,
+)
 
 loop-less : tie.Need-loop-less Inv-loop μ-loop
 loop-less c = omega (arith, c .before .before .loop-test .taken)

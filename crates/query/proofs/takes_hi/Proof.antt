@@ -34,34 +34,34 @@ mul-result : tie.Need-mul-result
 mul-result c =
     let pre = c .before .before .before .before .before .before .before .before .pre in
     let P = parts (pre .0 .table) (c .before .before .before .before .before .before .before .before .args .k) (pre .1 .0 .0) (pre .1 .0 .1) in omega
-      (arith, P .hi-below, c .before .before .hi .ensures, (pre .1 .1) .room)
+    (arith, P .hi-below, c .before .before .hi .ensures, (pre .1 .1) .room)
 
 shared-slice-read-result : tie.Need-shared-slice-read-result
 shared-slice-read-result c =
     let pre = c .before .before .before .before .before .before .before .before .before .pre in
     let P = parts (pre .0 .table) (c .before .before .before .before .before .before .before .before .before .args .k) (pre .1 .0 .0) (pre .1 .0 .1) in omega
-      (arith, P .hi-below, c .before .before .before .hi .ensures, (pre .1 .1) .room)
+    (arith, P .hi-below, c .before .before .before .hi .ensures, (pre .1 .1) .room)
 
 add-result : tie.Need-add-result
 add-result c =
     let hi = c .before .before .before .hi in let args = c .before .before .before .before .before .before .before .before .before .args in
     let pre = c .before .before .before .before .before .before .before .before .before .pre in
     let P = parts (pre .0 .table) (args .k) (pre .1 .0 .0) (pre .1 .0 .1) in let u = read-at (args .costs .now) (pre .0 .table) (args .k) (pre .1 .0 .0) (pre .1 .0 .1) (args .work .now)
-      (pre .1 .1) (hi .result) (hiOf (args .t .now) (args .k)) (hi .ensures) (P .hi-below) in let v = bounded (args .costs .now) (pre .0 .table)
-      (λ p. omega (arith, c .before .before .before .before .before .before .before .before .shared-slice-known .given p)) (hiOf (args .t .now) (args .k))
-      (omega (arith, P .hi-below, (pre .1 .0 .1))) in omega (arith, c .before .price .ensures .1, P .hi-below, (pre .1 .0 .1), (pre .0 .table) .sound .few)
+    (pre .1 .1) (hi .result) (hiOf (args .t .now) (args .k)) (hi .ensures) (P .hi-below) in let v = bounded (args .costs .now) (pre .0 .table)
+    (λ p. omega (arith, c .before .before .before .before .before .before .before .before .shared-slice-known .given p)) (hiOf (args .t .now) (args .k))
+    (omega (arith, P .hi-below, (pre .1 .0 .1))) in omega (arith, c .before .price .ensures .1, P .hi-below, (pre .1 .0 .1), (pre .0 .table) .sound .few)
 
 mul-result-2 : tie.Need-mul-result-2
 mul-result-2 c =
     let pre = c .before .before .before .before .before .before .before .before .before .pre in
     let P = parts (pre .0 .table) (c .before .before .before .before .before .before .before .before .before .args .k) (pre .1 .0 .0) (pre .1 .0 .1) in omega
-      (arith, P .lo-below, c .before .before .before .before .before .lo .ensures, (pre .1 .1) .room)
+    (arith, P .lo-below, c .before .before .before .before .before .lo .ensures, (pre .1 .1) .room)
 
 shared-slice-read-result-2 : tie.Need-shared-slice-read-result-2
 shared-slice-read-result-2 c =
     let pre = c .before .before .before .before .before .before .before .before .before .before .pre in
     let P = parts (pre .0 .table) (c .before .before .before .before .before .before .before .before .before .before .args .k) (pre .1 .0 .0) (pre .1 .0 .1) in omega
-      (arith, P .lo-below, c .before .before .before .before .before .before .lo .ensures, (pre .1 .1) .room)
+    (arith, P .lo-below, c .before .before .before .before .before .before .lo .ensures, (pre .1 .1) .room)
 
 returns-2 : tie.Need-returns-2
 returns-2 c =
@@ -69,7 +69,7 @@ returns-2 c =
     let lo = c .before .before .before .before .before .before .lo in let args = c .before .before .before .before .before .before .before .before .before .before .args in
     let pre = c .before .before .before .before .before .before .before .before .before .before .pre in
     choose (args .costs .now) (pre .0 .table) (args .k) (pre .1 .0 .0) (pre .1 .0 .1) (args .work .now) (pre .1 .1) (hi .result) (lo .result) (price .result) (label .result) _ (hi .ensures)
-      (lo .ensures) (label .ensures) (omega (arith, c .before .before .before .before .before .if1 .left)) (price .ensures .0) (λ e. leb-true _ _ e) (λ e. leb-false _ _ e)
+    (lo .ensures) (label .ensures) (omega (arith, c .before .before .before .before .before .if1 .left)) (price .ensures .0) (λ e. leb-true _ _ e) (λ e. leb-false _ _ e)
 
 pub takes-hi-spec : {M : Type 1} → statement M
 takes-hi-spec =

@@ -27,25 +27,25 @@ mul-c : tie.Need-mul-c Inv-loop μ-loop
 mul-c c =
     let loop = c .before .before .loop in let pre = c .before .before .before .before .before .before .pre in
     let P = here (pre .0) (loop .inv .0) (walk-inside (loop .inv .0) (c .before .if1 .left)) (c .before .before .before .before .before .before .args .work .now) (pre .1 .1 .0) in omega
-      (arith, P .hi-below, c .hi .ensures, loop .inv .0 .short, pre .1 .1 .0 .room)
+    (arith, P .hi-below, c .hi .ensures, loop .inv .0 .short, pre .1 .1 .0 .room)
 
 shared-slice-read-c : tie.Need-shared-slice-read-c Inv-loop μ-loop
 shared-slice-read-c c =
     let loop = c .before .before .before .loop in let pre = c .before .before .before .before .before .before .before .pre in
     let P = here (pre .0) (loop .inv .0) (walk-inside (loop .inv .0) (c .before .before .if1 .left)) (c .before .before .before .before .before .before .before .args .work .now) (pre .1 .1 .0) in
-      omega (arith, P .hi-below, c .before .hi .ensures, loop .inv .0 .short, pre .1 .1 .0 .room)
+    omega (arith, P .hi-below, c .before .hi .ensures, loop .inv .0 .short, pre .1 .1 .0 .room)
 
 label-requires : tie.Need-label-requires Inv-loop μ-loop
 label-requires c κs =
     let loop = c .before .before .before .before .loop in
     branch (c .before .before .before .before .before .before .before .before .pre .0) (loop .node) (walk-inside (loop .inv .0) (c .before .before .before .if1 .left))
-      (omega (arith, loop .inv .0 .short, loop .inv .0 .known))
+    (omega (arith, loop .inv .0 .short, loop .inv .0 .known))
 
 cast-page : tie.Need-cast-page Inv-loop μ-loop
 cast-page c =
     let here′ = c .before .before .before .before .before in let loop = here′ .loop in let pre = here′ .before .before .before .before .pre in
     let P = here (pre .0) (loop .inv .0) (walk-inside (loop .inv .0) (c .before .before .before .before .if1 .left))
-      (c .before .before .before .before .before .before .before .before .before .args .work .now) (pre .1 .1 .0) in omega (arith, P .label-small, c .label .ensures)
+    (c .before .before .before .before .before .before .before .before .before .args .work .now) (pre .1 .1 .0) in omega (arith, P .label-small, c .label .ensures)
 
 mul-page : tie.Need-mul-page Inv-loop μ-loop
 mul-page c =
@@ -57,8 +57,8 @@ slice-write-page c =
     let hi = c .before .before .before .hi in let loop = c .before .before .before .before .before .loop in
     let pre = c .before .before .before .before .before .before .before .before .before .pre in
     let d = walk-hi (pre .0) (loop .inv .0) (walk-inside (loop .inv .0) (c .before .before .before .before .if1 .left))
-      (c .before .before .before .before .before .before .before .before .before .args .work .now) (pre .1 .1 .0) (hi .result) (hi .ensures) (c .before .if2 .taken) in let r = page-room
-      (rw (d .taken) at (loop .inv .2)) in omega arith
+    (c .before .before .before .before .before .before .before .before .before .args .work .now) (pre .1 .1 .0) (hi .result) (hi .ensures) (c .before .if2 .taken) in let r = page-room
+    (rw (d .taken) at (loop .inv .2)) in omega arith
 
 add-n : tie.Need-add-n Inv-loop μ-loop
 add-n c =
@@ -69,36 +69,36 @@ loop-less : tie.Need-loop-less Inv-loop μ-loop
 loop-less c =
     let here′ = c .before .before .before .before .before in let loop = here′ .loop in let pre = here′ .before .before .before .before .pre in
     let P = here (pre .0) (loop .inv .0) (walk-inside (loop .inv .0) (c .before .before .before .before .if1 .left))
-      (c .before .before .before .before .before .before .before .before .before .args .work .now) (pre .1 .1 .0) in omega (arith, P .hi-below, c .before .before .before .hi .ensures)
+    (c .before .before .before .before .before .before .before .before .before .args .work .now) (pre .1 .1 .0) in omega (arith, P .hi-below, c .before .before .before .hi .ensures)
 
 loop-again : tie.Need-loop-again Inv-loop μ-loop
 loop-again c =
     let hi = c .before .before .before .hi in let loop = c .before .before .before .before .before .loop in
     let pre = c .before .before .before .before .before .before .before .before .before .pre in
     let d = walk-hi (pre .0) (loop .inv .0) (walk-inside (loop .inv .0) (c .before .before .before .before .if1 .left))
-      (c .before .before .before .before .before .before .before .before .before .args .work .now) (pre .1 .1 .0) (hi .result) (hi .ensures) (c .before .if2 .taken) in
-      (d .next, loop .inv .1, rw (c .label .ensures) (page-more (rw (d .taken) at (loop .inv .2))))
+    (c .before .before .before .before .before .before .before .before .before .args .work .now) (pre .1 .1 .0) (hi .result) (hi .ensures) (c .before .if2 .taken) in
+    (d .next, loop .inv .1, rw (c .label .ensures) (page-more (rw (d .taken) at (loop .inv .2))))
 
 lo-requires : tie.Need-lo-requires Inv-loop μ-loop
 lo-requires c κs =
     let loop = c .before .before .before .before .loop in
     branch (c .before .before .before .before .before .before .before .before .pre .0) (loop .node) (walk-inside (loop .inv .0) (c .before .before .before .if1 .left))
-      (omega (arith, loop .inv .0 .short, loop .inv .0 .known))
+    (omega (arith, loop .inv .0 .short, loop .inv .0 .known))
 
 loop-less-2 : tie.Need-loop-less-2 Inv-loop μ-loop
 loop-less-2 c =
     let here′ = c .before .before .before .before .before in let loop = here′ .loop in let pre = here′ .before .before .before .before .pre in
     let P = here (pre .0) (loop .inv .0) (walk-inside (loop .inv .0) (c .before .before .before .before .if1 .left))
-      (c .before .before .before .before .before .before .before .before .before .args .work .now) (pre .1 .1 .0) in omega (arith, P .lo-below, c .lo .ensures)
+    (c .before .before .before .before .before .before .before .before .before .args .work .now) (pre .1 .1 .0) in omega (arith, P .lo-below, c .lo .ensures)
 
 loop-again-2 : tie.Need-loop-again-2 Inv-loop μ-loop
 loop-again-2 c =
     let hi = c .before .before .before .hi in let loop = c .before .before .before .before .before .loop in
     let pre = c .before .before .before .before .before .before .before .before .before .pre in
     let d = walk-lo (pre .0) (loop .inv .0) (walk-inside (loop .inv .0) (c .before .before .before .before .if1 .left))
-      (c .before .before .before .before .before .before .before .before .before .args .work .now) (pre .1 .1 .0) (hi .result) (c .lo .result) (hi .ensures) (c .lo .ensures)
-      (omega (arith, c .before .before .before .before .before .before .before .before .before .fits .k .fits, loop .inv .1)) (c .before .if2 .left) in
-      (d .next, omega (arith, loop .inv .1), rw (d .left) at (loop .inv .2))
+    (c .before .before .before .before .before .before .before .before .before .args .work .now) (pre .1 .1 .0) (hi .result) (c .lo .result) (hi .ensures) (c .lo .ensures)
+    (omega (arith, c .before .before .before .before .before .before .before .before .before .fits .k .fits, loop .inv .1)) (c .before .if2 .left) in
+    (d .next, omega (arith, loop .inv .1), rw (d .left) at (loop .inv .2))
 
 same-length : tie.Need-same-length Inv-loop μ-loop
 same-length c = c .before .loop .inv .2 .long

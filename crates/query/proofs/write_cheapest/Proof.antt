@@ -19,21 +19,26 @@ loop-holds c =
 
 takes-hi-requires : tie.Need-takes-hi-requires Inv-loop μ-loop
 takes-hi-requires c κs =
-    let pre = c .before .before .before .before .before .before .pre in
-    (pre .0, (((omega (arith, c .before .loop .inv .0 .holds, c .if1 .left)), (omega (arith, c .before .loop .inv .0 .short, c .before .loop .inv .0 .known))), filled-less (pre .1 .1 .0)
-      (omega (arith, c .before .loop .inv .0 .short))))
+    let pre = c .before .before .before .before .before .before .pre in (
+      pre .0,
+      (
+        ((omega (arith, c .before .loop .inv .0 .holds, c .if1 .left)), (omega (arith, c .before .loop .inv .0 .short, c .before .loop .inv .0 .known))),
+        filled-less (pre .1 .1 .0)
+            (omega (arith, c .before .loop .inv .0 .short)),
+      ),
+    )
 
 label-requires : tie.Need-label-requires Inv-loop μ-loop
 label-requires c κs =
     let loop = c .before .before .before .loop in
     branch (c .before .before .before .before .before .before .before .before .pre .0 .table) (loop .node) (omega (arith, loop .inv .0 .holds, c .before .before .if1 .left))
-      (omega (arith, loop .inv .0 .short, loop .inv .0 .known))
+    (omega (arith, loop .inv .0 .short, loop .inv .0 .known))
 
 cast-page : tie.Need-cast-page Inv-loop μ-loop
 cast-page c =
     let loop = c .before .before .before .before .loop in
     let P = mark (c .before .before .before .before .before .before .before .before .before .pre .0 .table) (loop .inv .0)
-      (omega (arith, loop .inv .0 .holds, c .before .before .before .if1 .left)) in omega (arith, P .label-small, c .label .ensures)
+    (omega (arith, loop .inv .0 .holds, c .before .before .before .if1 .left)) in omega (arith, P .label-small, c .label .ensures)
 
 mul-page : tie.Need-mul-page Inv-loop μ-loop
 mul-page c =
@@ -50,39 +55,43 @@ hi-requires : tie.Need-hi-requires Inv-loop μ-loop
 hi-requires c κs =
     let loop = c .before .before .before .before .loop in
     branch (c .before .before .before .before .before .before .before .before .before .pre .0 .table) (loop .node) (omega (arith, loop .inv .0 .holds, c .before .before .before .if1 .left))
-      (omega (arith, loop .inv .0 .short, loop .inv .0 .known))
+    (omega (arith, loop .inv .0 .short, loop .inv .0 .known))
 
 loop-less : tie.Need-loop-less Inv-loop μ-loop
 loop-less c =
     let loop = c .before .before .before .before .before .loop in
     let P = mark (c .before .before .before .before .before .before .before .before .before .before .pre .0 .table) (loop .inv .0)
-      (omega (arith, loop .inv .0 .holds, c .before .before .before .before .if1 .left)) in omega (arith, P .hi-below, c .hi .ensures)
+    (omega (arith, loop .inv .0 .holds, c .before .before .before .before .if1 .left)) in omega (arith, P .hi-below, c .hi .ensures)
 
 loop-again : tie.Need-loop-again Inv-loop μ-loop
 loop-again c =
-    let loop = c .before .before .before .before .before .loop in
-    (way-hi (c .before .before .before .before .before .before .before .before .before .before .pre .0 .table) (loop .inv .0)
-      (omega (arith, loop .inv .0 .holds, c .before .before .before .before .if1 .left)) (c .hi .result) (c .hi .ensures), rw (c .before .label .ensures)
-      (page-more (rw (goes-hi (c .before .before .before .takes-hi .ensures) (c .before .before .if2 .taken) (c .hi .result) (c .hi .ensures)) at (loop .inv .1))))
+    let loop = c .before .before .before .before .before .loop in (
+      way-hi (c .before .before .before .before .before .before .before .before .before .before .pre .0 .table) (loop .inv .0)
+          (omega (arith, loop .inv .0 .holds, c .before .before .before .before .if1 .left)) (c .hi .result) (c .hi .ensures),
+      rw (c .before .label .ensures)
+          (page-more (rw (goes-hi (c .before .before .before .takes-hi .ensures) (c .before .before .if2 .taken) (c .hi .result) (c .hi .ensures)) at (loop .inv .1))),
+    )
 
 lo-requires : tie.Need-lo-requires Inv-loop μ-loop
 lo-requires c κs =
     let loop = c .before .before .before .loop in
     branch (c .before .before .before .before .before .before .before .before .pre .0 .table) (loop .node) (omega (arith, loop .inv .0 .holds, c .before .before .if1 .left))
-      (omega (arith, loop .inv .0 .short, loop .inv .0 .known))
+    (omega (arith, loop .inv .0 .short, loop .inv .0 .known))
 
 loop-less-2 : tie.Need-loop-less-2 Inv-loop μ-loop
 loop-less-2 c =
     let loop = c .before .before .before .before .loop in
     let P = mark (c .before .before .before .before .before .before .before .before .before .pre .0 .table) (loop .inv .0)
-      (omega (arith, loop .inv .0 .holds, c .before .before .before .if1 .left)) in omega (arith, P .lo-below, c .lo .ensures)
+    (omega (arith, loop .inv .0 .holds, c .before .before .before .if1 .left)) in omega (arith, P .lo-below, c .lo .ensures)
 
 loop-again-2 : tie.Need-loop-again-2 Inv-loop μ-loop
 loop-again-2 c =
-    let takes-hi = c .before .before .takes-hi in let loop = c .before .before .before .before .loop in
-    (way-lo (c .before .before .before .before .before .before .before .before .before .pre .0 .table) (loop .inv .0) (omega (arith, loop .inv .0 .holds, c .before .before .before .if1 .left))
-      (c .lo .result) (c .lo .ensures) (takes-hi .ensures .by-lo (c .before .if2 .left) .0), rw (goes-lo (takes-hi .ensures) (c .before .if2 .left) (c .lo .result) (c .lo .ensures)) at
-      (loop .inv .1))
+    let takes-hi = c .before .before .takes-hi in let loop = c .before .before .before .before .loop in (
+      way-lo (c .before .before .before .before .before .before .before .before .before .pre .0 .table) (loop .inv .0) (omega (arith, loop .inv .0 .holds, c .before .before .before .if1 .left))
+          (c .lo .result) (c .lo .ensures) (takes-hi .ensures .by-lo (c .before .if2 .left) .0),
+      rw (goes-lo (takes-hi .ensures) (c .before .if2 .left) (c .lo .result) (c .lo .ensures)) at
+          (loop .inv .1),
+    )
 
 same-length : tie.Need-same-length Inv-loop μ-loop
 same-length c = c .before .loop .inv .1 .long
@@ -91,7 +100,7 @@ returns : tie.Need-returns Inv-loop μ-loop
 returns c =
     let args = c .before .before .before .before .before .before .args in
     let e = page-end (rw (at-end (args .costs .now) (args .t .now) (c .before .loop .node) (c .if1 .taken)) at (c .before .loop .inv .1)) in
-      (e .many, c .before .before .before .before .before .before .pre .1 .1 .1, e .pages)
+    (e .many, c .before .before .before .before .before .before .pre .1 .1 .1, e .pages)
 
 pub write-cheapest-spec : {M : Type 1} → statement M
 write-cheapest-spec =

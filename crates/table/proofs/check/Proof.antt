@@ -53,7 +53,7 @@ returns-6 : tie.Need-returns-6 Inv-loop μ-loop
 returns-6 c =
     let wide = c .before .before .before .before .before .wide in
     decided (c .before .before .loop .inv) (record { fit = omega (arith, wide .ensures); few = omega (arith, wide .ensures) }) (omega (arith, wide .ensures)) (omega (arith, wide .ensures))
-      (c .zeros .ensures)
+    (c .zeros .ensures)
 
 pub check-spec : {M : Type 1} → statement M
 check-spec =

@@ -16,22 +16,32 @@ mul-result : tie.Need-mul-result
 mul-result c =
     let here = c .before .before .before .before in let wide = here .wide in let pre = here .before .before .before .pre in
     let a = c .before .before .before .before .before .before .before .args in
-    omega (arith, pre .1 .1 (a .c - 2) (omega (arith, wide .ensures)), label-at (a .t .now) (a .c - 2) (1 + 3 * (wide .result - 2)) (omega (arith, wide .ensures, pre .1 .0))
-      (omega (arith, wide .ensures)), c .wide2 .ensures)
+    omega (
+      arith,
+      pre .1 .1 (a .c - 2) (omega (arith, wide .ensures)),
+      label-at (a .t .now) (a .c - 2) (1 + 3 * (wide .result - 2)) (omega (arith, wide .ensures, pre .1 .0))
+          (omega (arith, wide .ensures)),
+      c .wide2 .ensures,
+    )
 
 shared-slice-read-result : tie.Need-shared-slice-read-result
 shared-slice-read-result c =
     let here = c .before .before .before .before .before in let wide = here .wide in let pre = here .before .before .before .pre in
     let a = c .before .before .before .before .before .before .before .before .args in
-    omega (arith, pre .1 .1 (a .c - 2) (omega (arith, wide .ensures)), label-at (a .t .now) (a .c - 2) (1 + 3 * (wide .result - 2)) (omega (arith, wide .ensures, pre .1 .0))
-      (omega (arith, wide .ensures)), c .before .wide2 .ensures)
+    omega (
+      arith,
+      pre .1 .1 (a .c - 2) (omega (arith, wide .ensures)),
+      label-at (a .t .now) (a .c - 2) (1 + 3 * (wide .result - 2)) (omega (arith, wide .ensures, pre .1 .0))
+          (omega (arith, wide .ensures)),
+      c .before .wide2 .ensures,
+    )
 
 returns-3 : tie.Need-returns-3
 returns-3 c =
     let wide = c .before .before .before .before .before .wide in
     let a = c .before .before .before .before .before .before .before .before .args in
     child (a .keys .now) (a .t .now) (a .i) (a .key) (a .c) (1 + 3 * (wide .result - 2)) (c .before .wide2 .result) (c .before .before .before .before .before .before .before .before .pre .1 .0)
-      (omega (arith, wide .ensures)) (omega (arith, wide .ensures)) (omega (arith, wide .ensures)) (c .before .wide2 .ensures)
+    (omega (arith, wide .ensures)) (omega (arith, wide .ensures)) (omega (arith, wide .ensures)) (c .before .wide2 .ensures)
 
 pub child-fits-spec : {M : Type 1} → statement M
 child-fits-spec =

@@ -35,7 +35,7 @@ returns-2 c =
     let n = node-at (a .t .now) (a .i) (1 + 3 * a .i) (pre .1 .0) refl in
     rw (c .insert .ensures .0, c .insert .ensures .1)
     (entered-new (c .before .before .before .before .find .ensures) (c .before .before .before .if1 .left) n
-      (more (a .i) (hash .result) _ (at-word (a .t .now) (1 + 3 * a .i)) (pre .1 .1) refl (omega (arith, pre .0 .few)) (hash .ensures .1) (hash .ensures .0) n))
+    (more (a .i) (hash .result) _ (at-word (a .t .now) (1 + 3 * a .i)) (pre .1 .1) refl (omega (arith, pre .0 .few)) (hash .ensures .1) (hash .ensures .0) n))
 
 pub enter-spec : {M : Type 1} → statement M
 enter-spec =

@@ -41,14 +41,14 @@ loop-less : tie.Need-loop-less Inv-loop μ-loop
 loop-less c =
     let loop = c .before .before .before .before .before .loop in
     let a = c .before .before .before .before .before .before .before .before .args in rw (c .before .before .before .wide .ensures)
-      (falls (node (a .label) (a .lo) (a .hi)) (loop .k) (c .before .before .before .before .before .before .before .before .pre .1 .1 .0) (loop .inv) (omega arith))
+    (falls (node (a .label) (a .lo) (a .hi)) (loop .k) (c .before .before .before .before .before .before .before .before .pre .1 .1 .0) (loop .inv) (omega arith))
 
 loop-again : tie.Need-loop-again Inv-loop μ-loop
 loop-again c =
     let wide = c .before .before .before .wide in let loop = c .before .before .before .before .before .loop in
     let a = c .before .before .before .before .before .before .before .before .args in
     rw (wide .ensures) (step (node (a .label) (a .lo) (a .hi)) (loop .k) (c .before .before .before .before .before .before .before .before .pre .1 .1 .0) (loop .inv) (omega arith)
-      (rw (wide .ensures) at (c .before .before .is-node .ensures .no (c .before .if1 .left))))
+    (rw (wide .ensures) at (c .before .before .is-node .ensures .no (c .before .if1 .left))))
 
 returns-2 : tie.Need-returns-2 Inv-loop μ-loop
 returns-2 c = miss (c .before .loop .inv) (omega arith)

@@ -37,7 +37,7 @@ returns-3 c =
     let a = c .before .before .before .before .before .before .before .before .args in
     rw (c .insert .ensures .0, c .insert .ensures .1)
     (made-stored {x = node (a .label) (a .lo) (a .hi)} _ (a .h) _ _ (pre .0) (pre .1 .1) (omega arith) (omega (arith, wide .ensures)) (pre .1 .0 .1) (pre .1 .0 .0) (omega (arith, wide .ensures))
-      (omega (arith)) (omega arith))
+    (omega (arith)) (omega arith))
 
 pub make-spec : {M : Type 1} → statement M
 make-spec =

@@ -15,9 +15,14 @@ returns c = made-old (c .before .before .before .before .before .before .before 
 
 make-requires : tie.Need-make-requires
 make-requires c κs =
-    let pre = c .before .before .before .before .before .before .before .before .before .before .before .before .pre in
-    (pre, (c .before .before .before .before .before .before .before .before .before .before .hash .ensures, λ i h e. c .before .before .before .before .find .ensures .none
-      (c .before .before .before .if1 .left) i (omega (arith, c .before .before .before .before .before .before .before .before .wide .ensures)) e))
+    let pre = c .before .before .before .before .before .before .before .before .before .before .before .before .pre in (
+      pre,
+      (
+        c .before .before .before .before .before .before .before .before .before .before .hash .ensures,
+        λ i h e. c .before .before .before .before .find .ensures .none
+            (c .before .before .before .if1 .left) i (omega (arith, c .before .before .before .before .before .before .before .before .wide .ensures)) e,
+      ),
+    )
 
 pub unique-spec : {M : Type 1} → statement M
 unique-spec =
