@@ -10,7 +10,7 @@ use lib.ListN.{length, getD, set, length-set}
 use Rattle.itemset.specs.Items.{insideb, without, lowest, holds}
 use Rattle.base.proofs.Bools.{by-test, never, is-false, and-both}
 use Rattle.itemset.proofs.Laws.{lowest-inside, lowest-holds, lowest-lt}
-use Rattle.zdd.specs.Table.{node, Family, join, key, count, capacity, nodesOf, family}
+use Rattle.zdd.specs.Table.{node, Family, fork, key, count, capacity, nodesOf, family}
 use Rattle.zdd.proofs.Words.{length-nodes}
 use Rattle.zdd.proofs.Grow.{family-one}
 use Rattle.zdd.specs.Work.{From, Got}
@@ -251,7 +251,7 @@ module _ {S first after : List ℕ} (ps : Packs S first after) (A : ℕ) (w64 : 
           trial = subst⁻¹ (λ (c : Bool). Trial S A (capacity t₀) (nodesOf t₀) b₀ k l (nodesOf t′) c) y
               (trial-take S (ps .few) (ps .some) A w64 k l h l low (at-fits p k e a i) before
               (subst (λ (c : Bool). Got (keysOf S) (capacity t₀) (nodesOf t) b h (nodesOf t′) c (left S A k)) y found)
-              (got-idle (capacity t₀) l (join k (family (nodesOf t′) h) (family (nodesOf t′) l)) (d .grown .sound .nodes) (omega (arith, still-known, length-nodes t′))));
+              (got-idle (capacity t₀) l (fork k (family (nodesOf t′) h) (family (nodesOf t′) l)) (d .grown .sound .nodes) (omega (arith, still-known, length-nodes t′))));
           walk = walked;
         }
 
@@ -281,8 +281,8 @@ module _ {S first after : List ℕ} (ps : Packs S first after) (A : ℕ) (w64 : 
               → Turn S P A limit t₀ memo₀ n₀ b₀ t″ heads″ next″ memo′ k r n′ (eqb r 0)
           turn-made j r {t″} {heads″} {next″} x m =
               let made : Made (keysOf S) t′ t″ heads″ next″ (node k l h) r = subst (λ (i : ℕ). Unique t′ t″ heads″ next″ (node i l h) r) x m (keysOf S) may in
-              let g : Got (keysOf S) (capacity t₀) (nodesOf t′) b′ r (nodesOf t″) (eqb r 0) (join k (family (nodesOf t′) h) (family (nodesOf t′) l)) =
-              subst⁻¹ (λ (c : Bool). Got (keysOf S) (capacity t₀) (nodesOf t′) c r (nodesOf t″) (eqb r 0) (join k (family (nodesOf t′) h) (family (nodesOf t′) l))) y
+              let g : Got (keysOf S) (capacity t₀) (nodesOf t′) b′ r (nodesOf t″) (eqb r 0) (fork k (family (nodesOf t′) h) (family (nodesOf t′) l)) =
+              subst⁻¹ (λ (c : Bool). Got (keysOf S) (capacity t₀) (nodesOf t′) c r (nodesOf t″) (eqb r 0) (fork k (family (nodesOf t′) h) (family (nodesOf t′) l))) y
               (made-got may made (capacity t₀) (sym (same-capacity t′ t₀ (d .grown .long ∙ u .grown .long)))) in
               record {
                 grown = grown-trans (u .grown) (grown-trans (d .grown) (made .grown));

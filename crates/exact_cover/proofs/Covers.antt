@@ -123,8 +123,8 @@ module _ (S : List ℕ) where
       (λ y. clash (holds i (without D (row S p))) d (without-apart i D (row S p) y))
       (λ n. sym (holders-not i p t n) ∙ covers-one D (p ∷ t) h i l (and-left (holds i D) (not (holds i (row S p))) e))))
 
-  covers-join : (D p : ℕ) (t : List ℕ) → insideb (row S p) D ≡ true → covers S (without D (row S p)) t ≡ true → covers S D (p ∷ t) ≡ true
-  covers-join D p t a h =
+  covers-fork : (D p : ℕ) (t : List ℕ) → insideb (row S p) D ≡ true → covers S (without D (row S p)) t ≡ true → covers S D (p ∷ t) ≡ true
+  covers-fork D p t a h =
       let b = covers-inside (without D (row S p)) t h in
       to-covers D (p ∷ t)
       (inside-first D p t a (inside-up D (row S p) t b))
@@ -141,7 +141,7 @@ module _ (S : List ℕ) where
   covers-cons D p t w =
       same-test (covers S D (p ∷ t)) (insideb (row S p) D && covers S (without D (row S p)) t)
       (covers-split D p t w)
-      (λ h. covers-join D p t
+      (λ h. covers-fork D p t
       (and-left (insideb (row S p) D) (covers S (without D (row S p)) t) h)
       (and-right (insideb (row S p) D) (covers S (without D (row S p)) t) h))
 

@@ -14,9 +14,9 @@ use borrow.Author.Tests.{le-leb, lt-leb}
 use Rattle.itemset.specs.Items.{insideb, without}
 use Rattle.base.proofs.Bools.{by-test, and-left, never, or-cases, or-left, or-right}
 use Rattle.itemset.proofs.Laws.{without-lt, lowest-inside}
-use Rattle.zdd.specs.Table.{Family, join, key, filter, elem, eqSet}
+use Rattle.zdd.specs.Table.{Family, fork, key, filter, elem, eqSet}
 use Rattle.zdd.specs.Work.{From, Under, Split}
-use Rattle.zdd.proofs.Member.{from-of, join-cases, eqSet-eq, eqSet-same}
+use Rattle.zdd.proofs.Member.{from-of, fork-cases, eqSet-eq, eqSet-same}
 use Rattle.zdd.proofs.Under.{under-trans, under-eq}
 use Rattle.zdd.proofs.Split.{split-hi, split-lo}
 use Rattle.exact_cover.specs.Cover.{row, covers, covering, fits, down, candidates, keysOf}
@@ -101,10 +101,10 @@ module _ (S : List ℕ) (few : length S ≤ 512) (full : (p : ℕ) → p < lengt
       partial-pass n acc (f n (le-refl n) (omega arith)) (partial-skip d (suc n) m acc (omega arith) (λ q a b. f q (omega arith) b) p)
 
   -- n is a candidate
-  pub partial-take : (n : ℕ) (acc : Family) → n < length S → fits S A n ≡ true → Partial S A (suc n) acc → Partial S A n (join n (left S A n) acc)
+  pub partial-take : (n : ℕ) (acc : Family) → n < length S → fits S A n ≡ true → Partial S A (suc n) acc → Partial S A n (fork n (left S A n) acc)
   partial-take n acc l e p = record {
     rest = sym (gather-take (fits S A) n (begun S A) acc e) ∙ p .rest;
-    begins = λ q t m. go q t (join-cases n q t (left S A n) acc m);
+    begins = λ q t m. go q t (fork-cases n q t (left S A n) acc m);
   }
     where
       go : (q : ℕ) (t : List ℕ) → ((q ≡ n) × (elem t (left S A n) ≡ true)) ⊎ (elem (q ∷ t) acc ≡ true) → (n ≤ q) × (q < length S) × (fits S A q ≡ true)
@@ -113,12 +113,12 @@ module _ (S : List ℕ) (few : length S ≤ 512) (full : (p : ℕ) → p < lengt
 
   -- the step is a split: made for `left S A n`, for what there was, and for the node is made for what there is then
   pub partial-split : (n : ℕ) (acc : Family) → n < length S → fits S A n ≡ true → Partial S A (suc n) acc
-      → Split (keysOf S) (join n (left S A n) acc) n (left S A n) acc
+      → Split (keysOf S) (fork n (left S A n) acc) n (left S A n) acc
   partial-split n acc l e p = record { is = refl; hi-from = left-from n l e; lo-from = partial-from n acc l e p }
 
   -- what it leaves has no cover: the trial has what it had
   pub partial-empty : (n : ℕ) (acc : Family) → n < length S → fits S A n ≡ true → left S A n ≡ [] → Partial S A (suc n) acc → Partial S A n acc
-  partial-empty n acc l e z p = subst (λ (F : Family). Partial S A n (join n F acc)) z (partial-take n acc l e p)
+  partial-empty n acc l e z p = subst (λ (F : Family). Partial S A n (fork n F acc)) z (partial-take n acc l e p)
 
   pub partial-end : (acc : Family) → Partial S A 0 acc → acc ≡ covering S A
   partial-end acc p = sym (nothing-left S A acc) ∙ p .rest
@@ -128,7 +128,7 @@ module _ (S : List ℕ) (few : length S ≤ 512) (full : (p : ℕ) → p < lengt
   partial-under zero acc h p = under-eq (partial-end acc p)
   partial-under (suc n) acc h p =
       by-test (fits S A n)
-      (λ y. under-trans (split-lo (partial-split n acc h y p)) (partial-under n (join n (left S A n) acc) (omega arith) (partial-take n acc h y p)))
+      (λ y. under-trans (split-lo (partial-split n acc h y p)) (partial-under n (fork n (left S A n) acc) (omega arith) (partial-take n acc h y p)))
       (λ y. partial-under n acc (omega arith) (partial-pass n acc y p))
 
   -- what the trial has after the numbers from n on
@@ -137,14 +137,14 @@ module _ (S : List ℕ) (few : length S ≤ 512) (full : (p : ℕ) → p < lengt
   partial-at pos (suc d) n e =
       let r = partial-at pos d (suc n) (omega arith) in
       by-test (fits S A n)
-      (λ y. (join n (left S A n) (r .0), partial-take n (r .0) (omega arith) y (r .1)))
+      (λ y. (fork n (left S A n) (r .0), partial-take n (r .0) (omega arith) y (r .1)))
       (λ y. (r .0, partial-pass n (r .0) y (r .1)))
 
   -- THEOREM: the covers of what a candidate leaves are under the covers of A
   pub left-under : 0 < A → (p : ℕ) → p < length S → fits S A p ≡ true → Under (left S A p) (covering S A)
   left-under pos p l f =
       let r = partial-at pos (length S - suc p) (suc p) (omega arith) in
-      under-trans (split-hi (partial-split p (r .0) l f (r .1))) (partial-under p (join p (left S A p) (r .0)) (omega arith) (partial-take p (r .0) l f (r .1)))
+      under-trans (split-hi (partial-split p (r .0) l f (r .1))) (partial-under p (fork p (left S A p) (r .0)) (omega arith) (partial-take p (r .0) l f (r .1)))
 
 -- ---- the covers of A whose first package is n or above
 

@@ -6,7 +6,7 @@ use mathlib.Core.List.{List, []}
 use Prim.Native.Nat.{ℕ, suc, _+_, _^_, _≤_, _<_}
 use native.Mathlib.Omega.{arith}
 use lib.ListN.{length}
-use Rattle.zdd.specs.Table.{Node, Family, join, family, Nodes}
+use Rattle.zdd.specs.Table.{Node, Family, fork, family, Nodes}
 use Rattle.zdd.proofs.Grow.{family-zero}
 use Rattle.zdd.specs.Work.{Worked, Got}
 use Rattle.zdd.proofs.Room.{worked-under}
@@ -32,10 +32,10 @@ module _ (S : List ℕ) (few : length S ≤ 512) (full : (p : ℕ) → p < lengt
   -- n is a candidate: search gives h, find-or-make r
   pub trial-take : (n l h r : ℕ) {n0 n1 ns′ : List Node} {b0 b1 b′ : Bool} → n < length S → fits S A n ≡ true
       → Trial S A c ns b (suc n) l n0 b0 → Got (keysOf S) c n0 b0 h n1 b1 (left S A n)
-      → Got (keysOf S) c n1 b1 r ns′ b′ (join n (family n1 h) (family n1 l))
+      → Got (keysOf S) c n1 b1 r ns′ b′ (fork n (family n1 h) (family n1 l))
       → Trial S A c ns b n r ns′ b′
   trial-take n l h r m e t g1 g = record {
-    acc = join n (left S A n) (t .acc);
+    acc = fork n (left S A n) (t .acc);
     part = partial-take S few full A w n (t .acc) m e (t .part);
     got = got-split-lo (partial-split S few full A w n (t .acc) m e (t .part)) (t .got) g1 g;
   }
@@ -44,7 +44,7 @@ module _ (S : List ℕ) (few : length S ≤ 512) (full : (p : ℕ) → p < lengt
   pub trial-none : (n l : ℕ) {n0 n1 : List Node} {b0 b1 : Bool} → n < length S → fits S A n ≡ true
       → Trial S A c ns b (suc n) l n0 b0 → Got (keysOf S) c n0 b0 0 n1 b1 (left S A n) → Trial S A c ns b n l n1 b1
   trial-none n l m e t g1 = record {
-    acc = join n (left S A n) (t .acc);
+    acc = fork n (left S A n) (t .acc);
     part = partial-take S few full A w n (t .acc) m e (t .part);
     got = got-none-lo (partial-split S few full A w n (t .acc) m e (t .part)) (t .got) g1;
   }

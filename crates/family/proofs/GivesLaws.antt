@@ -8,7 +8,7 @@ use native.Mathlib.Nat.{eq-or-lt-of-le}
 use native.Mathlib.Omega.{arith}
 use lib.ListN.{length, getD, length-append, List·getD-append}
 use lib.Seq.{getD-at, ext-getD}
-use Rattle.zdd.specs.Table.{Node, node, blank, Family, join, count, capacity, nodesOf, family, key, Fine, Sound}
+use Rattle.zdd.specs.Table.{Node, node, blank, Family, fork, count, capacity, nodesOf, family, key, Fine, Sound}
 use Rattle.zdd.proofs.Grow.{family-zero}
 use Rattle.zdd.proofs.Words.{length-nodes}
 use Rattle.zdd.specs.Work.{From, Split, Got}
@@ -35,7 +35,7 @@ gives-there {K} {t} {heads} {next} {F} {r} s d l a = record {
 -- ---- find or make
 
 abbrev J : List ℕ → Node → Family
-J t x = join (x .label) (family (nodesOf t) (x .hi)) (family (nodesOf t) (x .lo))
+J t x = fork (x .label) (family (nodesOf t) (x .hi)) (family (nodesOf t) (x .lo))
 
 module _ {K t t′ heads′ next′ : List ℕ} {x : Node} {r : ℕ} (y : May K t x) (m : Made K t t′ heads′ next′ x r) where
   fine-len : Fine K (nodesOf t) (length (nodesOf t)) x
@@ -105,7 +105,7 @@ pub noded-lo : {t heads next : List ℕ} (label lo hi : ℕ) → Indexed t heads
 noded-lo {t} {heads} {next} label lo hi d e K c =
     gives-there (c .sound) d (omega (arith, c .lo-known, c .sound .few)) (record {
       known = omega (arith, c .lo-known, length-nodes t);
-      holds = sym (ap (λ (F : Family). join label F (family (nodesOf t) lo)) (ap (family (nodesOf t)) e ∙ family-zero (nodesOf t)));
+      holds = sym (ap (λ (F : Family). fork label F (family (nodesOf t) lo)) (ap (family (nodesOf t)) e ∙ family-zero (nodesOf t)));
     })
 
 may : {K t : List ℕ} {label lo hi : ℕ} → Child K t label lo hi → 0 < hi → May K t (node label lo hi)

@@ -5,7 +5,7 @@ use mathlib.Core.List.{List}
 use Prim.Native.Nat.{ℕ, suc, _+_, _-_, _<_, _≤_}
 use lib.Dec.{ltb}
 use lib.ListN.{length}
-use Rattle.zdd.specs.Table.{Node, node, Family, join, count, capacity, nodesOf, family, Fine, Sound, Keys}
+use Rattle.zdd.specs.Table.{Node, node, Family, fork, count, capacity, nodesOf, family, Fine, Sound, Keys}
 use Rattle.zdd.specs.Work.{Got}
 use Rattle.zdd.specs.Branches.{missing}
 use Rattle.table.specs.State.{Indexed, Grown}
@@ -34,7 +34,7 @@ pub record Child (K t : List ℕ) (label lo hi : ℕ) : Type 0 where
 -- what make ensures, whatever the keys
 abbrev pub Noded : List ℕ → List ℕ → List ℕ → List ℕ → ℕ → ℕ → ℕ → ℕ → Type 0
 Noded t t′ heads′ next′ label lo hi r =
-    (K : List ℕ) → Child K t label lo hi → Gives K t t′ heads′ next′ r (join label (family (nodesOf t) hi) (family (nodesOf t) lo))
+    (K : List ℕ) → Child K t label lo hi → Gives K t t′ heads′ next′ r (fork label (family (nodesOf t) hi) (family (nodesOf t) lo))
 
 -- the number r is known and holds F
 pub record Answers (ns : List Node) (r : ℕ) (F : Family) : Type 0 where

@@ -10,7 +10,7 @@ use lib.Dec.{eqb}
 use lib.ListN.{length, replicate}
 use borrow.Author.Tests.{eqb-true, eqb-false, le-ltb, lt-leb, le-leb}
 use Rattle.base.proofs.Bools.{cases}
-use Rattle.zdd.specs.Table.{Node, Family, join, count, nodesOf, triples, sets, allSets, order, elem, filter, soundb, Nodes, _∈_}
+use Rattle.zdd.specs.Table.{Node, Family, fork, count, nodesOf, triples, sets, allSets, order, elem, filter, soundb, Nodes, _∈_}
 use Rattle.zdd.proofs.Grow.{family-zero, family-one}
 use Rattle.zdd.proofs.Canon.{canonical}
 use Rattle.zdd.proofs.Words.{length-nodes}
@@ -38,7 +38,7 @@ listing-elem S X s e = elem-filter X s (sets (keysOf S)) ∙ ap (λ (b : Bool). 
     right true = refl
     right false = refl
 
-behind : (p : ℕ) (F G : Family) → filter emptyTimetable (join p F G) ≡ filter emptyTimetable G
+behind : (p : ℕ) (F G : Family) → filter emptyTimetable (fork p F G) ≡ filter emptyTimetable G
 unfolding filter
 behind p [] G = refl
 behind p (t ∷ F) G = behind p F G

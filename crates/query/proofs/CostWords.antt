@@ -8,7 +8,7 @@ use native.Mathlib.Decide.{decLt}
 use native.Mathlib.Omega.{arith}
 use lib.ListN.{getD}
 use Rattle.base.proofs.Bools.{never}
-use Rattle.zdd.specs.Table.{Family, join, count}
+use Rattle.zdd.specs.Table.{Family, fork, count}
 use Rattle.query.specs.Questions.{familyAt, cost, cheapest}
 use Rattle.query.specs.Reading.{labelOf, loOf, hiOf, Readable, Filled, costWord, Choice}
 use Rattle.query.proofs.Parts.{Parts, parts, some, at-zero, at-one}
@@ -34,7 +34,7 @@ module _ (C : List ℕ) {t : List ℕ} (R : Readable t) where
   pub alone : (k : ℕ) → 1 < k → k < count t + 2 → loOf t k ≡ 0 → cheapest C (familyAt t k) ≡ labelOf t k ∷ cheapest C (familyAt t (hiOf t k))
   alone k a b e =
       let P = parts R k a b in
-      ap (cheapest C) (P .split ∙ ap (join (labelOf t k) (familyAt t (hiOf t k))) (ap (familyAt t) e ∙ at-zero t))
+      ap (cheapest C) (P .split ∙ ap (fork (labelOf t k) (familyAt t (hiOf t k))) (ap (familyAt t) e ∙ at-zero t))
       ∙ cheap-alone C (labelOf t k) (familyAt t (hiOf t k)) (some R (hiOf t k) (P .hi-some) (omega (arith, P .hi-below)))
 
   pub chosen : (k : ℕ) → 1 < k → k < count t + 2 → 0 < loOf t k

@@ -10,7 +10,7 @@ use lib.Dec.{leb}
 use lib.ListN.{length, getD}
 use borrow.Author.Tests.{leb-true, leb-false, le-leb, lt-leb}
 use Rattle.base.proofs.Bools.{cases, same-test, and-left, and-right, and-both}
-use Rattle.zdd.specs.Table.{Family, join, filter}
+use Rattle.zdd.specs.Table.{Family, fork, filter}
 use Rattle.query.specs.Questions.{cost, noneBelow, cheapest}
 
 module _ (C : List ℕ) where
@@ -150,14 +150,14 @@ module _ (C : List ℕ) where
 
   -- ---- of a node's family
 
-  pub cheap-alone : (p : ℕ) (F1 : Family) → 0 < length F1 → cheapest C (join p F1 []) ≡ p ∷ cheapest C F1
+  pub cheap-alone : (p : ℕ) (F1 : Family) → 0 < length F1 → cheapest C (fork p F1 []) ≡ p ∷ cheapest C F1
   cheap-alone p [] h = absurd (not-suc-le-zero h)
   cheap-alone p (u ∷ F1) h =
       ap (cheapest C) (append-nil (map (λ (t : List ℕ). p ∷ t) (u ∷ F1)))
       ∙ cheapest-best (p ∷ u) (map (λ (t : List ℕ). p ∷ t) F1) ∙ best-map p u F1 ∙ ap (λ (s : List ℕ). p ∷ s) (sym (cheapest-best u F1))
 
   cheap-both : (p : ℕ) (F1 F0 : Family) → 0 < length F1 → 0 < length F0
-      → cheapest C (join p F1 F0) ≡ cheaper (p ∷ cheapest C F1) (cheapest C F0)
+      → cheapest C (fork p F1 F0) ≡ cheaper (p ∷ cheapest C F1) (cheapest C F0)
   cheap-both p [] F0 h k = absurd (not-suc-le-zero h)
   cheap-both p (u ∷ F1) [] h k = absurd (not-suc-le-zero k)
   cheap-both p (u ∷ F1) (v ∷ F0) h k =
@@ -166,11 +166,11 @@ module _ (C : List ℕ) where
       ∙ ap₂ cheaper (best-map p u F1 ∙ ap (λ (s : List ℕ). p ∷ s) (sym (cheapest-best u F1))) (sym (cheapest-best v F0))
 
   pub cheap-hi : (p : ℕ) (F1 F0 : Family) → 0 < length F1 → 0 < length F0
-      → getD C p 0 + cost C (cheapest C F1) ≤ cost C (cheapest C F0) → cheapest C (join p F1 F0) ≡ p ∷ cheapest C F1
+      → getD C p 0 + cost C (cheapest C F1) ≤ cost C (cheapest C F0) → cheapest C (fork p F1 F0) ≡ p ∷ cheapest C F1
   cheap-hi p F1 F0 h k l =
       cheap-both p F1 F0 h k ∙ cheaper-first (p ∷ cheapest C F1) (cheapest C F0) (omega (arith, cost-cons p (cheapest C F1)))
 
   pub cheap-lo : (p : ℕ) (F1 F0 : Family) → 0 < length F1 → 0 < length F0
-      → cost C (cheapest C F0) < getD C p 0 + cost C (cheapest C F1) → cheapest C (join p F1 F0) ≡ cheapest C F0
+      → cost C (cheapest C F0) < getD C p 0 + cost C (cheapest C F1) → cheapest C (fork p F1 F0) ≡ cheapest C F0
   cheap-lo p F1 F0 h k l =
       cheap-both p F1 F0 h k ∙ cheaper-second (p ∷ cheapest C F1) (cheapest C F0) (omega (arith, cost-cons p (cheapest C F1)))

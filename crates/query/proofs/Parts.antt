@@ -4,7 +4,7 @@ use mathlib.Core.List.{List, [], _∷_, map}
 use Prim.Native.Nat.{ℕ, suc, _+_, _-_, _*_, _<_}
 use native.Mathlib.Omega.{arith}
 use lib.ListN.{length, length-append, length-map}
-use Rattle.zdd.specs.Table.{Family, join, count, nodesOf, key, Fine}
+use Rattle.zdd.specs.Table.{Family, fork, count, nodesOf, key, Fine}
 use Rattle.zdd.proofs.Words.{at-word, length-nodes}
 use Rattle.zdd.proofs.Grow.{family-zero, family-one}
 use Rattle.zdd.proofs.Canon.{family-some}
@@ -13,8 +13,8 @@ use Rattle.zdd.proofs.TableLaws.{fine-at, family-at}
 use Rattle.query.specs.Questions.{familyAt}
 use Rattle.query.specs.Reading.{labelOf, loOf, hiOf, Readable, Branch}
 
-pub length-join : (p : ℕ) (F1 F0 : Family) → length (join p F1 F0) ≡ length F1 + length F0
-length-join p F1 F0 =
+pub length-fork : (p : ℕ) (F1 F0 : Family) → length (fork p F1 F0) ≡ length F1 + length F0
+length-fork p F1 F0 =
     length-append (map (λ (t : List ℕ). p ∷ t) F1) F0 ∙ ap (λ (n : ℕ). n + length F0) (length-map F1 (λ (t : List ℕ). p ∷ t))
 
 some-length : (F : Family) → (F ≡ [] → ⊥) → 0 < length F
@@ -27,7 +27,7 @@ pub record Parts (t : List ℕ) (k : ℕ) : Type 0 where
   pub hi-some : 0 < hiOf t k
   pub lo-below : loOf t k < k
   pub label-small : labelOf t k < 65536
-  pub split : familyAt t k ≡ join (labelOf t k) (familyAt t (hiOf t k)) (familyAt t (loOf t k))
+  pub split : familyAt t k ≡ fork (labelOf t k) (familyAt t (hiOf t k)) (familyAt t (loOf t k))
   pub size : length (familyAt t k) ≡ length (familyAt t (hiOf t k)) + length (familyAt t (loOf t k))
   pub apart : Avoids (labelOf t k) (familyAt t (loOf t k))
 
@@ -52,14 +52,14 @@ module _ {t : List ℕ} (R : Readable t) where
   parts k l h =
       let a : ℕ = 1 + 3 * (k - 2) in
       let f : Fine (R .keys) (nodesOf t) (k - 2) (at-word t a) = fine-at (R .sound) k a (omega arith) h refl in
-      let e : familyAt t k ≡ join (labelOf t k) (familyAt t (hiOf t k)) (familyAt t (loOf t k)) = family-at (R .sound) k a (omega arith) h refl in
+      let e : familyAt t k ≡ fork (labelOf t k) (familyAt t (hiOf t k)) (familyAt t (loOf t k)) = family-at (R .sound) k a (omega arith) h refl in
       record {
         hi-below = omega (arith, f .hi-below);
         hi-some = f .hi-some;
         lo-below = omega (arith, f .lo-below);
         label-small = omega (arith, f .label-known, R .few);
         split = e;
-        size = ap length e ∙ length-join (labelOf t k) (familyAt t (hiOf t k)) (familyAt t (loOf t k));
+        size = ap length e ∙ length-fork (labelOf t k) (familyAt t (hiOf t k)) (familyAt t (loOf t k));
         apart =
             from-avoids (R .keys) (suc (key (R .keys) (labelOf t k))) (labelOf t k) (familyAt t (loOf t k))
             (family-from (R .sound .nodes) (loOf t k) (omega (arith, f .lo-below, length-nodes t)) (suc (key (R .keys) (labelOf t k))) (f .lo-after)) (omega arith);

@@ -12,8 +12,8 @@ use lib.ListN.{length, getD, drop, drop-of-length-le}
 use lib.Seq.{drop-cons, drop-length}
 use borrow.Author.Tests.{ne-eqb}
 use Rattle.base.proofs.Bools.{never, cases, eqb-same}
-use Rattle.zdd.specs.Table.{Family, join, count, eqSet, elem}
-use Rattle.zdd.proofs.Member.{avoids-at, elem-append, elem-nil-map, elem-cons-map, elem-join-cons}
+use Rattle.zdd.specs.Table.{Family, fork, count, eqSet, elem}
+use Rattle.zdd.proofs.Member.{avoids-at, elem-append, elem-nil-map, elem-cons-map, elem-fork-cons}
 use Rattle.query.specs.Questions.{familyAt, position}
 use Rattle.query.specs.Reading.{labelOf, loOf, hiOf, Readable, Filled, stored, countWord}
 use Rattle.query.proofs.Parts.{Parts, parts, some, at-zero, at-one}
@@ -33,15 +33,15 @@ or-false false b e = (refl, e)
 
 -- a set that is not among hi's stands among lo's, behind all of hi's
 position-behind : (s : List ℕ) (p : ℕ) (F1 F0 : Family) → elem s (map (λ (t : List ℕ). p ∷ t) F1) ≡ false
-    → position s (join p F1 F0) ≡ length F1 + position s F0
+    → position s (fork p F1 F0) ≡ length F1 + position s F0
 unfolding elem
 position-behind s p [] F0 e = omega arith
 position-behind s p (t ∷ F1) F0 e =
     let d = or-false (eqSet s (p ∷ t)) (elem s (map (λ (t : List ℕ). p ∷ t) F1)) e in
-    position-later s (p ∷ t) (join p F1 F0) (d .0) ∙ omega (arith, position-behind s p F1 F0 (d .1))
+    position-later s (p ∷ t) (fork p F1 F0) (d .0) ∙ omega (arith, position-behind s p F1 F0 (d .1))
 
 -- a set that is among hi's stands where it stands there
-position-front : (s : List ℕ) (p : ℕ) (F1 F0 : Family) → elem s F1 ≡ true → position (p ∷ s) (join p F1 F0) ≡ position s F1
+position-front : (s : List ℕ) (p : ℕ) (F1 F0 : Family) → elem s F1 ≡ true → position (p ∷ s) (fork p F1 F0) ≡ position s F1
 unfolding elem eqSet
 position-front s p [] F0 e = absurd (never e refl)
 position-front s p (t ∷ F1) F0 e = go (cases (eqSet s t)) (position-front s p F1 F0)
@@ -49,11 +49,11 @@ position-front s p (t ∷ F1) F0 e = go (cases (eqSet s t)) (position-front s p 
     same : eqSet (p ∷ s) (p ∷ t) ≡ eqSet s t
     same = ap (λ (b : Bool). b && eqSet s t) (eqb-same p)
 
-    go : (eqSet s t ≡ true) ⊎ (eqSet s t ≡ false) → (elem s F1 ≡ true → position (p ∷ s) (join p F1 F0) ≡ position s F1)
-        → position (p ∷ s) (join p (t ∷ F1) F0) ≡ position s (t ∷ F1)
-    go (inl q) ih = position-here (p ∷ s) (p ∷ t) (join p F1 F0) (same ∙ q) ∙ sym (position-here s t F1 q)
+    go : (eqSet s t ≡ true) ⊎ (eqSet s t ≡ false) → (elem s F1 ≡ true → position (p ∷ s) (fork p F1 F0) ≡ position s F1)
+        → position (p ∷ s) (fork p (t ∷ F1) F0) ≡ position s (t ∷ F1)
+    go (inl q) ih = position-here (p ∷ s) (p ∷ t) (fork p F1 F0) (same ∙ q) ∙ sym (position-here s t F1 q)
     go (inr q) ih =
-        position-later (p ∷ s) (p ∷ t) (join p F1 F0) (same ∙ q) ∙ ap suc (ih (rw q at e)) ∙ sym (position-later s t F1 q)
+        position-later (p ∷ s) (p ∷ t) (fork p F1 F0) (same ∙ q) ∙ ap suc (ih (rw q at e)) ∙ sym (position-later s t F1 q)
 
 -- i packages of s are passed, and k sets
 pub record Seek (t : List ℕ) (a : ℕ) (s : List ℕ) (node i k : ℕ) : Type 0 where
@@ -110,8 +110,8 @@ module _ {t : List ℕ} (R : Readable t) {a : ℕ} {s : List ℕ} {node i k : �
       let u : List ℕ = drop (i + 1) s in
       let g : familyAt t h ≡ F1 = ap (familyAt t) e in
       let d : drop i s ≡ p ∷ u = drop-cons s i 0 l ∙ ap₂ (λ (x j : ℕ). x ∷ drop j s) q (sym (add-one i)) in
-      let m : elem (p ∷ u) (join p F1 F0) ≡ elem u F1 =
-      elem-join-cons p p u F1 F0 ∙ only (eqb p p) (elem u F1) (elem (p ∷ u) F0) (eqb-same p) (avoids-at p F0 (P .apart) u) in
+      let m : elem (p ∷ u) (fork p F1 F0) ≡ elem u F1 =
+      elem-fork-cons p p u F1 F0 ∙ only (eqb p p) (elem u F1) (elem (p ∷ u) F0) (eqb-same p) (avoids-at p F0 (P .apart) u) in
       let same : elem s (familyAt t a) ≡ elem u F1 = S .same ∙ ap₂ elem d (P .split) ∙ m in
       record {
         within = omega (arith, P .hi-below, S .within);

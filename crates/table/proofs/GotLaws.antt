@@ -11,7 +11,7 @@ use lib.Dec.{eqb}
 use lib.ListN.{length, getD, drop, length-drop}
 use lib.Seq.{getD-drop}
 use borrow.Author.Tests.{eqb-true, eqb-false}
-use Rattle.zdd.specs.Table.{Node, blank, Family, join, count, capacity, nodesOf, family, Fine}
+use Rattle.zdd.specs.Table.{Node, blank, Family, fork, count, capacity, nodesOf, family, Fine}
 use Rattle.zdd.specs.Work.{Got}
 use Rattle.base.proofs.Bools.{by-test}
 use Rattle.zdd.proofs.Words.{length-nodes}
@@ -29,7 +29,7 @@ module _ {K t t′ heads′ next′ : List ℕ} {x : Node} {r : ℕ} (y : May K 
   fine = subst (λ (k : ℕ). Fine K (nodesOf t) k x) (sym (length-nodes t)) (y .fine)
 
   abbrev F : Family
-  F = join (x .label) (family (nodesOf t) (x .hi)) (family (nodesOf t) (x .lo))
+  F = fork (x .label) (family (nodesOf t) (x .hi)) (family (nodesOf t) (x .lo))
 
   none : r ≡ 0 → Got K c (nodesOf t) false r (nodesOf t′) true F
   none z =

@@ -8,7 +8,7 @@ use lib.Dec.{leb}
 use lib.ListN.{length, getD, set}
 use lib.Seq.{getD-at}
 use borrow.Author.Tests.{leb-true, leb-false}
-use Rattle.zdd.specs.Table.{Node, node, blank, join, count, capacity, nodesOf, family, Fine, Sound}
+use Rattle.zdd.specs.Table.{Node, node, blank, fork, count, capacity, nodesOf, family, Fine, Sound}
 use Rattle.zdd.proofs.Grow.{family-node}
 use Rattle.zdd.proofs.Words.{length-nodes, Appended, appended-nodes, appended-sound, stored}
 use Rattle.zdd.proofs.TableLaws.{appended-new}
@@ -79,7 +79,7 @@ made-old {t} {heads} {next} {x} {r} d f p K m =
       denotes = λ h.
           ap (family (nodesOf t)) z
           ∙ family-node (nodesOf t) i w (y .lo-below) (y .hi-below)
-          ∙ ap (λ (v : Node). join (v .label) (family (nodesOf t) (v .hi)) (family (nodesOf t) (v .lo))) same;
+          ∙ ap (λ (v : Node). fork (v .label) (family (nodesOf t) (v .hi)) (family (nodesOf t) (v .lo))) same;
     }
 
 -- ---- the node is appended

@@ -4,7 +4,7 @@ use mathlib.Core.Bool.{Bool, true, false}
 use mathlib.Core.List.{List}
 use Prim.Native.Nat.{ℕ, _+_, _-_, _*_, _/_, _%_, _<_, _≤_}
 use lib.ListN.{length, getD, take}
-use Rattle.zdd.specs.Table.{Node, blank, join, count, capacity, nodesOf, family, Fine, Sound, soundb}
+use Rattle.zdd.specs.Table.{Node, blank, fork, count, capacity, nodesOf, family, Fine, Sound, soundb}
 use Rattle.buckets.specs.Chain.{Index}
 
 -- r says whether P holds
@@ -97,7 +97,7 @@ pub record Made (K t t′ heads′ next′ : List ℕ) (x : Node) (r : ℕ) : Ty
   pub next : count t + 2 ≤ r → (r ≡ count t + 2) × ((count t′ ≡ count t + 1) × Absent t x)
   -- what the number stands for
   pub node : 0 < r → (2 ≤ r) × (getD (nodesOf t′) (r - 2) blank ≡ x)
-  pub denotes : 0 < r → family (nodesOf t′) r ≡ join (x .label) (family (nodesOf t) (x .hi)) (family (nodesOf t) (x .lo))
+  pub denotes : 0 < r → family (nodesOf t′) r ≡ fork (x .label) (family (nodesOf t) (x .hi)) (family (nodesOf t) (x .lo))
 
 -- what unique ensures, whatever the keys
 abbrev pub Unique : List ℕ → List ℕ → List ℕ → List ℕ → Node → ℕ → Type 0

@@ -5,7 +5,7 @@ use Prim.Native.Nat.{ℕ, zero, suc, _<_}
 use native.Mathlib.Omega.{arith}
 use lib.ListN.{length, getD}
 use Rattle.base.proofs.Bools.{never}
-use Rattle.zdd.specs.Table.{Node, node, blank, Family, join, family, key, Fine, Nodes, elem}
+use Rattle.zdd.specs.Table.{Node, node, blank, Family, fork, family, key, Fine, Nodes, elem}
 use Rattle.zdd.proofs.Grow.{family-ind, downward, family-node, family-zero, family-one}
 use Rattle.zdd.proofs.Member.{Avoids, avoids-at, from-avoids, family-from, elem-head}
 
@@ -13,28 +13,28 @@ use Rattle.zdd.proofs.Member.{Avoids, avoids-at, from-avoids, family-fr
 not-both : (p : ℕ) (t : List ℕ) (F G : Family) → Avoids p F → F ≡ (p ∷ t) ∷ G → ⊥
 not-both p t F G a e = never (ap (λ (H : Family). elem (p ∷ t) H) e ∙ elem-head (p ∷ t) G) (avoids-at p F a t)
 
--- a join that begins with p is taken apart in one way
-cut : (p : ℕ) (F1 F0 G1 G0 : Family) → Avoids p F0 → Avoids p G0 → join p F1 F0 ≡ join p G1 G0 → (F1 ≡ G1) × (F0 ≡ G0)
+-- a fork that begins with p is taken apart in one way
+cut : (p : ℕ) (F1 F0 G1 G0 : Family) → Avoids p F0 → Avoids p G0 → fork p F1 F0 ≡ fork p G1 G0 → (F1 ≡ G1) × (F0 ≡ G0)
 cut p [] F0 [] G0 a b e = (refl, e)
-cut p [] F0 (g ∷ G1) G0 a b e = absurd (not-both p g F0 (join p G1 G0) a e)
-cut p (f ∷ F1) F0 [] G0 a b e = absurd (not-both p f G0 (join p F1 F0) b (sym e))
+cut p [] F0 (g ∷ G1) G0 a b e = absurd (not-both p g F0 (fork p G1 G0) a e)
+cut p (f ∷ F1) F0 [] G0 a b e = absurd (not-both p f G0 (fork p F1 F0) b (sym e))
 cut p (f ∷ F1) F0 (g ∷ G1) G0 a b e =
     let r : (F1 ≡ G1) × (F0 ≡ G0) = cut p F1 F0 G1 G0 a b (tail-eq-of-cons-eq e) in
     (ap₂ (λ (x : List ℕ) (xs : Family). x ∷ xs) (tail-eq-of-cons-eq (head-eq-of-cons-eq e)) (r .0), r .1)
 
--- two joins that are one, each by its label: the labels are one
-labels : (p q : ℕ) (F1 F0 G1 G0 : Family) → (F1 ≡ [] → ⊥) → (G1 ≡ [] → ⊥) → join p F1 F0 ≡ join q G1 G0 → p ≡ q
+-- two forks that are one, each by its label: the labels are one
+labels : (p q : ℕ) (F1 F0 G1 G0 : Family) → (F1 ≡ [] → ⊥) → (G1 ≡ [] → ⊥) → fork p F1 F0 ≡ fork q G1 G0 → p ≡ q
 labels p q [] F0 G1 G0 a b e = absurd (a refl)
 labels p q (f ∷ F1) F0 [] G0 a b e = absurd (b refl)
 labels p q (f ∷ F1) F0 (g ∷ G1) G0 a b e = head-eq-of-cons-eq (head-eq-of-cons-eq e)
 
-join-some : (p : ℕ) (F1 F0 : Family) → (F1 ≡ [] → ⊥) → join p F1 F0 ≡ [] → ⊥
-join-some p [] F0 a e = a refl
-join-some p (f ∷ F1) F0 a e = cons≢nil e
+fork-some : (p : ℕ) (F1 F0 : Family) → (F1 ≡ [] → ⊥) → fork p F1 F0 ≡ [] → ⊥
+fork-some p [] F0 a e = a refl
+fork-some p (f ∷ F1) F0 a e = cons≢nil e
 
-join-not-one : (p : ℕ) (F1 F0 : Family) → (F1 ≡ [] → ⊥) → join p F1 F0 ≡ [] ∷ [] → ⊥
-join-not-one p [] F0 a e = a refl
-join-not-one p (f ∷ F1) F0 a e = cons≢nil (head-eq-of-cons-eq e)
+fork-not-one : (p : ℕ) (F1 F0 : Family) → (F1 ≡ [] → ⊥) → fork p F1 F0 ≡ [] ∷ [] → ⊥
+fork-not-one p [] F0 a e = a refl
+fork-not-one p (f ∷ F1) F0 a e = cons≢nil (head-eq-of-cons-eq e)
 
 -- only number 0 has no set
 pub family-some : {K : List ℕ} {ns : List Node} → Nodes K ns → (k : ℕ) → k < suc (suc (length ns)) → 0 < k → family ns k ≡ [] → ⊥
@@ -42,14 +42,14 @@ family-some {K} {ns} n k h =
     family-ind ns (downward n) (λ k F. 0 < k → F ≡ [] → ⊥)
     (λ z e. omega arith)
     (λ z e. cons≢nil e)
-    (λ i w r l z e. join-some (getD ns i blank .label) (family ns (getD ns i blank .hi)) (family ns (getD ns i blank .lo)) (r (n .each i w .hi-some)) e)
+    (λ i w r l z e. fork-some (getD ns i blank .label) (family ns (getD ns i blank .hi)) (family ns (getD ns i blank .lo)) (r (n .each i w .hi-some)) e)
     k h
 
 module _ {K : List ℕ} {ns : List Node} (n : Nodes K ns) where
   -- what two nodes with one family have in common, their children's families told apart
   parts : (i j : ℕ) → i < length ns → j < length ns
-      → join (getD ns i blank .label) (family ns (getD ns i blank .hi)) (family ns (getD ns i blank .lo))
-      ≡ join (getD ns j blank .label) (family ns (getD ns j blank .hi)) (family ns (getD ns j blank .lo))
+      → fork (getD ns i blank .label) (family ns (getD ns i blank .hi)) (family ns (getD ns i blank .lo))
+      ≡ fork (getD ns j blank .label) (family ns (getD ns j blank .hi)) (family ns (getD ns j blank .lo))
       → (getD ns i blank .label ≡ getD ns j blank .label)
       × (family ns (getD ns i blank .hi) ≡ family ns (getD ns j blank .hi))
       × (family ns (getD ns i blank .lo) ≡ family ns (getD ns j blank .lo))
@@ -72,7 +72,7 @@ module _ {K : List ℕ} {ns : List Node} (n : Nodes K ns) where
       let r : (family ns (x .hi) ≡ family ns (y .hi)) × (family ns (x .lo) ≡ family ns (y .lo)) =
       cut (x .label) (family ns (x .hi)) (family ns (x .lo)) (family ns (y .hi)) (family ns (y .lo))
       ax (subst (λ (p : ℕ). Avoids p (family ns (y .lo))) (sym same) ay)
-      (e ∙ ap (λ (p : ℕ). join p (family ns (y .hi)) (family ns (y .lo))) (sym same)) in
+      (e ∙ ap (λ (p : ℕ). fork p (family ns (y .hi)) (family ns (y .lo))) (sym same)) in
       (same, r .0, r .1)
 
   -- each number is told by its family
@@ -86,7 +86,7 @@ module _ {K : List ℕ} {ns : List Node} (n : Nodes K ns) where
       zeros (suc j) b e = absurd (family-some n (suc j) b (omega arith) (sym e))
 
       node-eq : (j : ℕ) → j < length ns
-          → family ns (suc (suc j)) ≡ join (getD ns j blank .label) (family ns (getD ns j blank .hi)) (family ns (getD ns j blank .lo))
+          → family ns (suc (suc j)) ≡ fork (getD ns j blank .label) (family ns (getD ns j blank .hi)) (family ns (getD ns j blank .lo))
       node-eq j w = family-node ns j w (n .each j w .lo-below) (n .each j w .hi-below)
 
       some-hi : (j : ℕ) → j < length ns → family ns (getD ns j blank .hi) ≡ [] → ⊥
@@ -96,19 +96,19 @@ module _ {K : List ℕ} {ns : List Node} (n : Nodes K ns) where
       ones zero b e = absurd (cons≢nil (e ∙ family-zero ns))
       ones (suc zero) b e = refl
       ones (suc (suc j)) b e =
-          absurd (join-not-one (getD ns j blank .label) (family ns (getD ns j blank .hi)) (family ns (getD ns j blank .lo))
+          absurd (fork-not-one (getD ns j blank .label) (family ns (getD ns j blank .hi)) (family ns (getD ns j blank .lo))
           (some-hi j (omega arith)) (sym (e ∙ node-eq j (omega arith))))
 
       steps : (i : ℕ) → i < length ns
           → ((j : ℕ) → j < suc (suc (length ns)) → family ns (getD ns i blank .hi) ≡ family ns j → getD ns i blank .hi ≡ j)
           → ((j : ℕ) → j < suc (suc (length ns)) → family ns (getD ns i blank .lo) ≡ family ns j → getD ns i blank .lo ≡ j)
           → (j : ℕ) → j < suc (suc (length ns))
-          → join (getD ns i blank .label) (family ns (getD ns i blank .hi)) (family ns (getD ns i blank .lo)) ≡ family ns j
+          → fork (getD ns i blank .label) (family ns (getD ns i blank .hi)) (family ns (getD ns i blank .lo)) ≡ family ns j
           → suc (suc i) ≡ j
       steps i w r l zero b e =
-          absurd (join-some (getD ns i blank .label) (family ns (getD ns i blank .hi)) (family ns (getD ns i blank .lo)) (some-hi i w) (e ∙ family-zero ns))
+          absurd (fork-some (getD ns i blank .label) (family ns (getD ns i blank .hi)) (family ns (getD ns i blank .lo)) (some-hi i w) (e ∙ family-zero ns))
       steps i w r l (suc zero) b e =
-          absurd (join-not-one (getD ns i blank .label) (family ns (getD ns i blank .hi)) (family ns (getD ns i blank .lo)) (some-hi i w) (e ∙ family-one ns))
+          absurd (fork-not-one (getD ns i blank .label) (family ns (getD ns i blank .hi)) (family ns (getD ns i blank .lo)) (some-hi i w) (e ∙ family-one ns))
       steps i w r l (suc (suc j)) b e =
           let v : j < length ns = omega arith in
           let p = parts i j w v (e ∙ node-eq j v) in

@@ -11,7 +11,7 @@ use lib.Dec.{eqb}
 use lib.ListN.{length, getD, length-append}
 use lib.Seq.{getD-append-add}
 use Rattle.base.proofs.Bools.{never, is-false, cases, and-left, and-right, and-both, or-cases, or-left, or-right, eqb-same}
-use Rattle.zdd.specs.Table.{Node, blank, Family, join, families, family, eqSet, elem, key, Nodes, _∈_}
+use Rattle.zdd.specs.Table.{Node, blank, Family, fork, families, family, eqSet, elem, key, Nodes, _∈_}
 use Rattle.zdd.proofs.Member.{Avoids, avoids-at, from-avoids, family-from, eqSet-same, eqSet-eq}
 use Rattle.zdd.proofs.Grow.{length-families, families-append, family-ind, downward, family-node}
 use Rattle.zdd.proofs.Canon.{family-some, canonical}
@@ -244,19 +244,19 @@ others-all p ((q ∷ t) ∷ F) h = go (eqb p q) refl (others-all p F (λ u. rest
     go true e ih = absurd (never (or-left (eqSet (p ∷ t) (q ∷ t)) (elem (p ∷ t) F) (and-both (eqb p q) (eqSet t t) e (eqSet-same t))) (h t))
     go false e ih = ap (λ (G : Family). (q ∷ t) ∷ G) ih
 
-starting-join : (p : ℕ) (F1 F0 : Family) → Avoids p F0 → starting p (join p F1 F0) ≡ F1
-starting-join p [] F0 a = starting-none p F0 (avoids-at p F0 a)
-starting-join p (s ∷ F1) F0 a = starting-first p s (join p F1 F0) ∙ ap (λ (G : Family). s ∷ G) (starting-join p F1 F0 a)
+starting-fork : (p : ℕ) (F1 F0 : Family) → Avoids p F0 → starting p (fork p F1 F0) ≡ F1
+starting-fork p [] F0 a = starting-none p F0 (avoids-at p F0 a)
+starting-fork p (s ∷ F1) F0 a = starting-first p s (fork p F1 F0) ∙ ap (λ (G : Family). s ∷ G) (starting-fork p F1 F0 a)
 
-others-join : (p : ℕ) (F1 F0 : Family) → Avoids p F0 → others p (join p F1 F0) ≡ F0
-others-join p [] F0 a = others-all p F0 (avoids-at p F0 a)
-others-join p (s ∷ F1) F0 a = others-first p s (join p F1 F0) ∙ others-join p F1 F0 a
+others-fork : (p : ℕ) (F1 F0 : Family) → Avoids p F0 → others p (fork p F1 F0) ≡ F0
+others-fork p [] F0 a = others-all p F0 (avoids-at p F0 a)
+others-fork p (s ∷ F1) F0 a = others-first p s (fork p F1 F0) ∙ others-fork p F1 F0 a
 
-pub branches-join : (p : ℕ) (F1 F0 : Family) → (F1 ≡ [] → ⊥) → Avoids p F0 → branches (join p F1 F0) ≡ join p F1 F0 ∷ (branches F1 ++ branches F0)
-branches-join p [] F0 n a = absurd (n refl)
-branches-join p (s ∷ F1) F0 n a =
-    branches-cons p s (join p F1 F0)
-    ∙ ap₂ (λ (G H : Family). ((p ∷ s) ∷ join p F1 F0) ∷ (branches G ++ branches H)) (starting-join p (s ∷ F1) F0 a) (others-join p (s ∷ F1) F0 a)
+pub branches-fork : (p : ℕ) (F1 F0 : Family) → (F1 ≡ [] → ⊥) → Avoids p F0 → branches (fork p F1 F0) ≡ fork p F1 F0 ∷ (branches F1 ++ branches F0)
+branches-fork p [] F0 n a = absurd (n refl)
+branches-fork p (s ∷ F1) F0 n a =
+    branches-cons p s (fork p F1 F0)
+    ∙ ap₂ (λ (G H : Family). ((p ∷ s) ∷ fork p F1 F0) ∷ (branches G ++ branches H)) (starting-fork p (s ∷ F1) F0 a) (others-fork p (s ∷ F1) F0 a)
 
 pub branches-nil : branches [] ≡ []
 unfolding branches branchesTo weight
@@ -283,7 +283,7 @@ branch-known {K} {ns} n k h =
     ⊎-elim
     (λ e. (suc (suc i), omega arith, e ∙ sym (family-node ns i w (f .lo-below) (f .hi-below))))
     (λ c. ⊎-elim (r G) (l G) (List·Memᴰ·append-cases (branches (family ns (x .hi))) c))
-    (List·Memᴰ·cases-cons (subst (λ (q : List Family). G ∈ q) (branches-join (x .label) (family ns (x .hi)) (family ns (x .lo)) some a) m)))
+    (List·Memᴰ·cases-cons (subst (λ (q : List Family). G ∈ q) (branches-fork (x .label) (family ns (x .hi)) (family ns (x .lo)) some a) m)))
     k h
 
 -- ---- the growth of a table

@@ -9,7 +9,7 @@ use native.Mathlib.Omega.{arith}
 use lib.Dec.{ltb}
 use lib.ListN.{length, getD, take, length-append}
 use Rattle.base.proofs.Bools.{never}
-use Rattle.zdd.specs.Table.{Node, blank, Family, join, count, capacity, nodesOf, family, Fine, Nodes, Sound}
+use Rattle.zdd.specs.Table.{Node, blank, Family, fork, count, capacity, nodesOf, family, Fine, Nodes, Sound}
 use Rattle.zdd.proofs.Grow.{family-zero, family-new}
 use Rattle.zdd.proofs.Extend.{nodes-append}
 use Rattle.zdd.proofs.Words.{length-nodes}
@@ -32,7 +32,7 @@ got-idle c {ns} k F n h = record { sound = n; known = h; work = worked-start c n
 
 -- the node is made, or there is no room for it
 module _ {K : List ℕ} (c : ℕ) {ns : List Node} (n : Nodes K ns) (x : Node) (f : Fine K ns (length ns) x) (fresh : (i : ℕ) → i < length ns → getD ns i blank ≡ x → ⊥) where
-  pub got-made : Got K c ns false (suc (suc (length ns))) (ns ++ (x ∷ [])) false (join (x .label) (family ns (x .hi)) (family ns (x .lo)))
+  pub got-made : Got K c ns false (suc (suc (length ns))) (ns ++ (x ∷ [])) false (fork (x .label) (family ns (x .hi)) (family ns (x .lo)))
   got-made = record {
     sound = nodes-append K ns x n f fresh;
     known = omega (arith, length-append ns (x ∷ []));
@@ -40,12 +40,12 @@ module _ {K : List ℕ} (c : ℕ) {ns : List Node} (n : Nodes K ns) (x : Node) (
     holds = λ e. family-new ns x;
   }
 
-  pub got-full : (k : ℕ) → k < suc (suc (length ns)) → c ≤ length ns → Got K c ns false k ns true (join (x .label) (family ns (x .hi)) (family ns (x .lo)))
+  pub got-full : (k : ℕ) → k < suc (suc (length ns)) → c ≤ length ns → Got K c ns false k ns true (fork (x .label) (family ns (x .hi)) (family ns (x .lo)))
   got-full k h r = record { sound = n; known = h; work = worked-full n x f c fresh r; holds = λ e. absurd (never refl e) }
 
 -- hi, then lo, then the node
 pub got-split : {K : List ℕ} {c p h l k : ℕ} {ns n1 n0 ns′ : List Node} {b b1 b0 b′ : Bool} {R R1 R0 : Family} → Split K R p R1 R0
-    → Got K c ns b h n1 b1 R1 → Got K c n1 b1 l n0 b0 R0 → Got K c n0 b0 k ns′ b′ (join p (family n0 h) (family n0 l)) → Got K c ns b k ns′ b′ R
+    → Got K c ns b h n1 b1 R1 → Got K c n1 b1 l n0 b0 R0 → Got K c n0 b0 k ns′ b′ (fork p (family n0 h) (family n0 l)) → Got K c ns b k ns′ b′ R
 got-split {K} {c} {p} {h} {l} {k} {ns} {n1} {n0} {ns′} {b} {b1} {b0} {b′} {R} {R1} {R0} s g1 g0 g = record {
   sound = g .sound;
   known = g .known;
@@ -53,12 +53,12 @@ got-split {K} {c} {p} {h} {l} {k} {ns} {n1} {n0} {ns′} {b} {b1} {b0} {b′} {R
   holds = λ e. g .holds e ∙ parts (worked-calm (g .work) e) ∙ sym (s .is);
 }
   where
-    parts : b0 ≡ false → join p (family n0 h) (family n0 l) ≡ join p R1 R0
-    parts e = ap₂ (join p) (nowaste-keeps (g0 .work .nowaste) h (g1 .known) ∙ g1 .holds (worked-calm (g0 .work) e)) (g0 .holds e)
+    parts : b0 ≡ false → fork p (family n0 h) (family n0 l) ≡ fork p R1 R0
+    parts e = ap₂ (fork p) (nowaste-keeps (g0 .work .nowaste) h (g1 .known) ∙ g1 .holds (worked-calm (g0 .work) e)) (g0 .holds e)
 
 -- lo, then hi, then the node
 pub got-split-lo : {K : List ℕ} {c p h l k : ℕ} {ns n1 n0 ns′ : List Node} {b b1 b0 b′ : Bool} {R R1 R0 : Family} → Split K R p R1 R0
-    → Got K c ns b l n0 b0 R0 → Got K c n0 b0 h n1 b1 R1 → Got K c n1 b1 k ns′ b′ (join p (family n1 h) (family n1 l)) → Got K c ns b k ns′ b′ R
+    → Got K c ns b l n0 b0 R0 → Got K c n0 b0 h n1 b1 R1 → Got K c n1 b1 k ns′ b′ (fork p (family n1 h) (family n1 l)) → Got K c ns b k ns′ b′ R
 got-split-lo {K} {c} {p} {h} {l} {k} {ns} {n1} {n0} {ns′} {b} {b1} {b0} {b′} {R} {R1} {R0} s g0 g1 g = record {
   sound = g .sound;
   known = g .known;
@@ -66,19 +66,19 @@ got-split-lo {K} {c} {p} {h} {l} {k} {ns} {n1} {n0} {ns′} {b} {b1} {b0} {b′}
   holds = λ e. g .holds e ∙ parts (worked-calm (g .work) e) ∙ sym (s .is);
 }
   where
-    parts : b1 ≡ false → join p (family n1 h) (family n1 l) ≡ join p R1 R0
-    parts e = ap₂ (join p) (g1 .holds e) (nowaste-keeps (g1 .work .nowaste) l (g0 .known) ∙ g0 .holds (worked-calm (g1 .work) e))
+    parts : b1 ≡ false → fork p (family n1 h) (family n1 l) ≡ fork p R1 R0
+    parts e = ap₂ (fork p) (g1 .holds e) (nowaste-keeps (g1 .work .nowaste) l (g0 .known) ∙ g0 .holds (worked-calm (g1 .work) e))
 
 -- the number of hi is 0: no node, and the number is lo's
 pub got-none : {K : List ℕ} {c p l : ℕ} {ns n1 n0 : List Node} {b b1 b0 : Bool} {R R1 R0 : Family} → Split K R p R1 R0
     → Got K c ns b 0 n1 b1 R1 → Got K c n1 b1 l n0 b0 R0 → Got K c ns b l n0 b0 R
 got-none {K} {c} {p} {l} {ns} {n1} {n0} {b} {b1} {b0} s g1 g0 =
-    got-split s g1 g0 (got-eq (ap (λ (F : Family). join p F (family n0 l)) (sym (family-zero n0))) (got-there c b0 l (g0 .sound) (g0 .known)))
+    got-split s g1 g0 (got-eq (ap (λ (F : Family). fork p F (family n0 l)) (sym (family-zero n0))) (got-there c b0 l (g0 .sound) (g0 .known)))
 
 pub got-none-lo : {K : List ℕ} {c p l : ℕ} {ns n1 n0 : List Node} {b b1 b0 : Bool} {R R1 R0 : Family} → Split K R p R1 R0
     → Got K c ns b l n0 b0 R0 → Got K c n0 b0 0 n1 b1 R1 → Got K c ns b l n1 b1 R
 got-none-lo {K} {c} {p} {l} {ns} {n1} {n0} {b} {b1} {b0} s g0 g1 =
-    got-split-lo s g0 g1 (got-eq (ap (λ (F : Family). join p F (family n1 l)) (sym (family-zero n1)))
+    got-split-lo s g0 g1 (got-eq (ap (λ (F : Family). fork p F (family n1 l)) (sym (family-zero n1)))
     (got-there c b1 l (g1 .sound) (omega (arith, g0 .known, nowaste-length (g1 .work .nowaste)))))
 
 -- ---- a call's contract: t before, t′ after, no flag before

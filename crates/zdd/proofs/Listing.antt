@@ -9,9 +9,9 @@ use lib.Dec.{eqb}
 use lib.ListN.{length, getD}
 use borrow.Author.Tests.{eqb-true, eq-eqb}
 use Rattle.base.proofs.Bools.{never, is-false, or-cases, or-left, or-right, and-left, eqb-same}
-use Rattle.zdd.specs.Table.{Node, blank, Family, join, family, key, Nodes, Keys, elem, eqSet, filter, allSets, sets, order, has}
+use Rattle.zdd.specs.Table.{Node, blank, Family, fork, family, key, Nodes, Keys, elem, eqSet, filter, allSets, sets, order, has}
 use Rattle.zdd.proofs.Grow.{family-ind, downward}
-use Rattle.zdd.proofs.Member.{Avoids, avoids-at, from-avoids, family-from, eqSet-same, eqSet-eq, elem-head, elem-append, join-cases, elem-nil-map, elem-cons-map}
+use Rattle.zdd.proofs.Member.{Avoids, avoids-at, from-avoids, family-from, eqSet-same, eqSet-eq, elem-head, elem-append, fork-cases, elem-nil-map, elem-cons-map}
 use Rattle.zdd.specs.Work.{From}
 use Rattle.zdd.proofs.Sorting.{Sorted, order-sorted, order-all}
 
@@ -87,13 +87,13 @@ part-right : (A B : Family) → Sublistᴰ B (A ++ B)
 part-right [] B = Sublistᴰ·refl B
 part-right (a ∷ A) B = Sublistᴰ·cons (part-right A B)
 
--- a part of a join that avoids the join's label is a part of its second family
-part-avoids : (p : ℕ) (A B F : Family) → Avoids p F → Sublistᴰ F (join p A B) → Sublistᴰ F B
+-- a part of a fork that avoids the fork's label is a part of its second family
+part-avoids : (p : ℕ) (A B F : Family) → Avoids p F → Sublistᴰ F (fork p A B) → Sublistᴰ F B
 part-avoids p [] B F v s = s
 part-avoids p (a ∷ A) B F v s = go (part-avoids p A B F v) (Sublistᴰ·cases-cons s)
   where
-    go : (Sublistᴰ F (join p A B) → Sublistᴰ F B)
-        → Sublistᴰ F (join p A B) ⊎ ((r : Family) × (F ≡ (p ∷ a) ∷ r) × Sublistᴰ r (join p A B)) → Sublistᴰ F B
+    go : (Sublistᴰ F (fork p A B) → Sublistᴰ F B)
+        → Sublistᴰ F (fork p A B) ⊎ ((r : Family) × (F ≡ (p ∷ a) ∷ r) × Sublistᴰ r (fork p A B)) → Sublistᴰ F B
     go f (inl s) = f s
     go f (inr t) = absurd (never (ap (λ (H : Family). elem (p ∷ a) H) (t .1) ∙ elem-head (p ∷ a) (t .0)) (avoids-at p F v a))
 
@@ -137,7 +137,7 @@ once-append (f ∷ F) G o q d = (
 all-has : (ps : List ℕ) (q : ℕ) (t : List ℕ) → elem (q ∷ t) (allSets ps) ≡ true → has q ps ≡ true
 unfolding allSets has elem
 all-has [] q t e = absurd (never e refl)
-all-has (p ∷ ps) q t e = go (join-cases p q t (allSets ps) (allSets ps) e) (all-has ps q t)
+all-has (p ∷ ps) q t e = go (fork-cases p q t (allSets ps) (allSets ps) e) (all-has ps q t)
   where
     go : ((q ≡ p) × (elem t (allSets ps) ≡ true)) ⊎ (elem (q ∷ t) (allSets ps) ≡ true)
         → (elem (q ∷ t) (allSets ps) ≡ true → has q ps ≡ true) → (eqb q p || has q ps) ≡ true
@@ -165,24 +165,24 @@ unfolding allSets
 all-one [] = Sublistᴰ·refl ([] ∷ [])
 all-one (p ∷ ps) = Sublistᴰ·trans (all-one ps) (part-right (map (λ (t : List ℕ). p ∷ t) (allSets ps)) (allSets ps))
 
--- a join of listed families whose sets begin after its label is listed
-all-join : (K ps : List ℕ) → Sorted K ps → (p : ℕ) → has p ps ≡ true → (F1 F0 : Family)
-    → From K (suc (key K p)) F1 → From K (suc (key K p)) F0 → Sublistᴰ F1 (allSets ps) → Sublistᴰ F0 (allSets ps) → Sublistᴰ (join p F1 F0) (allSets ps)
+-- a fork of listed families whose sets begin after its label is listed
+all-fork : (K ps : List ℕ) → Sorted K ps → (p : ℕ) → has p ps ≡ true → (F1 F0 : Family)
+    → From K (suc (key K p)) F1 → From K (suc (key K p)) F0 → Sublistᴰ F1 (allSets ps) → Sublistᴰ F0 (allSets ps) → Sublistᴰ (fork p F1 F0) (allSets ps)
 unfolding allSets has
-all-join K [] s p h F1 F0 f1 f0 s1 s0 = absurd (never h refl)
-all-join K (q ∷ qs) s p h F1 F0 f1 f0 s1 s0 = go (or-cases (eqb p q) (has p qs) h) (λ m. all-join K qs (s .1) p m F1 F0 f1 f0)
+all-fork K [] s p h F1 F0 f1 f0 s1 s0 = absurd (never h refl)
+all-fork K (q ∷ qs) s p h F1 F0 f1 f0 s1 s0 = go (or-cases (eqb p q) (has p qs) h) (λ m. all-fork K qs (s .1) p m F1 F0 f1 f0)
   where
-    low : key K q < suc (key K p) → (F : Family) → From K (suc (key K p)) F → Sublistᴰ F (join q (allSets qs) (allSets qs)) → Sublistᴰ F (allSets qs)
+    low : key K q < suc (key K p) → (F : Family) → From K (suc (key K p)) F → Sublistᴰ F (fork q (allSets qs) (allSets qs)) → Sublistᴰ F (allSets qs)
     low b F f r = part-avoids q (allSets qs) (allSets qs) F (from-avoids K (suc (key K p)) q F f b) r
 
     go : (eqb p q ≡ true) ⊎ (has p qs ≡ true)
-        → (has p qs ≡ true → Sublistᴰ F1 (allSets qs) → Sublistᴰ F0 (allSets qs) → Sublistᴰ (join p F1 F0) (allSets qs))
-        → Sublistᴰ (join p F1 F0) (join q (allSets qs) (allSets qs))
+        → (has p qs ≡ true → Sublistᴰ F1 (allSets qs) → Sublistᴰ F0 (allSets qs) → Sublistᴰ (fork p F1 F0) (allSets qs))
+        → Sublistᴰ (fork p F1 F0) (fork q (allSets qs) (allSets qs))
     go (inl a) ih =
         let same : p ≡ q = eqb-true p q a in
         let eq : key K p ≡ key K q = ap (key K) same in
         let b : key K q < suc (key K p) = omega arith in
-        subst (λ (x : ℕ). Sublistᴰ (join p F1 F0) (join x (allSets qs) (allSets qs))) same
+        subst (λ (x : ℕ). Sublistᴰ (fork p F1 F0) (fork x (allSets qs) (allSets qs))) same
         (Sublistᴰ·append (part-map p (low b F1 f1 s1)) (low b F0 f0 s0))
     go (inr m) ih =
         let less : key K q < key K p = s .0 p m in
@@ -211,10 +211,10 @@ pub listed-one : (K : List ℕ) → Listed K ([] ∷ [])
 unfolding Listed sets
 listed-one K = all-one (order K)
 
-pub listed-join : (K : List ℕ) → Keys K → (p : ℕ) → p < length K → (F1 F0 : Family)
-    → From K (suc (key K p)) F1 → From K (suc (key K p)) F0 → Listed K F1 → Listed K F0 → Listed K (join p F1 F0)
+pub listed-fork : (K : List ℕ) → Keys K → (p : ℕ) → p < length K → (F1 F0 : Family)
+    → From K (suc (key K p)) F1 → From K (suc (key K p)) F0 → Listed K F1 → Listed K F0 → Listed K (fork p F1 F0)
 unfolding Listed sets
-listed-join K k p h F1 F0 f1 f0 s1 s0 = all-join K (order K) (order-sorted K k) p (order-all K p h) F1 F0 f1 f0 s1 s0
+listed-fork K k p h F1 F0 f1 f0 s1 s0 = all-fork K (order K) (order-sorted K k) p (order-all K p h) F1 F0 f1 f0 s1 s0
 
 pub listed-filter : (K : List ℕ) (P : List ℕ → Bool) → Listed K (filter P (sets K))
 unfolding Listed
@@ -247,7 +247,7 @@ family-listed {K} {ns} a n k h =
     (listed-nil K)
     (listed-one K)
     (λ i w r l.
-    listed-join K a (getD ns i blank .label) (n .each i w .label-known) (family ns (getD ns i blank .hi)) (family ns (getD ns i blank .lo))
+    listed-fork K a (getD ns i blank .label) (n .each i w .label-known) (family ns (getD ns i blank .hi)) (family ns (getD ns i blank .lo))
     (family-from n (getD ns i blank .hi) (omega (arith, n .each i w .hi-below)) (suc (key K (getD ns i blank .label))) (n .each i w .hi-after))
     (family-from n (getD ns i blank .lo) (omega (arith, n .each i w .lo-below)) (suc (key K (getD ns i blank .label))) (n .each i w .lo-after))
     r l)

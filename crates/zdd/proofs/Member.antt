@@ -9,7 +9,7 @@ use lib.Dec.{eqb}
 use lib.ListN.{length, getD}
 use borrow.Author.Tests.{eqb-true}
 use Rattle.base.proofs.Bools.{never, is-false, and-left, and-right, and-both, or-cases, or-left, eqb-same}
-use Rattle.zdd.specs.Table.{Node, blank, Family, join, family, key, Over, Nodes, eqSet, elem}
+use Rattle.zdd.specs.Table.{Node, blank, Family, fork, family, key, Over, Nodes, eqSet, elem}
 use Rattle.zdd.proofs.Grow.{family-ind, downward}
 use Rattle.zdd.specs.Work.{From}
 
@@ -60,18 +60,18 @@ elem-cons-map p q t (u ∷ F) =
     spread true b c = refl
     spread false b c = refl
 
-pub elem-join-nil : (p : ℕ) (F1 F0 : Family) → elem [] (join p F1 F0) ≡ elem [] F0
-elem-join-nil p F1 F0 =
+pub elem-fork-nil : (p : ℕ) (F1 F0 : Family) → elem [] (fork p F1 F0) ≡ elem [] F0
+elem-fork-nil p F1 F0 =
     elem-append [] (map (λ (t : List ℕ). p ∷ t) F1) F0 ∙ ap (λ (b : Bool). b || elem [] F0) (elem-nil-map p F1)
 
-pub elem-join-cons : (p q : ℕ) (t : List ℕ) (F1 F0 : Family) → elem (q ∷ t) (join p F1 F0) ≡ ((eqb q p && elem t F1) || elem (q ∷ t) F0)
-elem-join-cons p q t F1 F0 =
+pub elem-fork-cons : (p q : ℕ) (t : List ℕ) (F1 F0 : Family) → elem (q ∷ t) (fork p F1 F0) ≡ ((eqb q p && elem t F1) || elem (q ∷ t) F0)
+elem-fork-cons p q t F1 F0 =
     elem-append (q ∷ t) (map (λ (t : List ℕ). p ∷ t) F1) F0 ∙ ap (λ (b : Bool). b || elem (q ∷ t) F0) (elem-cons-map p q t F1)
 
--- a set that begins with q is in a join: by its label, or by the second family
-pub join-cases : (p q : ℕ) (t : List ℕ) (F1 F0 : Family) → elem (q ∷ t) (join p F1 F0) ≡ true
+-- a set that begins with q is in a fork: by its label, or by the second family
+pub fork-cases : (p q : ℕ) (t : List ℕ) (F1 F0 : Family) → elem (q ∷ t) (fork p F1 F0) ≡ true
     → ((q ≡ p) × (elem t F1 ≡ true)) ⊎ (elem (q ∷ t) F0 ≡ true)
-join-cases p q t F1 F0 e = go (or-cases (eqb q p && elem t F1) (elem (q ∷ t) F0) (sym (elem-join-cons p q t F1 F0) ∙ e))
+fork-cases p q t F1 F0 e = go (or-cases (eqb q p && elem t F1) (elem (q ∷ t) F0) (sym (elem-fork-cons p q t F1 F0) ∙ e))
   where
     go : ((eqb q p && elem t F1) ≡ true) ⊎ (elem (q ∷ t) F0 ≡ true) → ((q ≡ p) × (elem t F1 ≡ true)) ⊎ (elem (q ∷ t) F0 ≡ true)
     go (inl a) = inl (eqb-true q p (and-left (eqb q p) (elem t F1) a), and-right (eqb q p) (elem t F1) a)
@@ -107,9 +107,9 @@ pub from-one : (K : List ℕ) (b : ℕ) → From K b ([] ∷ [])
 unfolding From elem
 from-one K b q t e = absurd (never e refl)
 
-pub from-join : (K : List ℕ) (b p : ℕ) (F1 F0 : Family) → b ≤ key K p → From K (suc (key K p)) F0 → From K b (join p F1 F0)
+pub from-fork : (K : List ℕ) (b p : ℕ) (F1 F0 : Family) → b ≤ key K p → From K (suc (key K p)) F0 → From K b (fork p F1 F0)
 unfolding From
-from-join K b p F1 F0 h f q t e = go (join-cases p q t F1 F0 e)
+from-fork K b p F1 F0 h f q t e = go (fork-cases p q t F1 F0 e)
   where
     go : ((q ≡ p) × (elem t F1 ≡ true)) ⊎ (elem (q ∷ t) F0 ≡ true) → b ≤ key K q
     go (inl a) = subst (λ (r : ℕ). b ≤ key K r) (sym (a .0)) h
@@ -122,6 +122,6 @@ family-from {K} {ns} n k h =
     (λ b o. from-nil K b)
     (λ b o. from-one K b)
     (λ i w r l b o.
-    from-join K b (getD ns i blank .label) (family ns (getD ns i blank .hi)) (family ns (getD ns i blank .lo)) o
+    from-fork K b (getD ns i blank .label) (family ns (getD ns i blank .hi)) (family ns (getD ns i blank .lo)) o
     (l (suc (key K (getD ns i blank .label))) (n .each i w .lo-after)))
     k h

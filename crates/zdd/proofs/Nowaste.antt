@@ -10,7 +10,7 @@ use native.Mathlib.Decide.{decLt}
 use native.Mathlib.Omega.{arith}
 use lib.ListN.{length, getD, take, length-append}
 use lib.Seq.{take-append-seam}
-use Rattle.zdd.specs.Table.{Node, blank, Family, join, families, family, key, Fine, Nodes, _∈_}
+use Rattle.zdd.specs.Table.{Node, blank, Family, fork, families, family, key, Fine, Nodes, _∈_}
 use Rattle.zdd.proofs.Member.{Avoids, from-avoids, family-from}
 use Rattle.zdd.specs.Work.{Under, Nowaste, Short}
 use Rattle.zdd.proofs.Grow.{length-families, family-append, families-append, family-new}
@@ -18,7 +18,7 @@ use Rattle.zdd.proofs.Canon.{family-some, canonical}
 use Rattle.zdd.proofs.Extend.{nodes-append}
 use Rattle.zdd.specs.Branches.{branches, fresh, missing}
 use Rattle.zdd.proofs.Counting.{Distinct, fresh-sound, fresh-distinct, at-most, fewer, branches-nil, branches-one, family-member, least-growth}
-use Rattle.zdd.proofs.Under.{under-self, join-branch, under-hi, under-lo}
+use Rattle.zdd.proofs.Under.{under-self, fork-branch, under-hi, under-lo}
 
 -- ---- no waste: how it goes together
 
@@ -79,22 +79,22 @@ module _ {K : List ℕ} {ns : List Node} (n : Nodes K ns) (x : Node) (f : Fine K
       from-avoids K (suc (key K (x .label))) (x .label) (family ns (x .lo))
       (family-from n (x .lo) (f .lo-below) (suc (key K (x .label))) (f .lo-after)) (omega arith)
 
-  fine-branch : join (x .label) (family ns (x .hi)) (family ns (x .lo)) ∈ branches (join (x .label) (family ns (x .hi)) (family ns (x .lo)))
-  fine-branch = join-branch (x .label) (family ns (x .hi)) (family ns (x .lo)) fine-some fine-avoids
+  fine-branch : fork (x .label) (family ns (x .hi)) (family ns (x .lo)) ∈ branches (fork (x .label) (family ns (x .hi)) (family ns (x .lo)))
+  fine-branch = fork-branch (x .label) (family ns (x .hi)) (family ns (x .lo)) fine-some fine-avoids
 
   -- the node is made
-  pub nowaste-made : Nowaste ns (ns ++ (x ∷ [])) (join (x .label) (family ns (x .hi)) (family ns (x .lo)))
+  pub nowaste-made : Nowaste ns (ns ++ (x ∷ [])) (fork (x .label) (family ns (x .hi)) (family ns (x .lo)))
   nowaste-made = record {
     new = x ∷ [];
     grown = refl;
     needed = λ k a b.
         let e : k ≡ suc (suc (length ns)) = omega (arith, length-append ns (x ∷ [])) in
-        subst⁻¹ (λ (G : Family). G ∈ branches (join (x .label) (family ns (x .hi)) (family ns (x .lo)))) (ap (family (ns ++ (x ∷ []))) e ∙ family-new ns x) fine-branch;
+        subst⁻¹ (λ (G : Family). G ∈ branches (fork (x .label) (family ns (x .hi)) (family ns (x .lo)))) (ap (family (ns ++ (x ∷ []))) e ∙ family-new ns x) fine-branch;
   }
 
   -- the node is not there: its family has no number
   pub absent-family : ((i : ℕ) → i < length ns → getD ns i blank ≡ x → ⊥)
-      → (k : ℕ) → k < suc (suc (length ns)) → family ns k ≡ join (x .label) (family ns (x .hi)) (family ns (x .lo)) → ⊥
+      → (k : ℕ) → k < suc (suc (length ns)) → family ns k ≡ fork (x .label) (family ns (x .hi)) (family ns (x .lo)) → ⊥
   absent-family fresh k h e =
       let m : Nodes K (ns ++ (x ∷ [])) = nodes-append K ns x n f fresh in
       let l : length (ns ++ (x ∷ [])) ≡ suc (length ns) = omega (arith, length-append ns (x ∷ [])) in
@@ -102,12 +102,12 @@ module _ {K : List ℕ} {ns : List Node} (n : Nodes K ns) (x : Node) (f : Fine K
       canonical m k (suc (suc (length ns))) (omega arith) (omega arith) (family-append ns (x ∷ []) k h ∙ e ∙ sym (family-new ns x)) in
       omega arith
 
-  pub short-made : ((i : ℕ) → i < length ns → getD ns i blank ≡ x → ⊥) → Short ns (join (x .label) (family ns (x .hi)) (family ns (x .lo)))
-  short-made fresh = record { lacking = join (x .label) (family ns (x .hi)) (family ns (x .lo)); branch = fine-branch; absent = absent-family fresh }
+  pub short-made : ((i : ℕ) → i < length ns → getD ns i blank ≡ x → ⊥) → Short ns (fork (x .label) (family ns (x .hi)) (family ns (x .lo)))
+  short-made fresh = record { lacking = fork (x .label) (family ns (x .hi)) (family ns (x .lo)); branch = fine-branch; absent = absent-family fresh }
 
 -- a step: for F1, then for F0, then the node itself
 pub nowaste-step : (p : ℕ) (F1 F0 : Family) {ns n1 n0 ns′ : List Node} → Avoids p F0
-    → Nowaste ns n1 F1 → Nowaste n1 n0 F0 → Nowaste n0 ns′ (join p F1 F0) → Nowaste ns ns′ (join p F1 F0)
+    → Nowaste ns n1 F1 → Nowaste n1 n0 F0 → Nowaste n0 ns′ (fork p F1 F0) → Nowaste ns ns′ (fork p F1 F0)
 nowaste-step p F1 F0 a w1 w0 w =
     nowaste-then (nowaste-under w1 (under-hi p F1 F0 a)) (nowaste-then (nowaste-under w0 (under-lo p F1 F0 a)) w)
 

@@ -10,11 +10,11 @@ use lib.Dec.{eqb}
 use lib.ListN.{length, getD}
 use borrow.Author.Tests.{eqb-true}
 use Rattle.base.proofs.Bools.{never}
-use Rattle.zdd.specs.Table.{Node, blank, Family, join, family, key, Over, Fine, Nodes, Keys, elem, sets}
+use Rattle.zdd.specs.Table.{Node, blank, Family, fork, family, key, Over, Fine, Nodes, Keys, elem, sets}
 use Rattle.zdd.proofs.Grow.{family-node}
-use Rattle.zdd.proofs.Member.{avoids-at, from-at, from-of, from-nil, from-avoids, family-from, elem-join-nil, elem-join-cons}
+use Rattle.zdd.proofs.Member.{avoids-at, from-at, from-of, from-nil, from-avoids, family-from, elem-fork-nil, elem-fork-cons}
 use Rattle.zdd.specs.Work.{From}
-use Rattle.zdd.proofs.Listing.{Listed, listed-nil, listed-join, listed-filter, listed-elem, listed-same, family-listed, elem-filter}
+use Rattle.zdd.proofs.Listing.{Listed, listed-nil, listed-fork, listed-filter, listed-elem, listed-same, family-listed, elem-filter}
 use Rattle.zdd.specs.Operations.{combine, minus, union, inter, differ}
 
 pub listed-combine : (op : Bool → Bool → Bool) (K : List ℕ) (F G : Family) → Listed K (combine op K F G)
@@ -51,17 +51,17 @@ module _ (op : Bool → Bool → Bool) (K : List ℕ) (off : op false false ≡ 
       go q t (inr e) = from-at K b G g q t e
 
   -- THEOREM: two families with a first label p in common are combined part by part
-  pub combine-join : Keys K → (p : ℕ) → p < length K → (F1 F0 G1 G0 : Family)
+  pub combine-fork : Keys K → (p : ℕ) → p < length K → (F1 F0 G1 G0 : Family)
       → Listed K F1 → Listed K F0 → Listed K G1 → Listed K G0
       → From K (suc (key K p)) F1 → From K (suc (key K p)) F0 → From K (suc (key K p)) G1 → From K (suc (key K p)) G0
-      → combine op K (join p F1 F0) (join p G1 G0) ≡ join p (combine op K F1 G1) (combine op K F0 G0)
-  combine-join k p h F1 F0 G1 G0 l1 l0 m1 m0 f1 f0 g1 g0 =
-      listed-same K k (combine op K (join p F1 F0) (join p G1 G0)) (join p (combine op K F1 G1) (combine op K F0 G0))
-      (listed-combine op K (join p F1 F0) (join p G1 G0))
-      (listed-join K k p h (combine op K F1 G1) (combine op K F0 G0)
+      → combine op K (fork p F1 F0) (fork p G1 G0) ≡ fork p (combine op K F1 G1) (combine op K F0 G0)
+  combine-fork k p h F1 F0 G1 G0 l1 l0 m1 m0 f1 f0 g1 g0 =
+      listed-same K k (combine op K (fork p F1 F0) (fork p G1 G0)) (fork p (combine op K F1 G1) (combine op K F0 G0))
+      (listed-combine op K (fork p F1 F0) (fork p G1 G0))
+      (listed-fork K k p h (combine op K F1 G1) (combine op K F0 G0)
       (from-combine (suc (key K p)) F1 G1 l1 m1 f1 g1) (from-combine (suc (key K p)) F0 G0 l0 m0 f0 g0)
       (listed-combine op K F1 G1) (listed-combine op K F0 G0))
-      (λ t. elem-combine (join p F1 F0) (join p G1 G0) (listed-join K k p h F1 F0 f1 f0 l1 l0) (listed-join K k p h G1 G0 g1 g0 m1 m0) t ∙ same t)
+      (λ t. elem-combine (fork p F1 F0) (fork p G1 G0) (listed-fork K k p h F1 F0 f1 f0 l1 l0) (listed-fork K k p h G1 G0 g1 g0 m1 m0) t ∙ same t)
     where
       none : (F : Family) → From K (suc (key K p)) F → (t : List ℕ) → elem (p ∷ t) F ≡ false
       none F f t = avoids-at p F (from-avoids K (suc (key K p)) p F f (omega arith)) t
@@ -74,34 +74,34 @@ module _ (op : Bool → Bool → Bool) (K : List ℕ) (off : op false false ≡ 
           ap₂ op (ap (λ (z : Bool). a || z) (hx refl) ∙ or-false a) (ap (λ (z : Bool). b || z) (hy refl) ∙ or-false b)
           ∙ sym (ap (λ (z : Bool). op a b || z) (ap₂ op (hx refl) (hy refl) ∙ off) ∙ or-false (op a b))
 
-      same : (t : List ℕ) → op (elem t (join p F1 F0)) (elem t (join p G1 G0)) ≡ elem t (join p (combine op K F1 G1) (combine op K F0 G0))
+      same : (t : List ℕ) → op (elem t (fork p F1 F0)) (elem t (fork p G1 G0)) ≡ elem t (fork p (combine op K F1 G1) (combine op K F0 G0))
       same [] =
-          ap₂ op (elem-join-nil p F1 F0) (elem-join-nil p G1 G0)
+          ap₂ op (elem-fork-nil p F1 F0) (elem-fork-nil p G1 G0)
           ∙ sym (elem-combine F0 G0 l0 m0 [])
-          ∙ sym (elem-join-nil p (combine op K F1 G1) (combine op K F0 G0))
+          ∙ sym (elem-fork-nil p (combine op K F1 G1) (combine op K F0 G0))
       same (q ∷ t) =
-          ap₂ op (elem-join-cons p q t F1 F0) (elem-join-cons p q t G1 G0)
+          ap₂ op (elem-fork-cons p q t F1 F0) (elem-fork-cons p q t G1 G0)
           ∙ by-label (eqb q p) (elem t F1) (elem (q ∷ t) F0) (elem t G1) (elem (q ∷ t) G0)
           (λ e. ap (λ (r : ℕ). elem (r ∷ t) F0) (eqb-true q p e) ∙ none F0 f0 t)
           (λ e. ap (λ (r : ℕ). elem (r ∷ t) G0) (eqb-true q p e) ∙ none G0 g0 t)
           ∙ ap₂ (λ (x y : Bool). (eqb q p && x) || y) (sym (elem-combine F1 G1 l1 m1 t)) (sym (elem-combine F0 G0 l0 m0 (q ∷ t)))
-          ∙ sym (elem-join-cons p q t (combine op K F1 G1) (combine op K F0 G0))
+          ∙ sym (elem-fork-cons p q t (combine op K F1 G1) (combine op K F0 G0))
 
-  -- the first label stands in F alone: `join p [] G` is G
+  -- the first label stands in F alone: `fork p [] G` is G
   pub combine-left : Keys K → (p : ℕ) → p < length K → (F1 F0 G : Family)
       → Listed K F1 → Listed K F0 → Listed K G
       → From K (suc (key K p)) F1 → From K (suc (key K p)) F0 → From K (suc (key K p)) G
-      → combine op K (join p F1 F0) G ≡ join p (combine op K F1 []) (combine op K F0 G)
+      → combine op K (fork p F1 F0) G ≡ fork p (combine op K F1 []) (combine op K F0 G)
   combine-left k p h F1 F0 G l1 l0 m f1 f0 g =
-      combine-join k p h F1 F0 [] G l1 l0 (listed-nil K) m f1 f0 (from-nil K (suc (key K p))) g
+      combine-fork k p h F1 F0 [] G l1 l0 (listed-nil K) m f1 f0 (from-nil K (suc (key K p))) g
 
   -- the first label stands in G alone
   pub combine-right : Keys K → (p : ℕ) → p < length K → (F G1 G0 : Family)
       → Listed K F → Listed K G1 → Listed K G0
       → From K (suc (key K p)) F → From K (suc (key K p)) G1 → From K (suc (key K p)) G0
-      → combine op K F (join p G1 G0) ≡ join p (combine op K [] G1) (combine op K F G0)
+      → combine op K F (fork p G1 G0) ≡ fork p (combine op K [] G1) (combine op K F G0)
   combine-right k p h F G1 G0 l m1 m0 f g1 g0 =
-      combine-join k p h [] F G1 G0 (listed-nil K) l m1 m0 (from-nil K (suc (key K p))) f g1 g0
+      combine-fork k p h [] F G1 G0 (listed-nil K) l m1 m0 (from-nil K (suc (key K p))) f g1 g0
 
   -- ---- where the walk ends
 
@@ -160,7 +160,7 @@ module _ (op : Bool → Bool → Bool) (off : op false false ≡ false) {K : Lis
       → Listed K (family ns (getD ns i blank .hi)) × Listed K (family ns (getD ns i blank .lo))
       × From K (suc (key K (getD ns i blank .label))) (family ns (getD ns i blank .hi))
       × From K (suc (key K (getD ns i blank .label))) (family ns (getD ns i blank .lo))
-      × (family ns (suc (suc i)) ≡ join (getD ns i blank .label) (family ns (getD ns i blank .hi)) (family ns (getD ns i blank .lo)))
+      × (family ns (suc (suc i)) ≡ fork (getD ns i blank .label) (family ns (getD ns i blank .hi)) (family ns (getD ns i blank .lo)))
   parts i w =
       let x : Node = getD ns i blank in
       let f : Fine K ns i x = n .each i w in
@@ -176,7 +176,7 @@ module _ (op : Bool → Bool → Bool) (off : op false false ≡ false) {K : Lis
   -- two nodes with one label
   pub nodes-same : (i j : ℕ) → i < length ns → j < length ns → getD ns i blank .label ≡ getD ns j blank .label
       → combine op K (family ns (suc (suc i))) (family ns (suc (suc j)))
-      ≡ join (getD ns i blank .label)
+      ≡ fork (getD ns i blank .label)
       (combine op K (family ns (getD ns i blank .hi)) (family ns (getD ns j blank .hi)))
       (combine op K (family ns (getD ns i blank .lo)) (family ns (getD ns j blank .lo)))
   nodes-same i j a b e =
@@ -184,8 +184,8 @@ module _ (op : Bool → Bool → Bool) (off : op false false ≡ false) {K : Lis
       let y : Node = getD ns j blank in
       let p = parts i a in
       let q = parts j b in
-      ap₂ (combine op K) (p .4) (q .4 ∙ ap (λ (l : ℕ). join l (family ns (y .hi)) (family ns (y .lo))) (sym e))
-      ∙ combine-join op K off k (x .label) (n .each i a .label-known) (family ns (x .hi)) (family ns (x .lo)) (family ns (y .hi)) (family ns (y .lo))
+      ap₂ (combine op K) (p .4) (q .4 ∙ ap (λ (l : ℕ). fork l (family ns (y .hi)) (family ns (y .lo))) (sym e))
+      ∙ combine-fork op K off k (x .label) (n .each i a .label-known) (family ns (x .hi)) (family ns (x .lo)) (family ns (y .hi)) (family ns (y .lo))
       (p .0) (p .1) (q .0) (q .1) (p .2) (p .3)
       (subst (λ (l : ℕ). From K (suc (key K l)) (family ns (y .hi))) (sym e) (q .2))
       (subst (λ (l : ℕ). From K (suc (key K l)) (family ns (y .lo))) (sym e) (q .3))
@@ -193,7 +193,7 @@ module _ (op : Bool → Bool → Bool) (off : op false false ≡ false) {K : Lis
   -- a node, and a number that begins after its label
   pub nodes-left : (i g : ℕ) → i < length ns → g < suc (suc (length ns)) → Over K ns (suc (key K (getD ns i blank .label))) g
       → combine op K (family ns (suc (suc i))) (family ns g)
-      ≡ join (getD ns i blank .label) (combine op K (family ns (getD ns i blank .hi)) []) (combine op K (family ns (getD ns i blank .lo)) (family ns g))
+      ≡ fork (getD ns i blank .label) (combine op K (family ns (getD ns i blank .hi)) []) (combine op K (family ns (getD ns i blank .lo)) (family ns g))
   nodes-left i g a b o =
       let x : Node = getD ns i blank in
       let p = parts i a in
@@ -203,7 +203,7 @@ module _ (op : Bool → Bool → Bool) (off : op false false ≡ false) {K : Lis
 
   pub nodes-right : (f j : ℕ) → f < suc (suc (length ns)) → j < length ns → Over K ns (suc (key K (getD ns j blank .label))) f
       → combine op K (family ns f) (family ns (suc (suc j)))
-      ≡ join (getD ns j blank .label) (combine op K [] (family ns (getD ns j blank .hi))) (combine op K (family ns f) (family ns (getD ns j blank .lo)))
+      ≡ fork (getD ns j blank .label) (combine op K [] (family ns (getD ns j blank .hi))) (combine op K (family ns f) (family ns (getD ns j blank .lo)))
   nodes-right f j a b o =
       let y : Node = getD ns j blank in
       let q = parts j b in

@@ -7,22 +7,22 @@ use Prim.Native.Nat.{ℕ, suc, _<_}
 use native.Mathlib.Omega.{arith}
 use lib.Dec.{eqb}
 use lib.ListN.{length, getD}
-use Rattle.zdd.specs.Table.{Node, blank, Family, join, family, key, Over, Nodes, Keys}
+use Rattle.zdd.specs.Table.{Node, blank, Family, fork, family, key, Over, Nodes, Keys}
 use Rattle.zdd.proofs.Grow.{family-node}
 use Rattle.zdd.specs.Work.{From, Split}
 use Rattle.zdd.proofs.Member.{from-nil, family-from}
 use Rattle.zdd.proofs.Listing.{Listed, listed-nil, family-listed}
 use Rattle.zdd.specs.Operations.{combine, including, excluding}
-use Rattle.zdd.proofs.Operations.{from-combine, combine-join, nodes-same, nodes-left, nodes-right}
+use Rattle.zdd.proofs.Operations.{from-combine, combine-fork, nodes-same, nodes-left, nodes-right}
 use Rattle.zdd.proofs.Restrict.{including-after, excluding-after, including-other, excluding-other, including-same, excluding-same}
 
 -- two families split by one label: a label that only one has splits the other into [] and itself
 pub split-combine : (op : Bool → Bool → Bool) (K : List ℕ) → op false false ≡ false → Keys K → (p : ℕ) → p < length K → (F1 F0 G1 G0 : Family)
     → Listed K F1 → Listed K F0 → Listed K G1 → Listed K G0
     → From K (suc (key K p)) F1 → From K (suc (key K p)) F0 → From K (suc (key K p)) G1 → From K (suc (key K p)) G0
-    → Split K (combine op K (join p F1 F0) (join p G1 G0)) p (combine op K F1 G1) (combine op K F0 G0)
+    → Split K (combine op K (fork p F1 F0) (fork p G1 G0)) p (combine op K F1 G1) (combine op K F0 G0)
 split-combine op K off k p h F1 F0 G1 G0 l1 l0 m1 m0 f1 f0 g1 g0 = record {
-  is = combine-join op K off k p h F1 F0 G1 G0 l1 l0 m1 m0 f1 f0 g1 g0;
+  is = combine-fork op K off k p h F1 F0 G1 G0 l1 l0 m1 m0 f1 f0 g1 g0;
   hi-from = from-combine op K off (suc (key K p)) F1 G1 l1 m1 f1 g1;
   lo-from = from-combine op K off (suc (key K p)) F0 G0 l0 m0 f0 g0;
 }
@@ -93,7 +93,7 @@ module _ {K : List ℕ} (k : Keys K) {ns : List Node} (n : Nodes K ns) where
 
   -- ---- the sets that hold p, and those that do not
 
-  node-is : (i : ℕ) → i < length ns → join (getD ns i blank .label) (family ns (getD ns i blank .hi)) (family ns (getD ns i blank .lo)) ≡ family ns (suc (suc i))
+  node-is : (i : ℕ) → i < length ns → fork (getD ns i blank .label) (family ns (getD ns i blank .hi)) (family ns (getD ns i blank .lo)) ≡ family ns (suc (suc i))
   node-is i w = sym (family-node ns i w (n .each i w .lo-below) (n .each i w .hi-below))
 
   module _ (p : ℕ) where

@@ -9,11 +9,11 @@ use lib.Dec.{eqb}
 use lib.ListN.{length}
 use borrow.Author.Tests.{eqb-true, eq-eqb}
 use Rattle.base.proofs.Bools.{never, is-false, and-left, or-cases, or-left, or-right, eqb-same}
-use Rattle.zdd.specs.Table.{Family, join, key, Keys, elem, filter, allSets, sets, order, has}
+use Rattle.zdd.specs.Table.{Family, fork, key, Keys, elem, filter, allSets, sets, order, has}
 use Rattle.zdd.proofs.Sorting.{Sorted, order-sorted}
 use Rattle.zdd.specs.Work.{From, Split}
-use Rattle.zdd.proofs.Member.{from-at, from-of, from-nil, join-cases, elem-join-nil, elem-join-cons}
-use Rattle.zdd.proofs.Listing.{Listed, listed-join, listed-filter, listed-elem, listed-same, elem-filter, filter-same, filter-none}
+use Rattle.zdd.proofs.Member.{from-at, from-of, from-nil, fork-cases, elem-fork-nil, elem-fork-cons}
+use Rattle.zdd.proofs.Listing.{Listed, listed-fork, listed-filter, listed-elem, listed-same, elem-filter, filter-same, filter-none}
 use Rattle.zdd.specs.Operations.{including, excluding}
 
 -- ---- the sets of F that pass a test
@@ -38,14 +38,14 @@ pub from-keep : (P : List ℕ → Bool) (K : List ℕ) (b : ℕ) (F : Family) �
 from-keep P K b F l f =
     from-of K b (keep P K F) (λ q t e. from-at K b F f q t (and-left (elem (q ∷ t) F) (P (q ∷ t)) (sym (elem-keep P K F l (q ∷ t)) ∙ e)))
 
-pub keep-join : (P : List ℕ → Bool) (K : List ℕ) → Keys K → (q : ℕ) → q < length K → (F1 F0 : Family) → Listed K F1 → Listed K F0
-    → From K (suc (key K q)) F1 → From K (suc (key K q)) F0 → keep P K (join q F1 F0) ≡ join q (keep (λ t. P (q ∷ t)) K F1) (keep P K F0)
-keep-join P K k q h F1 F0 l1 l0 f1 f0 =
-    listed-same K k (keep P K (join q F1 F0)) (join q (keep P1 K F1) (keep P K F0))
-    (listed-keep P K (join q F1 F0))
-    (listed-join K k q h (keep P1 K F1) (keep P K F0) (from-keep P1 K (suc (key K q)) F1 l1 f1) (from-keep P K (suc (key K q)) F0 l0 f0)
+pub keep-fork : (P : List ℕ → Bool) (K : List ℕ) → Keys K → (q : ℕ) → q < length K → (F1 F0 : Family) → Listed K F1 → Listed K F0
+    → From K (suc (key K q)) F1 → From K (suc (key K q)) F0 → keep P K (fork q F1 F0) ≡ fork q (keep (λ t. P (q ∷ t)) K F1) (keep P K F0)
+keep-fork P K k q h F1 F0 l1 l0 f1 f0 =
+    listed-same K k (keep P K (fork q F1 F0)) (fork q (keep P1 K F1) (keep P K F0))
+    (listed-keep P K (fork q F1 F0))
+    (listed-fork K k q h (keep P1 K F1) (keep P K F0) (from-keep P1 K (suc (key K q)) F1 l1 f1) (from-keep P K (suc (key K q)) F0 l0 f0)
     (listed-keep P1 K F1) (listed-keep P K F0))
-    (λ t. elem-keep P K (join q F1 F0) (listed-join K k q h F1 F0 f1 f0 l1 l0) t ∙ same t)
+    (λ t. elem-keep P K (fork q F1 F0) (listed-fork K k q h F1 F0 f1 f0 l1 l0) t ∙ same t)
   where
     P1 : List ℕ → Bool
     P1 t = P (q ∷ t)
@@ -61,14 +61,14 @@ keep-join P K k q h F1 F0 l1 l0 f1 f0 =
     by-label false a b x y e = refl
     by-label true a b x y e = spread a b x ∙ ap (λ (z : Bool). (a && z) || (b && x)) (e refl)
 
-    same : (t : List ℕ) → (elem t (join q F1 F0) && P t) ≡ elem t (join q (keep P1 K F1) (keep P K F0))
+    same : (t : List ℕ) → (elem t (fork q F1 F0) && P t) ≡ elem t (fork q (keep P1 K F1) (keep P K F0))
     same [] =
-        ap (λ (b : Bool). b && P []) (elem-join-nil q F1 F0) ∙ sym (elem-keep P K F0 l0 []) ∙ sym (elem-join-nil q (keep P1 K F1) (keep P K F0))
+        ap (λ (b : Bool). b && P []) (elem-fork-nil q F1 F0) ∙ sym (elem-keep P K F0 l0 []) ∙ sym (elem-fork-nil q (keep P1 K F1) (keep P K F0))
     same (r ∷ u) =
-        ap (λ (b : Bool). b && P (r ∷ u)) (elem-join-cons q r u F1 F0)
+        ap (λ (b : Bool). b && P (r ∷ u)) (elem-fork-cons q r u F1 F0)
         ∙ by-label (eqb r q) (elem u F1) (elem (r ∷ u) F0) (P (r ∷ u)) (P (q ∷ u)) (λ e. ap (λ (s : ℕ). P (s ∷ u)) (eqb-true r q e))
         ∙ ap₂ (λ (x y : Bool). (eqb r q && x) || y) (sym (elem-keep P1 K F1 l1 u)) (sym (elem-keep P K F0 l0 (r ∷ u)))
-        ∙ sym (elem-join-cons q r u (keep P1 K F1) (keep P K F0))
+        ∙ sym (elem-fork-cons q r u (keep P1 K F1) (keep P K F0))
 
 both-same : (a b c : Bool) → (a ≡ true → b ≡ c) → (a && b) ≡ (a && c)
 both-same true b c e = e refl
@@ -99,7 +99,7 @@ unfolding allSets has elem
 all-labels [] [] r e h = absurd (never h refl)
 all-labels [] (q ∷ u) r e h = absurd (never e refl)
 all-labels (p ∷ ps) [] r e h = absurd (never h refl)
-all-labels (p ∷ ps) (q ∷ u) r e h = go (join-cases p q u (allSets ps) (allSets ps) e) (all-labels ps u r) (all-labels ps (q ∷ u) r)
+all-labels (p ∷ ps) (q ∷ u) r e h = go (fork-cases p q u (allSets ps) (allSets ps) e) (all-labels ps u r) (all-labels ps (q ∷ u) r)
   where
     go : ((q ≡ p) × (elem u (allSets ps) ≡ true)) ⊎ (elem (q ∷ u) (allSets ps) ≡ true)
         → (elem u (allSets ps) ≡ true → has r u ≡ true → has r ps ≡ true)
@@ -114,7 +114,7 @@ all-labels (p ∷ ps) (q ∷ u) r e h = go (join-cases p q u (allSets ps) (allSe
 all-later : (K ps : List ℕ) → Sorted K ps → (q : ℕ) (u : List ℕ) (r : ℕ) → elem (q ∷ u) (allSets ps) ≡ true → has r u ≡ true → key K q < key K r
 unfolding allSets elem
 all-later K [] s q u r e h = absurd (never e refl)
-all-later K (p ∷ ps) s q u r e h = go (join-cases p q u (allSets ps) (allSets ps) e) (all-later K ps (s .1) q u r)
+all-later K (p ∷ ps) s q u r e h = go (fork-cases p q u (allSets ps) (allSets ps) e) (all-later K ps (s .1) q u r)
   where
     go : ((q ≡ p) × (elem u (allSets ps) ≡ true)) ⊎ (elem (q ∷ u) (allSets ps) ≡ true)
         → (elem (q ∷ u) (allSets ps) ≡ true → has r u ≡ true → key K q < key K r) → key K q < key K r
@@ -169,41 +169,41 @@ module _ (K : List ℕ) (k : Keys K) (p : ℕ) where
 
   module _ (q : ℕ) (h : q < length K) (F1 F0 : Family) (l1 : Listed K F1) (l0 : Listed K F0) (f1 : From K (suc (key K q)) F1) (f0 : From K (suc (key K q)) F0) where
     -- the first label is another one
-    pub including-other : eqb p q ≡ false → Split K (including K p (join q F1 F0)) q (including K p F1) (including K p F0)
+    pub including-other : eqb p q ≡ false → Split K (including K p (fork q F1 F0)) q (including K p F1) (including K p F0)
     including-other e = record {
       is =
-          is-including K p (join q F1 F0) ∙ keep-join (has p) K k q h F1 F0 l1 l0 f1 f0
-          ∙ ap₂ (join q) (keep-same (λ t. has p (q ∷ t)) (has p) K F1 (λ t m. has-other p q t e) ∙ sym (is-including K p F1)) (sym (is-including K p F0));
+          is-including K p (fork q F1 F0) ∙ keep-fork (has p) K k q h F1 F0 l1 l0 f1 f0
+          ∙ ap₂ (fork q) (keep-same (λ t. has p (q ∷ t)) (has p) K F1 (λ t m. has-other p q t e) ∙ sym (is-including K p F1)) (sym (is-including K p F0));
       hi-from = subst (From K (suc (key K q))) (sym (is-including K p F1)) (from-keep (has p) K (suc (key K q)) F1 l1 f1);
       lo-from = subst (From K (suc (key K q))) (sym (is-including K p F0)) (from-keep (has p) K (suc (key K q)) F0 l0 f0);
     }
 
-    pub excluding-other : eqb p q ≡ false → Split K (excluding K p (join q F1 F0)) q (excluding K p F1) (excluding K p F0)
+    pub excluding-other : eqb p q ≡ false → Split K (excluding K p (fork q F1 F0)) q (excluding K p F1) (excluding K p F0)
     unfolding lacks
     excluding-other e = record {
       is =
-          is-excluding K p (join q F1 F0) ∙ keep-join (lacks p) K k q h F1 F0 l1 l0 f1 f0
-          ∙ ap₂ (join q) (keep-same (λ t. lacks p (q ∷ t)) (lacks p) K F1 (λ t m. ap not (has-other p q t e)) ∙ sym (is-excluding K p F1)) (sym (is-excluding K p F0));
+          is-excluding K p (fork q F1 F0) ∙ keep-fork (lacks p) K k q h F1 F0 l1 l0 f1 f0
+          ∙ ap₂ (fork q) (keep-same (λ t. lacks p (q ∷ t)) (lacks p) K F1 (λ t m. ap not (has-other p q t e)) ∙ sym (is-excluding K p F1)) (sym (is-excluding K p F0));
       hi-from = subst (From K (suc (key K q))) (sym (is-excluding K p F1)) (from-keep (lacks p) K (suc (key K q)) F1 l1 f1);
       lo-from = subst (From K (suc (key K q))) (sym (is-excluding K p F0)) (from-keep (lacks p) K (suc (key K q)) F0 l0 f0);
     }
 
     -- the first label is p
-    pub including-same : q ≡ p → Split K (including K p (join q F1 F0)) q F1 []
+    pub including-same : q ≡ p → Split K (including K p (fork q F1 F0)) q F1 []
     including-same e = record {
       is =
-          is-including K p (join q F1 F0) ∙ keep-join (has p) K k q h F1 F0 l1 l0 f1 f0
-          ∙ ap₂ (join q)
+          is-including K p (fork q F1 F0) ∙ keep-fork (has p) K k q h F1 F0 l1 l0 f1 f0
+          ∙ ap₂ (fork q)
           (keep-all (λ t. has p (q ∷ t)) K k F1 l1 (λ t m. ap (λ (r : ℕ). has p (r ∷ t)) e ∙ has-first p t))
           (keep-none (has p) K F0 (late K k p F0 l0 (subst (λ (r : ℕ). From K (suc (key K r)) F0) e f0)));
       hi-from = f1;
       lo-from = from-nil K (suc (key K q));
     }
 
-    pub excluding-same : q ≡ p → excluding K p (join q F1 F0) ≡ F0
+    pub excluding-same : q ≡ p → excluding K p (fork q F1 F0) ≡ F0
     unfolding lacks
     excluding-same e =
-        is-excluding K p (join q F1 F0) ∙ keep-join (lacks p) K k q h F1 F0 l1 l0 f1 f0
-        ∙ ap₂ (join q)
+        is-excluding K p (fork q F1 F0) ∙ keep-fork (lacks p) K k q h F1 F0 l1 l0 f1 f0
+        ∙ ap₂ (fork q)
         (keep-none (λ t. lacks p (q ∷ t)) K F1 (λ t m. ap not (ap (λ (r : ℕ). has p (r ∷ t)) e ∙ has-first p t)))
         (keep-all (lacks p) K k F0 l0 (λ t m. ap not (late K k p F0 l0 (subst (λ (r : ℕ). From K (suc (key K r)) F0) e f0) t m)))

@@ -9,7 +9,7 @@ use lib.Dec.{leb, ltb}
 use lib.ListN.{length, getD}
 use borrow.Author.Tests.{leb-true, leb-false, le-leb, lt-leb, lt-ltb, le-ltb}
 use Rattle.base.proofs.Bools.{never, is-false}
-use Rattle.zdd.specs.Table.{Node, blank, Family, join, count, capacity, nodesOf, family, Fine, Nodes, Sound}
+use Rattle.zdd.specs.Table.{Node, blank, Family, fork, count, capacity, nodesOf, family, Fine, Nodes, Sound}
 use Rattle.zdd.proofs.Member.{Avoids}
 use Rattle.zdd.proofs.Words.{length-nodes, Appended, appended-nodes}
 use Rattle.zdd.proofs.Tested.{capacity-fits}
@@ -45,19 +45,19 @@ worked-then {c} {ns} {ns′} {ns″} {b} {b′} {b″} {F} w v = record {
         (short-same i (s .0), subst⁻¹ (λ (l : List Node). c ≤ length l) i (s .1))
     go false q e f = v .short q f
 
--- a step: for F1, then for F0, then for the join
+-- a step: for F1, then for F0, then for the fork
 pub worked-step : (p : ℕ) (F1 F0 : Family) {c : ℕ} {ns n1 n0 ns′ : List Node} {b b1 b0 b′ : Bool} → Avoids p F0
-    → Worked c ns b n1 b1 F1 → Worked c n1 b1 n0 b0 F0 → Worked c n0 b0 ns′ b′ (join p F1 F0) → Worked c ns b ns′ b′ (join p F1 F0)
+    → Worked c ns b n1 b1 F1 → Worked c n1 b1 n0 b0 F0 → Worked c n0 b0 ns′ b′ (fork p F1 F0) → Worked c ns b ns′ b′ (fork p F1 F0)
 worked-step p F1 F0 a w1 w0 w = worked-then (worked-under w1 (under-hi p F1 F0 a)) (worked-then (worked-under w0 (under-lo p F1 F0 a)) w)
 
 module _ {K : List ℕ} {ns : List Node} (n : Nodes K ns) (x : Node) (f : Fine K ns (length ns) x) (c : ℕ) where
   -- the node is made
-  pub worked-made : Worked c ns false (ns ++ (x ∷ [])) false (join (x .label) (family ns (x .hi)) (family ns (x .lo)))
+  pub worked-made : Worked c ns false (ns ++ (x ∷ [])) false (fork (x .label) (family ns (x .hi)) (family ns (x .lo)))
   worked-made = record { nowaste = nowaste-made n x f; idle = λ e. absurd (never e refl); short = λ e g. absurd (never g refl) }
 
   -- the node is not there, and there is no room for it
   pub worked-full : ((i : ℕ) → i < length ns → getD ns i blank ≡ x → ⊥) → c ≤ length ns
-      → Worked c ns false ns true (join (x .label) (family ns (x .hi)) (family ns (x .lo)))
+      → Worked c ns false ns true (fork (x .label) (family ns (x .hi)) (family ns (x .lo)))
   worked-full fresh h = record { nowaste = nowaste-start ns _; idle = λ e. absurd (never e refl); short = λ e g. (short-made n x f fresh, h) }
 
 -- the family is another one's
@@ -88,14 +88,14 @@ module _ {K : List ℕ} (t : List ℕ) (s : Sound K t) (x : Node) (f : Fine K (n
 
   -- the node is made
   pub words-made : {t′ : List ℕ} → Appended t x t′
-      → Worked c (nodesOf t) false (nodesOf t′) false (join (x .label) (family (nodesOf t) (x .hi)) (family (nodesOf t) (x .lo)))
+      → Worked c (nodesOf t) false (nodesOf t′) false (fork (x .label) (family (nodesOf t) (x .hi)) (family (nodesOf t) (x .lo)))
   words-made a =
-      subst⁻¹ (λ (l : List Node). Worked c (nodesOf t) false l false (join (x .label) (family (nodesOf t) (x .hi)) (family (nodesOf t) (x .lo)))) (appended-nodes a)
+      subst⁻¹ (λ (l : List Node). Worked c (nodesOf t) false l false (fork (x .label) (family (nodesOf t) (x .hi)) (family (nodesOf t) (x .lo)))) (appended-nodes a)
       (worked-made (s .nodes) x fine-words c)
 
   -- the node is not there, and there is no room for it
   pub words-full : ((i : ℕ) → i < count t → getD (nodesOf t) i blank ≡ x → ⊥) → c ≤ count t
-      → Worked c (nodesOf t) false (nodesOf t) true (join (x .label) (family (nodesOf t) (x .hi)) (family (nodesOf t) (x .lo)))
+      → Worked c (nodesOf t) false (nodesOf t) true (fork (x .label) (family (nodesOf t) (x .hi)) (family (nodesOf t) (x .lo)))
   words-full fresh h =
       worked-full (s .nodes) x fine-words c (λ i l. fresh i (omega (arith, length-nodes t))) (omega (arith, length-nodes t))
 

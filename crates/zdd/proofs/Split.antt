@@ -6,7 +6,7 @@ use mathlib.Core.List.{List, [], _∷_}
 use Prim.Native.Nat.{ℕ, zero, suc, _≤_, _<_}
 use native.Mathlib.Omega.{arith}
 use lib.ListN.{length, getD}
-use Rattle.zdd.specs.Table.{Node, blank, Family, join, family, key, Over, Fine, Nodes, elem}
+use Rattle.zdd.specs.Table.{Node, blank, Family, fork, family, key, Over, Fine, Nodes, elem}
 use Rattle.zdd.proofs.Grow.{family-node}
 use Rattle.zdd.proofs.Member.{Avoids, from-at, from-avoids, elem-head}
 use Rattle.zdd.specs.Work.{From, Under, Nowaste, Worked, Split}
@@ -28,19 +28,19 @@ module _ {K : List ℕ} {R : Family} {p : ℕ} {R1 R0 : Family} (s : Split K R p
 
   -- where R1 has no set the whole is R0
   pub split-none : R1 ≡ [] → R ≡ R0
-  split-none e = s .is ∙ ap (λ (F : Family). join p F R0) e
+  split-none e = s .is ∙ ap (λ (F : Family). fork p F R0) e
 
   -- hi first, then lo, then the node
-  pub nowaste-split : {ns n1 n0 ns′ : List Node} → Nowaste ns n1 R1 → Nowaste n1 n0 R0 → Nowaste n0 ns′ (join p R1 R0) → Nowaste ns ns′ R
+  pub nowaste-split : {ns n1 n0 ns′ : List Node} → Nowaste ns n1 R1 → Nowaste n1 n0 R0 → Nowaste n0 ns′ (fork p R1 R0) → Nowaste ns ns′ R
   nowaste-split w1 w0 w = nowaste-then (nowaste-under w1 split-hi) (nowaste-then (nowaste-under w0 split-lo) (nowaste-under w (under-eq (sym (s .is)))))
 
   pub worked-split : {c : ℕ} {ns n1 n0 ns′ : List Node} {b b1 b0 b′ : Bool}
-      → Worked c ns b n1 b1 R1 → Worked c n1 b1 n0 b0 R0 → Worked c n0 b0 ns′ b′ (join p R1 R0) → Worked c ns b ns′ b′ R
+      → Worked c ns b n1 b1 R1 → Worked c n1 b1 n0 b0 R0 → Worked c n0 b0 ns′ b′ (fork p R1 R0) → Worked c ns b ns′ b′ R
   worked-split w1 w0 w = worked-then (worked-under w1 split-hi) (worked-then (worked-under w0 split-lo) (worked-under w (under-eq (sym (s .is)))))
 
   -- lo first
   pub worked-split-lo : {c : ℕ} {ns n0 n1 ns′ : List Node} {b b0 b1 b′ : Bool}
-      → Worked c ns b n0 b0 R0 → Worked c n0 b0 n1 b1 R1 → Worked c n1 b1 ns′ b′ (join p R1 R0) → Worked c ns b ns′ b′ R
+      → Worked c ns b n0 b0 R0 → Worked c n0 b0 n1 b1 R1 → Worked c n1 b1 ns′ b′ (fork p R1 R0) → Worked c ns b ns′ b′ R
   worked-split-lo w0 w1 w = worked-then (worked-under w0 split-lo) (worked-then (worked-under w1 split-hi) (worked-under w (under-eq (sym (s .is)))))
 
 -- ---- the other way of `family-from`: a number whose sets begin late has a late label
@@ -52,9 +52,9 @@ from-over {K} {ns} n (suc (suc i)) h b f =
     let x : Node = getD ns i blank in
     let w : i < length ns = omega arith in
     let g : Fine K ns i x = n .each i w in
-    let e : family ns (suc (suc i)) ≡ join (x .label) (family ns (x .hi)) (family ns (x .lo)) = family-node ns i w (g .lo-below) (g .hi-below) in
+    let e : family ns (suc (suc i)) ≡ fork (x .label) (family ns (x .hi)) (family ns (x .lo)) = family-node ns i w (g .lo-below) (g .hi-below) in
     go (x .label) (family ns (x .hi)) (family ns (x .lo)) (family-some n (x .hi) (omega (arith, g .hi-below)) (g .hi-some)) e
   where
-    go : (p : ℕ) (F1 F0 : Family) → (F1 ≡ [] → ⊥) → family ns (suc (suc i)) ≡ join p F1 F0 → b ≤ key K p
+    go : (p : ℕ) (F1 F0 : Family) → (F1 ≡ [] → ⊥) → family ns (suc (suc i)) ≡ fork p F1 F0 → b ≤ key K p
     go p [] F0 a e = absurd (a refl)
-    go p (t ∷ F1) F0 a e = from-at K b (family ns (suc (suc i))) f p t (ap (λ (F : Family). elem (p ∷ t) F) e ∙ elem-head (p ∷ t) (join p F1 F0))
+    go p (t ∷ F1) F0 a e = from-at K b (family ns (suc (suc i))) f p t (ap (λ (F : Family). elem (p ∷ t) F) e ∙ elem-head (p ∷ t) (fork p F1 F0))

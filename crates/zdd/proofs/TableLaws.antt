@@ -4,7 +4,7 @@ use mathlib.Core.List.{List, [], _∷_}
 use Prim.Native.Nat.{ℕ, zero, suc, _+_, _-_, _*_, _≤_, _<_}
 use native.Mathlib.Omega.{arith}
 use lib.ListN.{length, getD}
-use Rattle.zdd.specs.Table.{Node, blank, join, count, nodesOf, family, key, Over, Fine, Sound, Keys, sets, elem, filter}
+use Rattle.zdd.specs.Table.{Node, blank, fork, count, nodesOf, family, key, Over, Fine, Sound, Keys, sets, elem, filter}
 use Rattle.zdd.proofs.Grow.{family-append, family-node, family-new}
 use Rattle.zdd.proofs.Words.{at-word, node-at, length-nodes, Appended, appended-nodes, sound-canonical}
 use Rattle.zdd.proofs.Listing.{Listed, listed-same, family-listed, family-filtered}
@@ -30,7 +30,7 @@ fine-at {K} {ws} s k a l h e =
     subst (λ (x : Node). Fine K (nodesOf ws) (k - 2) x) (node-at ws (k - 2) a (omega arith) e) (s .nodes .each (k - 2) (omega (arith, length-nodes ws)))
 
 pub family-at : {K ws : List ℕ} → Sound K ws → (k a : ℕ) → 2 ≤ k → k < count ws + 2 → a ≡ 1 + 3 * (k - 2)
-    → family (nodesOf ws) k ≡ join (getD ws a 0) (family (nodesOf ws) (getD ws (a + 2) 0)) (family (nodesOf ws) (getD ws (a + 1) 0))
+    → family (nodesOf ws) k ≡ fork (getD ws a 0) (family (nodesOf ws) (getD ws (a + 2) 0)) (family (nodesOf ws) (getD ws (a + 1) 0))
 family-at {K} {ws} s k a l h e =
     let i : ℕ = k - 2 in
     let w : i < length (nodesOf ws) = omega (arith, length-nodes ws) in
@@ -38,7 +38,7 @@ family-at {K} {ws} s k a l h e =
     let z : k ≡ suc (suc i) = omega arith in
     ap (family (nodesOf ws)) z
     ∙ family-node (nodesOf ws) i w (f .lo-below) (f .hi-below)
-    ∙ ap (λ (x : Node). join (x .label) (family (nodesOf ws) (x .hi)) (family (nodesOf ws) (x .lo))) (node-at ws i a (omega arith) e)
+    ∙ ap (λ (x : Node). fork (x .label) (family (nodesOf ws) (x .hi)) (family (nodesOf ws) (x .lo))) (node-at ws i a (omega arith) e)
 
 -- after a node is appended
 pub appended-old : {ws vs : List ℕ} {x : Node} → Appended ws x vs → (k : ℕ) → k < count ws + 2 → family (nodesOf vs) k ≡ family (nodesOf ws) k
@@ -46,7 +46,7 @@ appended-old {ws} {vs} {x} p k h =
     ap (λ (l : List Node). family l k) (appended-nodes p) ∙ family-append (nodesOf ws) (x ∷ []) k (omega (arith, length-nodes ws))
 
 pub appended-new : {ws vs : List ℕ} {x : Node} → Appended ws x vs
-    → family (nodesOf vs) (count ws + 2) ≡ join (x .label) (family (nodesOf ws) (x .hi)) (family (nodesOf ws) (x .lo))
+    → family (nodesOf vs) (count ws + 2) ≡ fork (x .label) (family (nodesOf ws) (x .hi)) (family (nodesOf ws) (x .lo))
 appended-new {ws} {vs} {x} p =
     let z : count ws + 2 ≡ suc (suc (length (nodesOf ws))) = omega (arith, length-nodes ws) in
     ap₂ family (appended-nodes p) z ∙ family-new (nodesOf ws) x

@@ -6,12 +6,12 @@ use mathlib.Core.List.{List, [], _∷_, cons≢nil, List·Memᴰ·head, List·Me
 use Prim.Native.Nat.{ℕ, suc, _≤_}
 use native.Mathlib.Omega.{arith}
 use lib.ListN.{length}
-use Rattle.zdd.specs.Table.{Node, Family, join, families, key, allSets, sets, order, _∈_}
+use Rattle.zdd.specs.Table.{Node, Family, fork, families, key, allSets, sets, order, _∈_}
 use Rattle.zdd.proofs.Member.{Avoids, from-avoids}
 use Rattle.zdd.specs.Work.{From, Under}
 use Rattle.zdd.proofs.Listing.{Listed, listed-part}
 use Rattle.zdd.specs.Branches.{starting, others, branches, fresh, missing}
-use Rattle.zdd.proofs.Counting.{branches-cons, branches-join, branches-nil, branches-one, at-most, fresh-sound, fresh-distinct, hi-under, lo-under, branches-empty, branches-closed}
+use Rattle.zdd.proofs.Counting.{branches-cons, branches-fork, branches-nil, branches-one, at-most, fresh-sound, fresh-distinct, hi-under, lo-under, branches-empty, branches-closed}
 
 pub under-self : (F : Family) → Under F F
 under-self F = record { each = λ H m. m }
@@ -62,10 +62,10 @@ under-cases {F} {G} u = ⊎-elim (λ m. inl (u .each G m)) (λ e. inr e) (self-o
 
 -- ---- the listed families that have no branch family: those of the numbers 0 and 1
 
-past-map : (p : ℕ) (A B R : Family) → Sublistᴰ ([] ∷ R) (join p A B) → Sublistᴰ ([] ∷ R) B
+past-map : (p : ℕ) (A B R : Family) → Sublistᴰ ([] ∷ R) (fork p A B) → Sublistᴰ ([] ∷ R) B
 past-map p [] B R s = s
 past-map p (a ∷ A) B R s =
-    ⊎-elim (past-map p A B R) (λ (c : ([] ≡ p ∷ a) × Sublistᴰ R (join p A B)). absurd (cons≢nil (sym (c .0)))) (Sublistᴰ·cases-cons-cons s)
+    ⊎-elim (past-map p A B R) (λ (c : ([] ≡ p ∷ a) × Sublistᴰ R (fork p A B)). absurd (cons≢nil (sym (c .0)))) (Sublistᴰ·cases-cons-cons s)
 
 empty-last : (ps : List ℕ) (R : Family) → Sublistᴰ ([] ∷ R) (allSets ps) → R ≡ []
 unfolding allSets
@@ -86,29 +86,29 @@ listed-terminal K ((p ∷ s) ∷ R) l e = absurd (cons≢nil (sym (branches-cons
 pub under-branch : {F G : Family} → G ∈ branches F → Under G F
 under-branch {F} {G} m = record { each = λ H h. branches-closed F G H m h }
 
--- ---- the parts of a join are under it, whatever they are: where F1 has no set, the join is F0
+-- ---- the parts of a fork are under it, whatever they are: where F1 has no set, the fork is F0
 
-pub join-branch : (p : ℕ) (F1 F0 : Family) → (F1 ≡ [] → ⊥) → Avoids p F0 → join p F1 F0 ∈ branches (join p F1 F0)
-join-branch p F1 F0 n a = subst⁻¹ (λ (l : List Family). join p F1 F0 ∈ l) (branches-join p F1 F0 n a) (List·Memᴰ·head refl)
+pub fork-branch : (p : ℕ) (F1 F0 : Family) → (F1 ≡ [] → ⊥) → Avoids p F0 → fork p F1 F0 ∈ branches (fork p F1 F0)
+fork-branch p F1 F0 n a = subst⁻¹ (λ (l : List Family). fork p F1 F0 ∈ l) (branches-fork p F1 F0 n a) (List·Memᴰ·head refl)
 
 some : (s : List ℕ) (F : Family) → (s ∷ F ≡ [] → ⊥)
 some s F e = cons≢nil e
 
-pub under-hi : (p : ℕ) (F1 F0 : Family) → Avoids p F0 → Under F1 (join p F1 F0)
+pub under-hi : (p : ℕ) (F1 F0 : Family) → Avoids p F0 → Under F1 (fork p F1 F0)
 under-hi p [] F0 a = under-nil F0
 under-hi p (s ∷ F1) F0 a =
-    record { each = λ H m. subst⁻¹ (λ (l : List Family). H ∈ l) (branches-join p (s ∷ F1) F0 (some s F1) a) (List·Memᴰ·tail (Memᴰ·append-left _ m)) }
+    record { each = λ H m. subst⁻¹ (λ (l : List Family). H ∈ l) (branches-fork p (s ∷ F1) F0 (some s F1) a) (List·Memᴰ·tail (Memᴰ·append-left _ m)) }
 
-pub under-lo : (p : ℕ) (F1 F0 : Family) → Avoids p F0 → Under F0 (join p F1 F0)
+pub under-lo : (p : ℕ) (F1 F0 : Family) → Avoids p F0 → Under F0 (fork p F1 F0)
 under-lo p [] F0 a = under-self F0
 under-lo p (s ∷ F1) F0 a =
-    record { each = λ H m. subst⁻¹ (λ (l : List Family). H ∈ l) (branches-join p (s ∷ F1) F0 (some s F1) a) (List·Memᴰ·tail (Memᴰ·append-right (branches (s ∷ F1)) m)) }
+    record { each = λ H m. subst⁻¹ (λ (l : List Family). H ∈ l) (branches-fork p (s ∷ F1) F0 (some s F1) a) (List·Memᴰ·tail (Memᴰ·append-right (branches (s ∷ F1)) m)) }
 
 -- the same where the sets of F0 begin after p
-pub after-hi : (K : List ℕ) (p : ℕ) (F1 F0 : Family) → From K (suc (key K p)) F0 → Under F1 (join p F1 F0)
+pub after-hi : (K : List ℕ) (p : ℕ) (F1 F0 : Family) → From K (suc (key K p)) F0 → Under F1 (fork p F1 F0)
 after-hi K p F1 F0 f = under-hi p F1 F0 (from-avoids K (suc (key K p)) p F0 f (omega arith))
 
-pub after-lo : (K : List ℕ) (p : ℕ) (F1 F0 : Family) → From K (suc (key K p)) F0 → Under F0 (join p F1 F0)
+pub after-lo : (K : List ℕ) (p : ℕ) (F1 F0 : Family) → From K (suc (key K p)) F0 → Under F0 (fork p F1 F0)
 after-lo K p F1 F0 f = under-lo p F1 F0 (from-avoids K (suc (key K p)) p F0 f (omega arith))
 
 -- ---- what is missing

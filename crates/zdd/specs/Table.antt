@@ -45,13 +45,13 @@ nodesOf ws = triples (count ws) (drop 1 ws)
 abbrev pub Family : Type 0
 Family = List (List ℕ)
 
--- F1's sets with p added, then F0's sets
-abbrev pub join : ℕ → Family → Family → Family
-join p F1 F0 = map (λ (t : List ℕ). p ∷ t) F1 ++ F0
+-- the family of a node with label p over the families of hi and lo: F1's sets with p added, then F0's sets
+abbrev pub fork : ℕ → Family → Family → Family
+fork p F1 F0 = map (λ (t : List ℕ). p ∷ t) F1 ++ F0
 
 -- a node holds lo's sets, and hi's with the label added; those with it are listed first
 abbrev pub denote : List Family → Node → Family
-denote fs x = join (x .label) (getD fs (x .hi) []) (getD fs (x .lo) [])
+denote fs x = fork (x .label) (getD fs (x .hi) []) (getD fs (x .lo) [])
 
 unfoldable pub grow : List Family → List Node → List Family
 grow fs [] = fs
@@ -94,7 +94,7 @@ order K = orderTo K (length K)
 -- every set of labels ps that are sorted: those with the first label, then those without it
 unfoldable pub allSets : List ℕ → Family
 allSets [] = [] ∷ []
-allSets (p ∷ ps) = join p (allSets ps) (allSets ps)
+allSets (p ∷ ps) = fork p (allSets ps) (allSets ps)
 
 unfoldable pub sets : List ℕ → Family
 unfolding allSets order

@@ -5,7 +5,7 @@ use mathlib.Core.Bool.{Bool, true, false}
 use mathlib.Core.List.{List, _∷_, _++_}
 use Prim.Native.Nat.{ℕ, suc, _≤_, _<_}
 use lib.ListN.{length}
-use Rattle.zdd.specs.Table.{Node, Family, join, family, key, elem, Nodes, _∈_}
+use Rattle.zdd.specs.Table.{Node, Family, fork, family, key, elem, Nodes, _∈_}
 use Rattle.zdd.specs.Branches.{branches}
 
 -- each set of F begins with a label whose key is at least b, or is empty
@@ -14,7 +14,7 @@ From K b F = (q : ℕ) (t : List ℕ) → elem (q ∷ t) F ≡ true → b ≤ ke
 
 -- R is split by its first label p: R1 are the sets that begin with it, without it, and R0 the others
 pub record Split (K : List ℕ) (R : Family) (p : ℕ) (R1 R0 : Family) : Type 0 where
-  pub is : R ≡ join p R1 R0
+  pub is : R ≡ fork p R1 R0
   pub hi-from : From K (suc (key K p)) R1
   pub lo-from : From K (suc (key K p)) R0
 
