@@ -5,6 +5,7 @@ use mathlib.Core.Path.{sym, ap, _∙_}
 use native.Mathlib.Omega.{arith}
 use Prim.Native.Nat.{_-_}
 use Rattle.guard.proofs.GuardLaws.{Passed, passed-start, stray-empty, stray-item, passed-more, passed-all}
+use Rattle.statement.specs.Refusals.{stray}
 use borrow.Author.Needs.{needs}
 use Rattle.guard.proofs.clean.Statement.{statement}
 use Rattle.guard.proofs.clean.Tie as tie
