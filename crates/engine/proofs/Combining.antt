@@ -1,5 +1,5 @@
 -- The calls that make an answer: what `family`'s functions ask, and what their results make of the calls' contracts. Assumes nothing.
-use mathlib.Core.Path.{_≡_, refl, sym, ap, _∙_, subst}
+use mathlib.Core.Path.{_≡_, refl, sym, ap, _∙_, subst, subst⁻¹}
 use mathlib.Core.Logic.{_⊎_, inl, inr}
 use mathlib.Core.Bool.{Bool, true, false, _||_}
 use mathlib.Core.List.{List, [], _∷_}
@@ -9,16 +9,23 @@ use native.Mathlib.Omega.{arith}
 use lib.ListN.{length, take}
 use Rattle.zdd.specs.Table.{Family, count}
 use Rattle.zdd.proofs.Tested.{sound-test}
+use Rattle.exact_cover.specs.Problem.{Problem}
+use Rattle.exact_cover.specs.Cover.{keysOf}
 use Rattle.exact_cover.proofs.Order.{length-keys}
+use Rattle.query.specs.Questions.{unknownPackage}
 use Rattle.family.specs.Gives.{Ready, Makes as FamilyMakes}
 use Rattle.statement.specs.declared.Report.{Report}
-use Rattle.statement.specs.Refusals.{firstOf, unknownAnswer, full}
-use Rattle.statement.specs.Postconditions.{Declined, Makes}
+use Rattle.statement.specs.Refusals.{firstOf, unknownAnswer, full, Fit}
+use Rattle.statement.specs.declared.Call.{Call}
+use Rattle.statement.specs.Calls.{familyOf, stepsOf, partTests, callTests, callRefusal}
+use Rattle.statement.proofs.Admission.{table-passes}
+use Rattle.statement.specs.Postconditions.{Declined, Makes, AnswerPost}
 use Rattle.statement.proofs.Kept.{refused-makes}
 use Rattle.statement.proofs.FirstOf.{pass, hit, none}
 use Rattle.statement.proofs.TestLaws.{answer-known, answer-unknown}
 use Rattle.engine.specs.Reports.{Reported}
-use Rattle.guard.specs.Admitted.{Good}
+use Rattle.guard.specs.Admitted.{Usable, Admitted}
+use Rattle.guard.proofs.GuardLaws.{admit-refused}
 
 -- ---- 5
 
@@ -38,15 +45,37 @@ second-unknown t a b h = go (unknownAnswer t a) (answer-unknown t b h)
 
 -- ---- admitted
 
-module _ {S : List ℕ} {m : ℕ} {t keys heads next : List ℕ} (g : Good S m t keys heads next) where
-  pub ready : Ready (take (length S) keys) t heads next
+module _ {Q : Problem} {t keys heads next : List ℕ} (g : Usable Q t keys heads next) where
+  pub ready : Ready (take (length (Q .packages)) keys) t heads next
   ready = rw (g .keyed .are) (record { keys = g .apart; sound = g .sound; indexed = g .indexed })
 
-  pub keys-fit : length S ≤ length keys
+  pub keys-fit : length (Q .packages) ≤ length keys
   keys-fit = omega (arith, g .keyed .long, g .rows .few)
 
-  pub keys-taken : length (take (length S) keys) ≡ length S
-  keys-taken = ap length (g .keyed .are) ∙ length-keys S
+  pub keys-taken : length (take (length (Q .packages)) keys) ≡ length (Q .packages)
+  keys-taken = ap length (g .keyed .are) ∙ length-keys Q
+
+-- ---- the whole call
+
+-- refused by 1, 2 or 4
+pub call-refused : {Q : Problem} {m : ℕ} {t keys heads next : List ℕ} {k : ℕ} {r : Report} (c : Call) (words : ℕ)
+    → Admitted Q m t keys heads next k → (k ≡ 0 → ⊥) → Declined k t r t → AnswerPost Q m t c words r t
+unfolding callRefusal
+call-refused {k = k} c words o f d = refused-makes k (admit-refused _ o f) f d
+
+-- otherwise its own tests and its work make the call's contract
+pub call-makes : {Q : Problem} {m : ℕ} {t keys heads next : List ℕ} {r : Report} {t′ : List ℕ} {c : Call} (d : Call) (words : ℕ) → Fit Q m → Usable Q t keys heads next → c ≡ d
+    → Makes (keysOf Q) (firstOf (callTests Q m t d words)) (familyOf Q t d) (stepsOf Q d words) t r t′ → AnswerPost Q m t c words r t′
+unfolding callRefusal
+call-makes {Q} {m} {t} {r = r} {t′} d words f g e w =
+    subst⁻¹ (λ (x : Call). AnswerPost Q m t x words r t′) e
+    (subst⁻¹ (λ (n : ℕ). Makes (keysOf Q) n (familyOf Q t d) (stepsOf Q d words) t r t′) (table-passes t _ f (g .unspoilt)) w)
+
+-- the keys are as many as the packages
+pub part-makes : (Q : Problem) {t : List ℕ} (a p : ℕ) {F : Family} (words : ℕ) {r : Report} {t′ : List ℕ}
+    → Makes (keysOf Q) (firstOf (partTests (keysOf Q) t a p F words)) F 0 t r t′ → Makes (keysOf Q) (firstOf (partTests (Q .packages) t a p F words)) F 0 t r t′
+unfolding unknownPackage
+part-makes Q a p words w = rw (length-keys Q) at w
 
 -- ---- what the inner function gave, and what is reported of it
 

@@ -1,81 +1,81 @@
 -- cover: what the search's answer makes of the call's refusal and report. Assumes nothing.
 use mathlib.Core.Path.{_≡_, sym, ap, _∙_, subst⁻¹}
 use mathlib.Core.Bool.{Bool, true, false, not}
-use mathlib.Core.List.{List}
+use mathlib.Core.List.{List, [], _∷_}
 use Prim.Native.Nat.{ℕ, _/_, _≤_, _<_}
 use native.Mathlib.Omega.{arith}
 use borrow.Author.Tests.{ltb-false}
 use Rattle.itemset.specs.Items.{belowb}
 use Rattle.zdd.specs.Table.{Family}
 use Rattle.zdd.proofs.Tested.{sound-test}
+use Rattle.exact_cover.specs.Problem.{Problem}
 use Rattle.exact_cover.specs.Cover.{keysOf, covering}
 use Rattle.exact_cover.specs.Steps.{steps}
 use Rattle.compile.specs.State.{Covered}
 use Rattle.statement.specs.declared.Report.{Report}
 use Rattle.statement.specs.Replies.{gives, outcomeReply}
-use Rattle.statement.specs.Refusals.{unknownItem, spent, full, coverRefusal}
+use Rattle.statement.specs.Refusals.{firstOf, unknownItem, spent, full}
+use Rattle.statement.specs.Calls.{coverTests}
 use Rattle.statement.specs.Postconditions.{Declined, Makes}
 use Rattle.statement.proofs.FirstOf.{pass, hit, none}
 use Rattle.statement.proofs.Kept.{refused-makes}
 use Rattle.statement.proofs.TestLaws.{enough, too-few}
-use Rattle.guard.specs.Admitted.{Good}
-use Rattle.guard.proofs.GuardLaws.{first-passed}
 
 -- the call is refused with n, and the table is as before
 pub refuses : {K : List ℕ} {k : ℕ} {F : Family} {s : ℕ} {t : List ℕ} {r : Report} {t′ : List ℕ} (n : ℕ) → k ≡ n → (n ≡ 0 → ⊥) → t′ ≡ t
     → ((u : List ℕ) → Declined n u r u) → Makes K k F s t r t′
 refuses {t = t} {r = r} n e f z d = refused-makes n e f (subst⁻¹ (λ (u : List ℕ). Declined n t r u) z (d t))
 
-module _ {S : List ℕ} {m : ℕ} {t keys heads next : List ℕ} (g : Good S m t keys heads next) where
-  -- refusals 7 and 8
-  module _ (d limit words : ℕ) where
-    pub item-unknown : belowb d m ≡ false → coverRefusal S m t d limit words ≡ 7
-    unfolding coverRefusal unknownItem
-    item-unknown e = first-passed _ g ∙ hit 7 _ (ap not e)
+-- refusals 7 and 8
+module _ (Q : Problem) (m : ℕ) (t : List ℕ) (d limit words : ℕ) where
+  pub item-unknown : belowb d m ≡ false → firstOf (coverTests Q m t d limit words) ≡ 7
+  unfolding unknownItem
+  item-unknown e = hit 7 _ (ap not e)
 
-    pub words-short : belowb d m ≡ true → words < 2 → coverRefusal S m t d limit words ≡ 8
-    unfolding coverRefusal unknownItem
-    words-short e h = first-passed _ g ∙ pass 7 _ (ap not e) ∙ hit 8 _ (too-few 2 words h)
+  pub words-short : belowb d m ≡ true → words < 2 → firstOf (coverTests Q m t d limit words) ≡ 8
+  unfolding unknownItem
+  words-short e h = pass 7 _ (ap not e) ∙ hit 8 _ (too-few 2 words h)
 
-  -- the search was done: 9, 10 or its answer
-  module _ {d limit words : ℕ} {t′ heads′ next′ : List ℕ} {a n k : ℕ} {filled over : Bool} (e : belowb d m ≡ true) (h : 2 ≤ words)
-      (c : Covered S (words / 2) d limit t t′ heads′ next′ a n k filled over) where
-    pub limit-met : over ≡ true → coverRefusal S m t d limit words ≡ 9
-    unfolding coverRefusal unknownItem spent
-    limit-met o = first-passed _ g ∙ pass 7 _ (ap not e) ∙ pass 8 _ (enough 2 words h) ∙ hit 9 _ (sym (c .spent) ∙ o)
+-- the search was done: 9, 10 or its answer
+module _ {Q : Problem} (m : ℕ) {t : List ℕ} {d limit : ℕ} (words : ℕ) {t′ heads′ next′ : List ℕ} {a n k : ℕ} {filled over : Bool} (e : belowb d m ≡ true)
+    (h : 2 ≤ words) (c : Covered Q (words / 2) d limit t t′ heads′ next′ a n k filled over) where
+  so-far : firstOf (coverTests Q m t d limit words) ≡ firstOf ((over, 9) ∷ (full t (covering Q d), 10) ∷ [])
+  unfolding unknownItem spent
+  so-far = pass 7 _ (ap not e) ∙ pass 8 _ (enough 2 words h) ∙ rw (c .spent)
 
-    pub no-room : over ≡ false → filled ≡ true → coverRefusal S m t d limit words ≡ 10
-    unfolding coverRefusal unknownItem spent full
-    no-room o f =
-        first-passed _ g ∙ pass 7 _ (ap not e) ∙ pass 8 _ (enough 2 words h) ∙ pass 9 _ (sym (c .spent) ∙ o) ∙ hit 10 _ (sym (c .short o) ∙ f)
+  pub limit-met : over ≡ true → firstOf (coverTests Q m t d limit words) ≡ 9
+  limit-met o = so-far ∙ hit 9 _ o
 
-    unrefused : over ≡ false → filled ≡ false → coverRefusal S m t d limit words ≡ 0
-    unfolding coverRefusal unknownItem spent full
-    unrefused o f =
-        first-passed _ g ∙ pass 7 _ (ap not e) ∙ pass 8 _ (enough 2 words h) ∙ pass 9 _ (sym (c .spent) ∙ o) ∙ pass 10 _ (sym (c .short o) ∙ f) ∙ none
+  pub no-room : over ≡ false → filled ≡ true → firstOf (coverTests Q m t d limit words) ≡ 10
+  unfolding full
+  no-room o f = so-far ∙ pass 9 _ o ∙ hit 10 _ (sym (c .short o) ∙ f)
 
-    -- steps within a limit of 32 bits fit 32 bits
-    pub steps-fit : over ≡ false → filled ≡ false → n ≤ limit
-    steps-fit o f =
-        let l : steps S (words / 2) d ≤ limit = ltb-false limit (steps S (words / 2) d) (sym (c .spent) ∙ o) in
-        omega (arith, c .answer o f .counted)
+  unrefused : over ≡ false → filled ≡ false → firstOf (coverTests Q m t d limit words) ≡ 0
+  unfolding full
+  unrefused o f = so-far ∙ pass 9 _ o ∙ pass 10 _ (sym (c .short o) ∙ f) ∙ none
 
-    pub cover-answers : over ≡ false → filled ≡ false → (r : Report) → outcomeReply (r .outcome) ≡ gives a → r .steps ≡ n → r .made ≡ k
-        → Makes (keysOf S) (coverRefusal S m t d limit words) (covering S d) (steps S (words / 2) d) t r t′
-    cover-answers o f r out same made =
-        let w = c .answer o f in
-        record {
-          declined = λ z. absurd (omega (arith, unrefused o f));
-          answered = λ z. record {
-            number = a;
-            outcome = out;
-            known = w .known;
-            holds = w .denotes;
-            steps = same ∙ w .counted;
-            long = w .grown .long;
-            sound = sound-test (keysOf S) t′ (w .grown .sound);
-            old = w .grown .old;
-            grown = omega (arith, w .grew, made);
-            made = made ∙ w .exactly;
-          };
-        }
+  -- steps within a limit of 32 bits fit 32 bits
+  pub steps-fit : over ≡ false → filled ≡ false → n ≤ limit
+  steps-fit o f =
+      let l : steps Q (words / 2) d ≤ limit = ltb-false limit (steps Q (words / 2) d) (sym (c .spent) ∙ o) in
+      omega (arith, c .answer o f .counted)
+
+  pub cover-answers : over ≡ false → filled ≡ false → (r : Report) → outcomeReply (r .outcome) ≡ gives a → r .steps ≡ n → r .made ≡ k
+      → Makes (keysOf Q) (firstOf (coverTests Q m t d limit words)) (covering Q d) (steps Q (words / 2) d) t r t′
+  cover-answers o f r out same made =
+      let w = c .answer o f in
+      record {
+        declined = λ z. absurd (omega (arith, unrefused o f));
+        answered = λ z. record {
+          number = a;
+          outcome = out;
+          known = w .known;
+          holds = w .denotes;
+          steps = same ∙ w .counted;
+          long = w .grown .long;
+          sound = sound-test (keysOf Q) t′ (w .grown .sound);
+          old = w .grown .old;
+          grown = omega (arith, w .grew, made);
+          made = made ∙ w .exactly;
+        };
+      }

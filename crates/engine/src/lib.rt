@@ -3,22 +3,29 @@
 //
 // m is M, packages the N item sets, t the table's words; work are the working words, whose contents before a call do not matter.
 ghost use mathlib.Core.Path.{_≡_};
-ghost use Prim.Native.Nat.{_≤_, _<_};
+ghost use Prim.Native.Nat.{_/_, _≤_, _<_};
 ghost use lib.ListN.{length};
-ghost use Rattle.zdd.specs.Table.{count as nodes};
-ghost use Rattle.exact_cover.specs.Cover.{keysOf};
+ghost use Rattle.zdd.specs.Table.{count as nodes, Sound};
+ghost use Rattle.exact_cover.specs.Problem.{problemOf, Rows};
+ghost use Rattle.exact_cover.specs.Cover.{keysOf, covering};
+ghost use Rattle.exact_cover.specs.Steps.{steps};
 ghost use Rattle.query.specs.Questions.{familyAt};
+ghost use Rattle.table.specs.State.{Indexed};
+ghost use Rattle.family.specs.Gives.{Ready};
 ghost use Rattle.family.specs.Memo.{combined, restricted};
 ghost use Rattle.statement.specs.Replies.{countReply, pickReply, placeReply, cheapestReply};
-ghost use Rattle.statement.specs.Postconditions.{CheckPost, CountPost, PickPost, PlacePost, CheapestPost};
-ghost use Rattle.statement.specs.Postconditions.{CoverPost, PairPost, EitherPost, BothPost, OnlyPost, PackagePost, WithPost, WithoutPost};
+ghost use Rattle.statement.specs.Refusals.{firstOf};
+ghost use Rattle.statement.specs.Calls.{coverTests, pairTests, partTests};
+ghost use Rattle.statement.specs.Postconditions.{CheckPost, CountPost, PickPost, PlacePost, CheapestPost, Makes};
+ghost use Rattle.statement.specs.Postconditions.{AnswerPost, CoverPost, EitherPost, BothPost, OnlyPost, WithPost, WithoutPost};
 ghost use Rattle.engine.specs.Answers.{tallyReply, endRefusal, writtenReply, placedReply, cheapReply};
-ghost use Rattle.engine.specs.Opened.{Opened, OpenedPriced};
+ghost use Rattle.engine.specs.Opened.{knownTests, openTests, pricedTests, Opened};
 ghost use Rattle.engine.specs.Reports.{Reported};
 use query::Cheap;
 use query::Spot;
 use query::Tally;
 use query::Written;
+use statement::Call;
 use statement::Counted;
 use statement::Outcome;
 use statement::Picked;
@@ -29,7 +36,7 @@ use statement::Soundness;
 
 // The soundness check: 1, 2, 4 or sound.
 pub fn check(m: u32, packages: &[u64], t: &[u32]) -> Soundness
-    ensures { λ r. ⌜ CheckPost (now (packages .entry)) m (now (t .entry)) r ⌝ }
+    ensures { λ r. ⌜ CheckPost (problemOf (now (packages .entry))) m (now (t .entry)) r ⌝ }
 {
     let mut keys = [0u32; 512];
     let mut heads = [0u32; 65536];
@@ -41,21 +48,33 @@ pub fn check(m: u32, packages: &[u64], t: &[u32]) -> Soundness
     Soundness::Sound
 }
 
-// Refusal 1, 2, 4 or 5 of a call that reads an answer; 0 where none applies, and then the keys are ready.
-fn opened(m: u32, packages: &[u64], t: &[u32], answer: u32, keys: &mut [u32; 512]) -> u8
+// Refusal 4 or 5 of a call that reads an answer, where 1 and 2 do not apply; 0 where none applies, and then the keys are ready.
+fn known(packages: &[u64], t: &[u32], answer: u32, keys: &mut [u32; 512]) -> u8
+    requires { ⌜ Rows (problemOf (now packages)) ⌝ }
     requires { ⌜ length (now keys) ≡ 512 ⌝ }
-    ensures { λ r. ⌜ Opened (now (packages .entry)) m (now (t .entry)) (now (keys .exit)) answer r ⌝ }
+    ensures { λ r. ⌜ Opened (knownTests (problemOf (now (packages .entry))) (now (t .entry)) answer) (problemOf (now (packages .entry))) (now (t .entry)) (now (keys .exit)) answer r ⌝ }
 {
     let mut heads = [0u32; 65536];
     let mut next = [0u32; 65536];
-    let r = guard::admit(m, packages, t, keys, &mut heads, &mut next);
-    if r != 0 {
-        return r;
+    if !guard::usable(packages, t, keys, &mut heads, &mut next) {
+        return 4;
     }
     if base::wide(t[0]) + 2 <= base::wide(answer) {
         return 5;
     }
     0
+}
+
+// Refusal 1, 2, 4 or 5.
+fn opened(m: u32, packages: &[u64], t: &[u32], answer: u32, keys: &mut [u32; 512]) -> u8
+    requires { ⌜ length (now keys) ≡ 512 ⌝ }
+    ensures { λ r. ⌜ Opened (openTests (problemOf (now (packages .entry))) m (now (t .entry)) answer) (problemOf (now (packages .entry))) (now (t .entry)) (now (keys .exit)) answer r ⌝ }
+{
+    let r = guard::packages_refusal(m, packages);
+    if r != 0 {
+        return r;
+    }
+    known(packages, t, answer, keys)
 }
 
 fn counted(c: Tally) -> Counted
@@ -69,7 +88,7 @@ fn counted(c: Tally) -> Counted
 
 // How many timetables the answer holds.
 pub fn count(m: u32, packages: &[u64], t: &[u32], answer: u32, work: &mut [u64]) -> Counted
-    ensures { λ r. ⌜ CountPost (now (packages .entry)) m (now (t .entry)) answer (length (now (work .entry))) r ⌝ }
+    ensures { λ r. ⌜ CountPost (problemOf (now (packages .entry))) m (now (t .entry)) answer (length (now (work .entry))) r ⌝ }
 {
     let mut keys = [0u32; 512];
     let r = opened(m, packages, t, answer, &mut keys);
@@ -118,7 +137,7 @@ pub fn pick(
     work: &mut [u64],
     page: &mut [u16],
 ) -> Picked
-    ensures { λ r. ⌜ PickPost (now (packages .entry)) m (now (t .entry)) answer k (length (now (work .entry))) (now (page .entry)) r (now (page .exit)) ⌝ }
+    ensures { λ r. ⌜ PickPost (problemOf (now (packages .entry))) m (now (t .entry)) answer k (length (now (work .entry))) (now (page .entry)) r (now (page .exit)) ⌝ }
 {
     let mut keys = [0u32; 512];
     let r = opened(m, packages, t, answer, &mut keys);
@@ -159,7 +178,7 @@ pub fn place(
     list: &[u16],
     work: &mut [u64],
 ) -> Placed
-    ensures { λ r. ⌜ PlacePost (now (packages .entry)) m (now (t .entry)) answer (now (list .entry)) (length (now (work .entry))) r ⌝ }
+    ensures { λ r. ⌜ PlacePost (problemOf (now (packages .entry))) m (now (t .entry)) answer (now (list .entry)) (length (now (work .entry))) r ⌝ }
 {
     let mut keys = [0u32; 512];
     let r = opened(m, packages, t, answer, &mut keys);
@@ -181,22 +200,26 @@ pub fn place(
     placed(c, s)
 }
 
-// Refusal 1, 2, 3, 4 or 5 of cheapest; 0 where none applies.
-fn opened_priced(m: u32, packages: &[u64], costs: &[u16], t: &[u32], answer: u32) -> u8
-    ensures { λ r. ⌜ OpenedPriced (now (packages .entry)) m (now (costs .entry)) (now (t .entry)) answer r ⌝ }
+// Refusal 1, 2, 3, 4 or 5: 3 stands between the tests of the packages and of the table.
+fn opened_priced(
+    m: u32,
+    packages: &[u64],
+    costs: &[u16],
+    t: &[u32],
+    answer: u32,
+    keys: &mut [u32; 512],
+) -> u8
+    requires { ⌜ length (now keys) ≡ 512 ⌝ }
+    ensures { λ r. ⌜ Opened (pricedTests (problemOf (now (packages .entry))) m (now (costs .entry)) (now (t .entry)) answer) (problemOf (now (packages .entry))) (now (t .entry)) (now (keys .exit)) answer r ⌝ }
 {
-    let mut keys = [0u32; 512];
-    let r = opened(m, packages, t, answer, &mut keys);
-    if r == 1 {
-        return 1;
-    }
-    if r == 2 {
-        return 2;
+    let r = guard::packages_refusal(m, packages);
+    if r != 0 {
+        return r;
     }
     if costs.len() != packages.len() {
         return 3;
     }
-    r
+    known(packages, t, answer, keys)
 }
 
 fn priced(c: Cheap) -> Priced
@@ -218,9 +241,10 @@ pub fn cheapest(
     work: &mut [u64],
     page: &mut [u16],
 ) -> Priced
-    ensures { λ r. ⌜ CheapestPost (now (packages .entry)) m (now (costs .entry)) (now (t .entry)) answer (length (now (work .entry))) (now (page .entry)) r (now (page .exit)) ⌝ }
+    ensures { λ r. ⌜ CheapestPost (problemOf (now (packages .entry))) m (now (costs .entry)) (now (t .entry)) answer (length (now (work .entry))) (now (page .entry)) r (now (page .exit)) ⌝ }
 {
-    let r = opened_priced(m, packages, costs, t, answer);
+    let mut keys = [0u32; 512];
+    let r = opened_priced(m, packages, costs, t, answer, &mut keys);
     if r != 0 {
         return Priced::Refused(r);
     }
@@ -233,44 +257,6 @@ pub fn cheapest(
     }
     let c = query::cheapest(costs, t, a, work, page);
     priced(c)
-}
-
-// The timetables covering d, with the step limit `limit` [document 01: B]: two working words are one place of the memo.
-pub fn cover(
-    m: u32,
-    packages: &[u64],
-    t: &mut [u32],
-    d: u64,
-    limit: u32,
-    work: &mut [u64],
-) -> Report
-    ensures { λ r. ⌜ CoverPost (now (packages .entry)) m (now (t .entry)) d limit (length (now (work .entry))) r (now (t .exit)) ⌝ }
-{
-    let mut keys = [0u32; 512];
-    let mut heads = [0u32; 65536];
-    let mut next = [0u32; 65536];
-    let r = guard::admit(m, packages, t, &mut keys, &mut heads, &mut next);
-    if r != 0 {
-        return statement::declined(r);
-    }
-    if !itemset::below(d, m) {
-        return statement::declined(7);
-    }
-    if work.len() / 2 == 0 {
-        return statement::declined(8);
-    }
-    let found = compile::cover(packages, t, &mut heads, &mut next, work, d, limit as u64);
-    if found.over {
-        return statement::declined(9);
-    }
-    if found.full {
-        return statement::declined(10);
-    }
-    Report {
-        outcome: Outcome::Answer(found.answer),
-        steps: found.steps as u32,
-        made: found.made,
-    }
 }
 
 // The report of a call whose answer has the number k, or 65536 where there was no room for it. The table had `before` nodes before the call.
@@ -289,17 +275,57 @@ fn report(t: &[u32], before: u32, k: u32) -> Report
     statement::declined(10)
 }
 
-// Union (op 0), intersection (1) or difference (2) of the answers a and b.
-fn pair(m: u32, packages: &[u64], t: &mut [u32], a: u32, b: u32, work: &mut [u64], op: u8) -> Report
-    ensures { λ r. ⌜ PairPost (now (packages .entry)) m (now (t .entry)) a b (combined op (keysOf (now (packages .entry))) (familyAt (now (t .entry)) a) (familyAt (now (t .entry)) b)) (length (now (work .entry))) r (now (t .exit)) ⌝ }
+// Cover's own tests and its work, on packages and a table that are good.
+fn answer_cover(
+    m: u32,
+    packages: &[u64],
+    t: &mut [u32],
+    heads: &mut [u32; 65536],
+    next: &mut [u32; 65536],
+    work: &mut [u64],
+    d: u64,
+    limit: u32,
+) -> Report
+    requires { ⌜ m ≤ 64 ⌝ }
+    requires { ⌜ Rows (problemOf (now packages)) ⌝ }
+    requires { ⌜ Sound (keysOf (problemOf (now packages))) (now t) ⌝ }
+    requires { ⌜ Indexed (now t) (now heads) (now next) ⌝ }
+    ensures { λ r. ⌜ Makes (keysOf (problemOf (now (packages .entry)))) (firstOf (coverTests (problemOf (now (packages .entry))) m (now (t .entry)) d limit (length (now (work .entry))))) (covering (problemOf (now (packages .entry))) d) (steps (problemOf (now (packages .entry))) (length (now (work .entry)) / 2) d) (now (t .entry)) r (now (t .exit)) ⌝ }
 {
-    let mut keys = [0u32; 512];
-    let mut heads = [0u32; 65536];
-    let mut next = [0u32; 65536];
-    let r = guard::admit(m, packages, t, &mut keys, &mut heads, &mut next);
-    if r != 0 {
-        return statement::declined(r);
+    if !itemset::below(d, m) {
+        return statement::declined(7);
     }
+    if work.len() / 2 == 0 {
+        return statement::declined(8);
+    }
+    let found = compile::cover(packages, t, heads, next, work, d, limit as u64);
+    if found.over {
+        return statement::declined(9);
+    }
+    if found.full {
+        return statement::declined(10);
+    }
+    Report {
+        outcome: Outcome::Answer(found.answer),
+        steps: found.steps as u32,
+        made: found.made,
+    }
+}
+
+// Union (op 0), intersection (1) or difference (2) of the answers a and b.
+fn answer_pair(
+    t: &mut [u32],
+    keys: &[u32],
+    heads: &mut [u32; 65536],
+    next: &mut [u32; 65536],
+    work: &mut [u64],
+    op: u8,
+    a: u32,
+    b: u32,
+) -> Report
+    requires { ⌜ Ready (now keys) (now t) (now heads) (now next) ⌝ }
+    ensures { λ r. ⌜ Makes (now (keys .entry)) (firstOf (pairTests (now (t .entry)) a b (combined op (now (keys .entry)) (familyAt (now (t .entry)) a) (familyAt (now (t .entry)) b)) (length (now (work .entry))))) (combined op (now (keys .entry)) (familyAt (now (t .entry)) a) (familyAt (now (t .entry)) b)) 0 (now (t .entry)) r (now (t .exit)) ⌝ }
+{
     let n = t[0];
     if n + 2 <= a {
         return statement::declined(5);
@@ -310,22 +336,41 @@ fn pair(m: u32, packages: &[u64], t: &mut [u32], a: u32, b: u32, work: &mut [u64
     if work.len() < 2 {
         return statement::declined(8);
     }
-    let last = packages.len();
-    let k = family::combination(t, &keys[..last], &mut heads, &mut next, work, op, a, b);
+    let k = family::combination(t, keys, heads, next, work, op, a, b);
     report(t, n, k)
 }
 
 // The timetables of the answer a that hold the package p, or those that do not.
-fn package(
-    m: u32,
-    packages: &[u64],
+fn answer_part(
     t: &mut [u32],
+    keys: &[u32],
+    heads: &mut [u32; 65536],
+    next: &mut [u32; 65536],
+    words: usize,
     a: u32,
     p: u32,
-    work: &mut [u64],
     holding: bool,
 ) -> Report
-    ensures { λ r. ⌜ PackagePost (now (packages .entry)) m (now (t .entry)) a p (restricted holding (keysOf (now (packages .entry))) p (familyAt (now (t .entry)) a)) (length (now (work .entry))) r (now (t .exit)) ⌝ }
+    requires { ⌜ Ready (now keys) (now t) (now heads) (now next) ⌝ }
+    ensures { λ r. ⌜ Makes (now (keys .entry)) (firstOf (partTests (now (keys .entry)) (now (t .entry)) a p (restricted holding (now (keys .entry)) p (familyAt (now (t .entry)) a)) words)) (restricted holding (now (keys .entry)) p (familyAt (now (t .entry)) a)) 0 (now (t .entry)) r (now (t .exit)) ⌝ }
+{
+    let n = t[0];
+    if n + 2 <= a {
+        return statement::declined(5);
+    }
+    if keys.len() <= base::wide(p) {
+        return statement::declined(6);
+    }
+    if words < 2 {
+        return statement::declined(8);
+    }
+    let k = family::restriction(t, keys, heads, next, p, holding, a);
+    report(t, n, k)
+}
+
+// Any call that makes an answer: what it reads must be good, then its own tests and its work.
+pub fn answer(m: u32, packages: &[u64], t: &mut [u32], c: Call, work: &mut [u64]) -> Report
+    ensures { λ r. ⌜ AnswerPost (problemOf (now (packages .entry))) m (now (t .entry)) c (length (now (work .entry))) r (now (t .exit)) ⌝ }
 {
     let mut keys = [0u32; 512];
     let mut heads = [0u32; 65536];
@@ -334,52 +379,89 @@ fn package(
     if r != 0 {
         return statement::declined(r);
     }
-    let n = t[0];
-    if n + 2 <= a {
-        return statement::declined(5);
+    let n = packages.len();
+    match c {
+        Call::Cover { d, limit } => answer_cover(
+            m,
+            packages,
+            t,
+            &mut heads,
+            &mut next,
+            work,
+            d,
+            limit,
+        ),
+        Call::Either { a, b } => answer_pair(t, &keys[..n], &mut heads, &mut next, work, 0, a, b),
+        Call::Both { a, b } => answer_pair(t, &keys[..n], &mut heads, &mut next, work, 1, a, b),
+        Call::Only { a, b } => answer_pair(t, &keys[..n], &mut heads, &mut next, work, 2, a, b),
+        Call::With { a, p } => answer_part(
+            t,
+            &keys[..n],
+            &mut heads,
+            &mut next,
+            work.len(),
+            a,
+            p,
+            true,
+        ),
+        Call::Without { a, p } => answer_part(
+            t,
+            &keys[..n],
+            &mut heads,
+            &mut next,
+            work.len(),
+            a,
+            p,
+            false,
+        ),
     }
-    if packages.len() <= base::wide(p) {
-        return statement::declined(6);
-    }
-    if work.len() < 2 {
-        return statement::declined(8);
-    }
-    let last = packages.len();
-    let k = family::restriction(t, &keys[..last], &mut heads, &mut next, p, holding, a);
-    report(t, n, k)
+}
+
+// The timetables covering d, with the step limit `limit` [document 01: B]: two working words are one place of the memo.
+pub fn cover(
+    m: u32,
+    packages: &[u64],
+    t: &mut [u32],
+    d: u64,
+    limit: u32,
+    work: &mut [u64],
+) -> Report
+    ensures { λ r. ⌜ CoverPost (problemOf (now (packages .entry))) m (now (t .entry)) d limit (length (now (work .entry))) r (now (t .exit)) ⌝ }
+{
+    answer(m, packages, t, Call::Cover { d, limit }, work)
 }
 
 // Union: the timetables of a and those of b.
 pub fn either(m: u32, packages: &[u64], t: &mut [u32], a: u32, b: u32, work: &mut [u64]) -> Report
-    ensures { λ r. ⌜ EitherPost (now (packages .entry)) m (now (t .entry)) a b (length (now (work .entry))) r (now (t .exit)) ⌝ }
+    ensures { λ r. ⌜ EitherPost (problemOf (now (packages .entry))) m (now (t .entry)) a b (length (now (work .entry))) r (now (t .exit)) ⌝ }
 {
-    pair(m, packages, t, a, b, work, 0)
+    answer(m, packages, t, Call::Either { a, b }, work)
 }
 
 // Intersection: the timetables of a that b has too.
 pub fn both(m: u32, packages: &[u64], t: &mut [u32], a: u32, b: u32, work: &mut [u64]) -> Report
-    ensures { λ r. ⌜ BothPost (now (packages .entry)) m (now (t .entry)) a b (length (now (work .entry))) r (now (t .exit)) ⌝ }
+    ensures { λ r. ⌜ BothPost (problemOf (now (packages .entry))) m (now (t .entry)) a b (length (now (work .entry))) r (now (t .exit)) ⌝ }
 {
-    pair(m, packages, t, a, b, work, 1)
+    answer(m, packages, t, Call::Both { a, b }, work)
 }
 
 // Difference: the timetables of a that b has not.
 pub fn only(m: u32, packages: &[u64], t: &mut [u32], a: u32, b: u32, work: &mut [u64]) -> Report
-    ensures { λ r. ⌜ OnlyPost (now (packages .entry)) m (now (t .entry)) a b (length (now (work .entry))) r (now (t .exit)) ⌝ }
+    ensures { λ r. ⌜ OnlyPost (problemOf (now (packages .entry))) m (now (t .entry)) a b (length (now (work .entry))) r (now (t .exit)) ⌝ }
 {
-    pair(m, packages, t, a, b, work, 2)
+    answer(m, packages, t, Call::Only { a, b }, work)
 }
 
 // The timetables of a that hold p.
 pub fn with(m: u32, packages: &[u64], t: &mut [u32], a: u32, p: u32, work: &mut [u64]) -> Report
-    ensures { λ r. ⌜ WithPost (now (packages .entry)) m (now (t .entry)) a p (length (now (work .entry))) r (now (t .exit)) ⌝ }
+    ensures { λ r. ⌜ WithPost (problemOf (now (packages .entry))) m (now (t .entry)) a p (length (now (work .entry))) r (now (t .exit)) ⌝ }
 {
-    package(m, packages, t, a, p, work, true)
+    answer(m, packages, t, Call::With { a, p }, work)
 }
 
 // The timetables of a that do not hold p.
 pub fn without(m: u32, packages: &[u64], t: &mut [u32], a: u32, p: u32, work: &mut [u64]) -> Report
-    ensures { λ r. ⌜ WithoutPost (now (packages .entry)) m (now (t .entry)) a p (length (now (work .entry))) r (now (t .exit)) ⌝ }
+    ensures { λ r. ⌜ WithoutPost (problemOf (now (packages .entry))) m (now (t .entry)) a p (length (now (work .entry))) r (now (t .exit)) ⌝ }
 {
-    package(m, packages, t, a, p, work, false)
+    answer(m, packages, t, Call::Without { a, p }, work)
 }

@@ -16,7 +16,7 @@ use Rattle.exact_cover.specs.Steps.{each, visit, steps}
 use Rattle.statement.specs.declared.Report.{Report}
 use Rattle.statement.specs.declared.Outcome.the-variants.{Answer, Refused}
 use Rattle.statement.specs.declared.Picked.the-variants.{Packages}
-use Rattle.statement.specs.Refusals.{firstOf, oversize, stray, unsound, unknownAnswer, unknownItem, shortWork, spent, full, uncountable, pastEnd, shortPage, coverRefusal, pairRefusal, packageRefusal, pickRefusal}
+use Rattle.statement.specs.Refusals.{firstOf, oversize, stray, unsound, unknownAnswer, unknownItem, shortWork, spent, full, uncountable, pastEnd, shortPage, callRefusal, callRefusal, callRefusal, pickRefusal}
 use Rattle.query.specs.Questions.{unknownPackage}
 use Rattle.statement.specs.Postconditions.{CoverPost, WithPost, WithoutPost, OnlyPost, PickPost}
 use Rattle.history.specs.Histories.{cover, only, «with», without as exclude, Calls, History, start, next, SameSet, Posting, noTimetable, ledger, Returns, Demanded}
@@ -35,7 +35,7 @@ abbrev report : ℕ → ℕ → ℕ → Report
 report a s c = record { outcome = Answer a; steps = s; made = c }
 
 first-cover : CoverPost figure1 6 (emptyTable 6) 63 6 128 (report 5 6 4) covered
-unfolding holds insideb without belowb size lowest nodesOf capacity families family order allSets sets filter soundb eqSet elem starting others weight branchesTo branches eqFamily amongb fresh missing keysFrom keysOf holders allInside once covers covering fits down candidates each visit steps firstOf oversize stray unsound unknownItem shortWork spent full coverRefusal
+unfolding holds insideb without belowb size lowest lead done nodesOf capacity families family order allSets sets filter soundb eqSet elem starting others weight branchesTo branches eqFamily amongb fresh missing keysFrom keysOf holders allInside once covers covering fits down candidates each visit steps firstOf oversize strayIn stray unsound unknownItem shortWork spent full callRefusal
 first-cover = record {
   declined = λ l. absurd (not-suc-le-zero l);
   answered = λ e. record { number = 5; outcome = refl; known = omega arith; holds = refl; steps = refl; long = refl; sound = refl; old = refl; grown = refl; made = refl };
@@ -43,14 +43,14 @@ first-cover = record {
 
 -- B is 5
 second-cover : CoverPost figure1 6 covered 63 5 128 (record { outcome = Refused 9; steps = 0; made = 0 }) covered
-unfolding holds insideb without belowb size lowest nodesOf capacity order allSets sets filter soundb eqSet keysFrom keysOf fits down candidates each visit steps firstOf oversize stray unsound unknownItem shortWork spent coverRefusal
+unfolding holds insideb without belowb size lowest lead done nodesOf capacity order allSets sets filter soundb eqSet keysFrom keysOf fits down candidates each visit steps firstOf oversize strayIn stray unsound unknownItem shortWork spent callRefusal
 second-cover = record {
   declined = λ l. record { outcome = refl; steps = refl; made = refl; table = refl };
-  answered = λ (e : coverRefusal figure1 6 covered 63 5 128 ≡ 0). absurd (omega arith);
+  answered = λ (e : callRefusal figure1 6 covered (Cover 63 5) 128 ≡ 0). absurd (omega arith);
 }
 
 with-0 : WithPost figure1 6 covered 5 0 2 (report 6 0 1) final
-unfolding holds insideb without belowb size lowest nodesOf capacity families family order allSets sets filter soundb eqSet elem has starting others weight branchesTo branches eqFamily amongb fresh missing keysFrom keysOf firstOf oversize stray unsound unknownAnswer unknownPackage shortWork full including packageRefusal
+unfolding holds insideb without belowb size lowest lead done nodesOf capacity families family order allSets sets filter soundb eqSet elem has starting others weight branchesTo branches eqFamily amongb fresh missing keysFrom keysOf firstOf oversize strayIn stray unsound unknownAnswer unknownPackage shortWork full including callRefusal
 with-0 = record {
   declined = λ l. absurd (not-suc-le-zero l);
   answered = λ e. record { number = 6; outcome = refl; known = omega arith; holds = refl; steps = refl; long = refl; sound = refl; old = refl; grown = refl; made = refl };
@@ -58,7 +58,7 @@ with-0 = record {
 
 -- {1, 4, 2} is number 4 already
 only-other : OnlyPost figure1 6 final 5 6 2 (report 4 0 0) final
-unfolding holds insideb without belowb size lowest nodesOf capacity families family order allSets sets filter soundb eqSet elem has combine starting others weight branchesTo branches eqFamily amongb fresh missing keysFrom keysOf firstOf oversize stray unsound unknownAnswer shortWork full pairRefusal
+unfolding holds insideb without belowb size lowest lead done nodesOf capacity families family order allSets sets filter soundb eqSet elem has combine starting others weight branchesTo branches eqFamily amongb fresh missing keysFrom keysOf firstOf oversize strayIn stray unsound unknownAnswer shortWork full callRefusal
 only-other = record {
   declined = λ l. absurd (not-suc-le-zero l);
   answered = λ e. record { number = 4; outcome = refl; known = omega arith; holds = refl; steps = refl; long = refl; sound = refl; old = refl; grown = refl; made = refl };
@@ -66,7 +66,7 @@ only-other = record {
 
 -- and so it is made another way
 without-0 : WithoutPost figure1 6 final 5 0 2 (report 4 0 0) final
-unfolding holds insideb without belowb size lowest nodesOf capacity families family order allSets sets filter soundb eqSet elem has starting others weight branchesTo branches eqFamily amongb fresh missing keysFrom keysOf firstOf oversize stray unsound unknownAnswer unknownPackage shortWork full excluding packageRefusal
+unfolding holds insideb without belowb size lowest lead done nodesOf capacity families family order allSets sets filter soundb eqSet elem has starting others weight branchesTo branches eqFamily amongb fresh missing keysFrom keysOf firstOf oversize strayIn stray unsound unknownAnswer unknownPackage shortWork full excluding callRefusal
 without-0 = record {
   declined = λ l. absurd (not-suc-le-zero l);
   answered = λ e. record { number = 4; outcome = refl; known = omega arith; holds = refl; steps = refl; long = refl; sound = refl; old = refl; grown = refl; made = refl };
@@ -74,7 +74,7 @@ without-0 = record {
 
 -- the first cover again: the same steps, and no node made
 third-cover : CoverPost figure1 6 final 63 6 128 (report 5 6 0) final
-unfolding holds insideb without belowb size lowest nodesOf capacity families family order allSets sets filter soundb eqSet elem starting others weight branchesTo branches eqFamily amongb fresh missing keysFrom keysOf holders allInside once covers covering fits down candidates each visit steps firstOf oversize stray unsound unknownItem shortWork spent full coverRefusal
+unfolding holds insideb without belowb size lowest lead done nodesOf capacity families family order allSets sets filter soundb eqSet elem starting others weight branchesTo branches eqFamily amongb fresh missing keysFrom keysOf holders allInside once covers covering fits down candidates each visit steps firstOf oversize strayIn stray unsound unknownItem shortWork spent full callRefusal
 third-cover = record {
   declined = λ l. absurd (not-suc-le-zero l);
   answered = λ e. record { number = 5; outcome = refl; known = omega arith; holds = refl; steps = refl; long = refl; sound = refl; old = refl; grown = refl; made = refl };
@@ -82,23 +82,23 @@ third-cover = record {
 
 abbrev calls : Calls
 calls =
-    (cover 6 63 6 128, report 5 6 0)
-    ∷ (exclude 6 5 0 2, report 4 0 0)
-    ∷ (only 6 5 6 2, report 4 0 0)
-    ∷ («with» 6 5 0 2, report 6 0 1)
-    ∷ (cover 6 63 5 128, record { outcome = Refused 9; steps = 0; made = 0 })
-    ∷ (cover 6 63 6 128, report 5 6 4)
+    (entry 6 (Cover 63 6) 128, report 5 6 0)
+    ∷ (entry 6 (Without 5 0) 2, report 4 0 0)
+    ∷ (entry 6 (Only 5 6) 2, report 4 0 0)
+    ∷ (entry 6 (With 5 0) 2, report 6 0 1)
+    ∷ (entry 6 (Cover 63 5) 128, record { outcome = Refused 9; steps = 0; made = 0 })
+    ∷ (entry 6 (Cover 63 6) 128, report 5 6 4)
     ∷ []
 
 history : History figure1 calls final
 history =
     next (next (next (next (next (next (start 19)
-    (cover 6 63 6 128) (report 5 6 4) covered (λ x m. absurd (List·Memᴰ·not-nil m)) first-cover)
-    (cover 6 63 5 128) (record { outcome = Refused 9; steps = 0; made = 0 }) covered tt second-cover)
-    («with» 6 5 0 2) (report 6 0 1) final (λ x m. one x (List·Memᴰ·cases-cons m)) with-0)
-    (only 6 5 6 2) (report 4 0 0) final (λ x m. two x (List·Memᴰ·cases-cons m)) only-other)
-    (exclude 6 5 0 2) (report 4 0 0) final (λ x m. five x (List·Memᴰ·cases-cons m)) without-0)
-    (cover 6 63 6 128) (report 5 6 0) final (λ x m. absurd (List·Memᴰ·not-nil m)) third-cover
+    (entry 6 (Cover 63 6) 128) (report 5 6 4) covered (λ x m. absurd (List·Memᴰ·not-nil m)) first-cover)
+    (entry 6 (Cover 63 5) 128) (record { outcome = Refused 9; steps = 0; made = 0 }) covered tt second-cover)
+    (entry 6 (With 5 0) 2) (report 6 0 1) final (λ x m. one x (List·Memᴰ·cases-cons m)) with-0)
+    (entry 6 (Only 5 6) 2) (report 4 0 0) final (λ x m. two x (List·Memᴰ·cases-cons m)) only-other)
+    (entry 6 (Without 5 0) 2) (report 4 0 0) final (λ x m. five x (List·Memᴰ·cases-cons m)) without-0)
+    (entry 6 (Cover 63 6) 128) (report 5 6 0) final (λ x m. absurd (List·Memᴰ·not-nil m)) third-cover
   where
     one : (x : ℕ) → (x ≡ 5) ⊎ (x ∈ []) → x ∈ 5 ∷ 0 ∷ 1 ∷ []
     one x (inl e) = List·Memᴰ·head e
@@ -146,12 +146,12 @@ two-sets e = let z : _≡_ {A = ℕ} 5 4 = demanded .numbers (posting 0) (postin
 
 -- the second timetable of 5, on a page of four
 picked : PickPost figure1 6 final 5 1 6 (7 ∷ 7 ∷ 7 ∷ 7 ∷ []) (Packages 3) (1 ∷ 4 ∷ 2 ∷ 7 ∷ [])
-unfolding holds insideb belowb lowest nodesOf capacity families family soundb keysFrom keysOf firstOf oversize stray unsound unknownAnswer shortWork uncountable pastEnd shortPage pickRefusal
+unfolding holds insideb belowb lowest lead done nodesOf capacity families family soundb keysFrom keysOf firstOf oversize strayIn stray unsound unknownAnswer shortWork uncountable pastEnd shortPage pickRefusal
 picked = record { result = refl; pages = refl }
 
 -- it is what the demand says
 second-of-five : Returns (1 ∷ 4 ∷ 2 ∷ []) (7 ∷ 7 ∷ 7 ∷ 7 ∷ []) (Packages 3) (1 ∷ 4 ∷ 2 ∷ 7 ∷ [])
-unfolding holds insideb belowb size lowest order allSets sets filter keysFrom keysOf holders allInside once covers
+unfolding holds insideb belowb size lowest lead done order allSets sets filter keysFrom keysOf holders allInside once covers
 second-of-five =
     demanded .picks (posting 0) (posted 0 (omega arith)) (omega arith) 6 (List·Memᴰ·head refl) 6 (omega arith) 1
     (7 ∷ 7 ∷ 7 ∷ 7 ∷ []) (Packages 3) (1 ∷ 4 ∷ 2 ∷ 7 ∷ []) picked .0 (omega arith) (omega arith)

@@ -12,8 +12,12 @@ use Rattle.base.proofs.Bools.{and-left, and-right, or-left, or-cases}
 use Rattle.zdd.specs.Table.{_∈_}
 use Rattle.statement.specs.declared.Report.{Report}
 use Rattle.history.specs.declared.Request.{Request}
-use Rattle.history.specs.Histories.{without, operands, Step}
-use Rattle.history.specs.Script.{callOf, requestCall, requestAt, callAt, narrow, possible, every, runs}
+use Rattle.exact_cover.specs.Problem.{Problem}
+use Rattle.statement.specs.declared.Call.{Call}
+use Rattle.statement.specs.declared.Call.the-variants.{Without}
+use Rattle.statement.specs.Calls.{operands}
+use Rattle.history.specs.Histories.{entry, Step}
+use Rattle.history.specs.Script.{callOf, requestEntry, requestAt, callAt, narrow, possible, every, runs}
 
 -- ---- tests one after the other
 
@@ -28,14 +32,13 @@ or-skip b e = sym (ap (λ (x : Bool). x || b) e)
 
 -- ---- the call of five words
 
-pub call-last : (kind m x y words : ℕ) → (kind ≡ 0 → ⊥) → (kind ≡ 1 → ⊥) → (kind ≡ 2 → ⊥) → (kind ≡ 3 → ⊥) → (kind ≡ 4 → ⊥)
-    → callOf kind m x y words ≡ without m x y words
-call-last zero m x y words n0 n1 n2 n3 n4 = absurd (n0 refl)
-call-last (suc zero) m x y words n0 n1 n2 n3 n4 = absurd (n1 refl)
-call-last (suc (suc zero)) m x y words n0 n1 n2 n3 n4 = absurd (n2 refl)
-call-last (suc (suc (suc zero))) m x y words n0 n1 n2 n3 n4 = absurd (n3 refl)
-call-last (suc (suc (suc (suc zero)))) m x y words n0 n1 n2 n3 n4 = absurd (n4 refl)
-call-last (suc (suc (suc (suc (suc k))))) m x y words n0 n1 n2 n3 n4 = refl
+pub call-last : (kind x y : ℕ) → (kind ≡ 0 → ⊥) → (kind ≡ 1 → ⊥) → (kind ≡ 2 → ⊥) → (kind ≡ 3 → ⊥) → (kind ≡ 4 → ⊥) → callOf kind x y ≡ Without x y
+call-last zero x y n0 n1 n2 n3 n4 = absurd (n0 refl)
+call-last (suc zero) x y n0 n1 n2 n3 n4 = absurd (n1 refl)
+call-last (suc (suc zero)) x y n0 n1 n2 n3 n4 = absurd (n2 refl)
+call-last (suc (suc (suc zero))) x y n0 n1 n2 n3 n4 = absurd (n3 refl)
+call-last (suc (suc (suc (suc zero)))) x y n0 n1 n2 n3 n4 = absurd (n4 refl)
+call-last (suc (suc (suc (suc (suc k))))) x y n0 n1 n2 n3 n4 = refl
 
 -- what a request that possible has
 pub record Fitting (room : ℕ) (q : Request) : Type 0 where
@@ -61,10 +64,11 @@ fitting room q e =
     }
 
 -- the call that a request asks is made of its words, and of as many working words as it says
-pub step-request : (S t : List ℕ) (q q′ : Request) (n : ℕ) (r : Report) (t′ : List ℕ) → q ≡ q′ → n ≡ q .words
-    → Step S t (callOf (q .kind) (q .m) (q .x) (q .y) n) r t′ → Step S t (requestCall q′) r t′
-step-request S t q q′ n r t′ e l s =
-    subst (λ (p : Request). Step S t (requestCall p) r t′) e (subst (λ (k : ℕ). Step S t (callOf (q .kind) (q .m) (q .x) (q .y) k) r t′) l s)
+pub step-request : (Q : Problem) (t : List ℕ) (q q′ : Request) (c : Call) (n : ℕ) (r : Report) (t′ : List ℕ) → q ≡ q′ → n ≡ q .words
+    → c ≡ callOf (q .kind) (q .x) (q .y) → Step Q t (entry (q .m) c n) r t′ → Step Q t (requestEntry q′) r t′
+step-request Q t q q′ c n r t′ e l d s =
+    subst (λ (p : Request). Step Q t (requestEntry p) r t′) e
+    (subst (λ (k : ℕ). Step Q t (entry (q .m) (callOf (q .kind) (q .x) (q .y)) k) r t′) l (subst (λ (b : Call). Step Q t (entry (q .m) b n) r t′) d s))
 
 -- ---- the operands
 
@@ -73,23 +77,23 @@ and-true true = refl
 and-true false = refl
 
 -- the operands' test, by the kind
-pub every-operand : (P : ℕ → Bool) (kind m x y words : ℕ)
-    → every P (operands (callOf kind m x y words)) ≡ cond (eqb kind 0) true (P x && (leb 4 kind || P y))
+pub every-operand : (P : ℕ → Bool) (kind x y : ℕ)
+    → every P (operands (callOf kind x y)) ≡ cond (eqb kind 0) true (P x && (leb 4 kind || P y))
 unfolding every
-every-operand P zero m x y words = refl
-every-operand P (suc zero) m x y words = ap (λ (b : Bool). P x && b) (and-true (P y))
-every-operand P (suc (suc zero)) m x y words = ap (λ (b : Bool). P x && b) (and-true (P y))
-every-operand P (suc (suc (suc zero))) m x y words = ap (λ (b : Bool). P x && b) (and-true (P y))
-every-operand P (suc (suc (suc (suc zero)))) m x y words = refl
-every-operand P (suc (suc (suc (suc (suc k))))) m x y words =
+every-operand P zero x y = refl
+every-operand P (suc zero) x y = ap (λ (b : Bool). P x && b) (and-true (P y))
+every-operand P (suc (suc zero)) x y = ap (λ (b : Bool). P x && b) (and-true (P y))
+every-operand P (suc (suc (suc zero))) x y = ap (λ (b : Bool). P x && b) (and-true (P y))
+every-operand P (suc (suc (suc (suc zero)))) x y = refl
+every-operand P (suc (suc (suc (suc (suc k))))) x y =
     sym (ap₂ (λ (a b : Bool). cond a true (P x && (b || P y)))
     (ne-eqb (suc (suc (suc (suc (suc k))))) 0 (λ z. omega arith))
     (le-leb 4 (suc (suc (suc (suc (suc k))))) (omega arith)))
 
-pub every-same : (P Q : ℕ → Bool) (l : List ℕ) → ((x : ℕ) → P x ≡ Q x) → every P l ≡ every Q l
+pub every-same : (P R : ℕ → Bool) (l : List ℕ) → ((x : ℕ) → P x ≡ R x) → every P l ≡ every R l
 unfolding every
-every-same P Q [] h = refl
-every-same P Q (x ∷ l) h = ap₂ _&&_ (h x) (every-same P Q l h)
+every-same P R [] h = refl
+every-same P R (x ∷ l) h = ap₂ _&&_ (h x) (every-same P R l h)
 
 pub every-at : (P : ℕ → Bool) (l : List ℕ) → every P l ≡ true → (x : ℕ) → x ∈ l → P x ≡ true
 unfolding every
@@ -103,23 +107,23 @@ every-at P (y ∷ l) e x i = go (List·Memᴰ·cases-cons i) (every-at P l (and-
 -- the same by the branches of the code
 
 module _ (P : ℕ → Bool) (q : Request) where
-  by-kind : every P (operands (requestCall q)) ≡ cond (eqb (q .kind) 0) true (P (q .x) && (leb 4 (q .kind) || P (q .y)))
-  by-kind = every-operand P (q .kind) (q .m) (q .x) (q .y) (q .words)
+  by-kind : every P (operands (requestEntry q .call)) ≡ cond (eqb (q .kind) 0) true (P (q .x) && (leb 4 (q .kind) || P (q .y)))
+  by-kind = every-operand P (q .kind) (q .x) (q .y)
 
-  pub no-operand : q .kind ≡ 0 → true ≡ every P (operands (requestCall q))
+  pub no-operand : q .kind ≡ 0 → true ≡ every P (operands (requestEntry q .call))
   no-operand e = sym (by-kind ∙ ap (λ (b : Bool). cond b true (P (q .x) && (leb 4 (q .kind) || P (q .y)))) (eq-eqb (q .kind) 0 e))
 
   module _ (some : q .kind ≡ 0 → ⊥) where
-    by-first : every P (operands (requestCall q)) ≡ (P (q .x) && (leb 4 (q .kind) || P (q .y)))
+    by-first : every P (operands (requestEntry q .call)) ≡ (P (q .x) && (leb 4 (q .kind) || P (q .y)))
     by-first = by-kind ∙ ap (λ (b : Bool). cond b true (P (q .x) && (leb 4 (q .kind) || P (q .y)))) (ne-eqb (q .kind) 0 some)
 
-    pub first-fails : P (q .x) ≡ false → false ≡ every P (operands (requestCall q))
+    pub first-fails : P (q .x) ≡ false → false ≡ every P (operands (requestEntry q .call))
     first-fails f = stop _ f ∙ sym by-first
 
-    pub first-only : P (q .x) ≡ true → 4 ≤ q .kind → true ≡ every P (operands (requestCall q))
+    pub first-only : P (q .x) ≡ true → 4 ≤ q .kind → true ≡ every P (operands (requestEntry q .call))
     first-only f h = goes _ f (sym (or-left (leb 4 (q .kind)) (P (q .y)) (le-leb 4 (q .kind) h))) ∙ sym by-first
 
-    pub then-second : P (q .x) ≡ true → q .kind < 4 → P (q .y) ≡ every P (operands (requestCall q))
+    pub then-second : P (q .x) ≡ true → q .kind < 4 → P (q .y) ≡ every P (operands (requestEntry q .call))
     then-second f h = goes _ f (or-skip (P (q .y)) (lt-leb 4 (q .kind) h)) ∙ sym by-first
 
 -- ---- the test of the next call
@@ -129,7 +133,7 @@ pub record Runs (script : List ℕ) (places room i : ℕ) (P : ℕ → Bool) : T
   pub there : i < length script / 5
   pub placed : i < places
   pub fit : possible room (requestAt script i) ≡ true
-  pub pass : every P (operands (callAt script i)) ≡ true
+  pub pass : every P (operands (callAt script i .call)) ≡ true
 
 pub may-run : (script : List ℕ) (places room i : ℕ) (P : ℕ → Bool) → runs script places room i P ≡ true → Runs script places room i P
 unfolding runs
@@ -143,8 +147,8 @@ may-run script places room i P e =
       pass = and-right (possible room (requestAt script i)) _ e2;
     }
 
-pub runs-same : (script : List ℕ) (places room i : ℕ) (P Q : ℕ → Bool) → ((x : ℕ) → P x ≡ Q x) → runs script places room i P ≡ runs script places room i Q
+pub runs-same : (script : List ℕ) (places room i : ℕ) (P R : ℕ → Bool) → ((x : ℕ) → P x ≡ R x) → runs script places room i P ≡ runs script places room i R
 unfolding runs
-runs-same script places room i P Q h =
+runs-same script places room i P R h =
     ap (λ (b : Bool). ltb i (length script / 5) && (ltb i places && (possible room (requestAt script i) && b)))
-    (every-same P Q (operands (callAt script i)) h)
+    (every-same P R (operands (callAt script i .call)) h)

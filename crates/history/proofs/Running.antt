@@ -15,7 +15,9 @@ use Rattle.base.proofs.Bools.{or-cases}
 use Rattle.zdd.specs.Table.{count, has, _∈_}
 use Rattle.statement.specs.declared.Report.{Report}
 use Rattle.statement.specs.Replies.{Reply, refused, gives, outcomeReply}
-use Rattle.history.specs.Histories.{Call, operands, Step, Calls, given, Allowed, History, start, next}
+use Rattle.exact_cover.specs.Problem.{Problem}
+use Rattle.statement.specs.Calls.{operands}
+use Rattle.history.specs.Histories.{Entry, Step, Calls, given, Allowed, History, start, next}
 use Rattle.history.specs.Script.{callAt, calls, passes, every, runs, runnable, Ran}
 use Rattle.history.specs.Parts.{marked, noted, Stored}
 use Rattle.history.proofs.Contract.{operand-known, answer-below, as-long, nodes-made}
@@ -25,12 +27,12 @@ use Rattle.history.proofs.Reports.{calls-none, calls-same, calls-next}
 use Rattle.history.proofs.Marks.{Marks, marks-none, marks-more, marks-give, marked-passes, has-in}
 
 -- call j can be run on each table that the calls h leave
-abbrev pub Ready : (S script : List ℕ) (places room j : ℕ) → Calls → Type 0
-Ready S script places room j h = (u : List ℕ) → History S h u → runs script places room j (passes h u) ≡ true
+abbrev pub Runnable : (Q : Problem) (script : List ℕ) (places room j : ℕ) → Calls → Type 0
+Runnable Q script places room j h = (u : List ℕ) → History Q h u → runs script places room j (passes h u) ≡ true
 
 -- after i calls: t and out are the table and the words of the reports, g has the marks; t₀ and out₀ are those before the first
-pub record Running (S script : List ℕ) (room : ℕ) (t₀ out₀ : List ℕ) (i : ℕ) (g t out : List ℕ) : Type 0 where
-  pub history : History S (calls script out i) t
+pub record Running (Q : Problem) (script : List ℕ) (room : ℕ) (t₀ out₀ : List ℕ) (i : ℕ) (g t out : List ℕ) : Type 0 where
+  pub history : History Q (calls script out i) t
   pub marks : Marks g (given (calls script out i))
   pub numbers : length g ≡ 65536
   pub long : length t ≡ length t₀
@@ -38,12 +40,12 @@ pub record Running (S script : List ℕ) (room : ℕ) (t₀ out₀ : List ℕ) (
   pub rest : drop (3 * i) out ≡ drop (3 * i) out₀
   pub asked : i ≤ length script / 5
   pub placed : i ≤ length out₀ / 3
-  pub ready : (j : ℕ) → j < i → Ready S script (length out₀ / 3) room j (calls script out j)
+  pub ready : (j : ℕ) → j < i → Runnable Q script (length out₀ / 3) room j (calls script out j)
 
-pub running-start : (S script : List ℕ) (room : ℕ) (t out g : List ℕ) (words n : ℕ) → n ≡ 65536 → g ≡ set (set (replicate n 0) 1 1) 0 1 → t ≡ replicate words 0
-    → Running S script room t out 0 g t out
-running-start S script room t out g words n z q e = record {
-  history = subst⁻¹ (λ (h : Calls). History S h t) (calls-none script out) (subst⁻¹ (λ (u : List ℕ). History S [] u) e (start words));
+pub running-start : (Q : Problem) (script : List ℕ) (room : ℕ) (t out g : List ℕ) (words n : ℕ) → n ≡ 65536 → g ≡ set (set (replicate n 0) 1 1) 0 1 → t ≡ replicate words 0
+    → Running Q script room t out 0 g t out
+running-start Q script room t out g words n z q e = record {
+  history = subst⁻¹ (λ (h : Calls). History Q h t) (calls-none script out) (subst⁻¹ (λ (u : List ℕ). History Q [] u) e (start words));
   marks = subst⁻¹ (λ (h : Calls). Marks g (given h)) (calls-none script out)
       (subst⁻¹ (λ (u : List ℕ). Marks u (0 ∷ 1 ∷ [])) q
       (marks-more g1 (1 ∷ []) 0 (omega (arith, l1, l0)) (marks-more (replicate n 0) [] 1 (omega (arith, l0)) (marks-none n))));
@@ -66,44 +68,44 @@ running-start S script room t out g words n z q e = record {
     l1 = length-set {A = ℕ} (replicate n 0) 1 1
 
 -- an operand that passes the test and is known was given
-allowed : (h : Calls) (t : List ℕ) (c : Call) (o : Reply ℕ) → every (passes h t) (operands c) ≡ true
-    → ((a : ℕ) → o ≡ gives a → (x : ℕ) → x ∈ operands c → x < count t + 2) → Allowed h c o
+allowed : (h : Calls) (t : List ℕ) (c : Entry) (o : Reply ℕ) → every (passes h t) (operands (c .call)) ≡ true
+    → ((a : ℕ) → o ≡ gives a → (x : ℕ) → x ∈ operands (c .call) → x < count t + 2) → Allowed h c o
 allowed h t c (refused n) e k = tt
 allowed h t c (gives a) e k = λ x i. ⊎-elim
     (λ (p : has x (given h) ≡ true). has-in x (given h) p)
     (λ (p : leb (count t + 2) x ≡ true). absurd (omega (arith, leb-true (count t + 2) x p, k a refl x i)))
-    (or-cases (has x (given h)) (leb (count t + 2) x) (every-at (passes h t) (operands c) e x i))
+    (or-cases (has x (given h)) (leb (count t + 2) x) (every-at (passes h t) (operands (c .call)) e x i))
 
-module _ {S script : List ℕ} {room : ℕ} {t₀ out₀ : List ℕ} {i : ℕ} {g t out : List ℕ} (R : Running S script room t₀ out₀ i g t out) where
+module _ {Q : Problem} {script : List ℕ} {room : ℕ} {t₀ out₀ : List ℕ} {i : ℕ} {g t out : List ℕ} (R : Running Q script room t₀ out₀ i g t out) where
   -- the marks test what the promise says
   same-test : (u : List ℕ) → runs script (length out₀ / 3) room i (marked g (count u)) ≡ runs script (length out₀ / 3) room i (passes (calls script out i) u)
   same-test u = runs-same script (length out₀ / 3) room i _ _ (marked-passes g u (calls script out i) (R .numbers) (R .marks))
 
   pub running-next : {r : Report} {t′ out′ g′ : List ℕ} → runs script (length out₀ / 3) room i (marked g (count t)) ≡ true
-      → Step S t (callAt script i) r t′ → Stored out i r out′ → g′ ≡ noted (outcomeReply (r .outcome)) g
-      → Running S script room t₀ out₀ (i + 1) g′ t′ out′
+      → Step Q t (callAt script i) r t′ → Stored out i r out′ → g′ ≡ noted (outcomeReply (r .outcome)) g
+      → Running Q script room t₀ out₀ (i + 1) g′ t′ out′
   running-next {r} {t′} {out′} {g′} test step put wrote = record {
-    history = subst⁻¹ (λ (h : Calls). History S h t′) after (next (R .history) (callAt script i) r t′
+    history = subst⁻¹ (λ (h : Calls). History Q h t′) after (next (R .history) (callAt script i) r t′
         (allowed (calls script out i) t (callAt script i) (outcomeReply (r .outcome))
-        (sym (every-same (marked g (count t)) (passes (calls script out i) t) (operands (callAt script i)) (marked-passes g t (calls script out i) (R .numbers) (R .marks))) ∙ ok .pass)
-        (operand-known S t (callAt script i) r t′ step)) step);
+        (sym (every-same (marked g (count t)) (passes (calls script out i) t) (operands (callAt script i .call)) (marked-passes g t (calls script out i) (R .numbers) (R .marks))) ∙ ok .pass)
+        (operand-known Q t (callAt script i) r t′ step)) step);
     marks = subst⁻¹ (λ (h : Calls). Marks g′ (given h)) after (subst⁻¹ (λ (u : List ℕ). Marks u (given ((callAt script i, r) ∷ calls script out i))) wrote
-        (marks-give g (given (calls script out i)) (outcomeReply (r .outcome)) (λ a e. omega (arith, R .numbers, answer-below S t (callAt script i) r t′ step a e)) (R .marks)));
+        (marks-give g (given (calls script out i)) (outcomeReply (r .outcome)) (λ a e. omega (arith, R .numbers, answer-below Q t (callAt script i) r t′ step a e)) (R .marks)));
     numbers = ap length wrote ∙ mark-long (outcomeReply (r .outcome)) ∙ R .numbers;
-    long = as-long S t (callAt script i) r t′ step ∙ R .long;
+    long = as-long Q t (callAt script i) r t′ step ∙ R .long;
     wide = put .as-long ∙ R .wide;
     rest = rw (three) (put .behind ∙ sym (drop-drop 3 (3 * i) out) ∙ ap (drop 3) (R .rest) ∙ drop-drop 3 (3 * i) out₀);
     asked = omega (arith, ok .there);
     placed = omega (arith, ok .placed);
-    ready = below-more (λ (j : ℕ). Ready S script (length out₀ / 3) room j (calls script out′ j)) i
-        (λ j l. subst⁻¹ (Ready S script (length out₀ / 3) room j) (kept j (omega arith)) (R .ready j l))
-        (subst⁻¹ (Ready S script (length out₀ / 3) room i) (kept i (omega arith)) now-ready);
+    ready = below-more (λ (j : ℕ). Runnable Q script (length out₀ / 3) room j (calls script out′ j)) i
+        (λ j l. subst⁻¹ (Runnable Q script (length out₀ / 3) room j) (kept j (omega arith)) (R .ready j l))
+        (subst⁻¹ (Runnable Q script (length out₀ / 3) room i) (kept i (omega arith)) now-ready);
   }
     where
       ok : Runs script (length out₀ / 3) room i (marked g (count t))
       ok = may-run script (length out₀ / 3) room i (marked g (count t)) test
 
-      now-ready : Ready S script (length out₀ / 3) room i (calls script out i)
+      now-ready : Runnable Q script (length out₀ / 3) room i (calls script out i)
       now-ready u H =
           sym (same-test u)
           ∙ ap (λ (n : ℕ). runs script (length out₀ / 3) room i (marked g n)) (nodes-made H ∙ sym (nodes-made (R .history)))
@@ -125,10 +127,10 @@ module _ {S script : List ℕ} {room : ℕ} {t₀ out₀ : List ℕ} {i : ℕ} {
       mark-long (refused n) = refl
       mark-long (gives a) = length-set g a 1
 
-  pub ran : (t₁ : List ℕ) → length t₀ ≡ length t₁ → runs script (length out₀ / 3) room i (marked g (count t)) ≡ false → Ran S script room t₁ out₀ i t out
+  pub ran : (t₁ : List ℕ) → length t₀ ≡ length t₁ → runs script (length out₀ / 3) room i (marked g (count t)) ≡ false → Ran Q script room t₁ out₀ i t out
   ran t₁ l e = record {
     history = R .history;
-    demanded = demand3 S (calls script out i) t (R .history);
+    demanded = demand3 Q (calls script out i) t (R .history);
     long = R .long ∙ l;
     wide = R .wide;
     rest = R .rest;

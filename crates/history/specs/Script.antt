@@ -7,27 +7,31 @@ use Prim.Native.Nat.{ℕ, zero, suc, _+_, _-_, _*_, _/_, _≤_, _<_}
 use lib.Dec.{eqb, leb, ltb}
 use lib.ListN.{length, getD, drop}
 use Rattle.zdd.specs.Table.{count, has}
+use Rattle.exact_cover.specs.Problem.{Problem}
+use Rattle.statement.specs.declared.Call.{Call}
+use Rattle.statement.specs.declared.Call.the-variants.{Cover, Either, Both, Only, With, Without}
+use Rattle.statement.specs.Calls.{operands}
 use Rattle.statement.specs.declared.Report.{Report}
 use Rattle.statement.specs.declared.Outcome.{Outcome}
 use Rattle.statement.specs.declared.Outcome.the-variants.{Answer, Refused}
 use Rattle.history.specs.declared.Request.{Request}
-use Rattle.history.specs.Histories.{Call, cover, either, both, only, «with», without, operands, Calls, given, History, Demanded}
+use Rattle.history.specs.Histories.{Entry, entry, Calls, given, History, Demanded}
 
 -- ---- a script: five words a call
 
 -- its kind, M, two arguments, and the number of working words. Kind 0 is cover of D = x with the step limit y [document 01: B]; 1, 2 and 3 are either,
 -- both and only of the answers x and y; 4 is with, and 5 and above without, of the answer x and the package y
-abbrev pub callOf : (kind m x y words : ℕ) → Call
-callOf zero m x y words = cover m x y words
-callOf (suc zero) m x y words = either m x y words
-callOf (suc (suc zero)) m x y words = both m x y words
-callOf (suc (suc (suc zero))) m x y words = only m x y words
-callOf (suc (suc (suc (suc zero)))) m x y words = «with» m x y words
-callOf (suc (suc (suc (suc (suc k))))) m x y words = without m x y words
+abbrev pub callOf : (kind x y : ℕ) → Call
+callOf zero x y = Cover x y
+callOf (suc zero) x y = Either x y
+callOf (suc (suc zero)) x y = Both x y
+callOf (suc (suc (suc zero))) x y = Only x y
+callOf (suc (suc (suc (suc zero)))) x y = With x y
+callOf (suc (suc (suc (suc (suc k))))) x y = Without x y
 
 -- the call that a request of the code asks
-abbrev pub requestCall : Request → Call
-requestCall q = callOf (q .kind) (q .m) (q .x) (q .y) (q .words)
+abbrev pub requestEntry : Request → Entry
+requestEntry q = entry (q .m) (callOf (q .kind) (q .x) (q .y)) (q .words)
 
 -- call i of the script, from 0: its five words, and the call
 abbrev pub requestAt : List ℕ → ℕ → Request
@@ -39,8 +43,8 @@ requestAt script i = record {
   words = getD script (5 * i + 4) 0;
 }
 
-abbrev pub callAt : List ℕ → ℕ → Call
-callAt script i = requestCall (requestAt script i)
+abbrev pub callAt : List ℕ → ℕ → Entry
+callAt script i = requestEntry (requestAt script i)
 
 -- ---- the reports: three words a call
 
@@ -88,7 +92,7 @@ runs script places room i P =
     ltb i (length script / 5)
     && (ltb i places
     && (possible room (requestAt script i)
-    && every P (operands (callAt script i))))
+    && every P (operands (callAt script i .call))))
 
 -- call i may be run next, on the table t that the calls before it left
 abbrev pub runnable : (script out : List ℕ) (room : ℕ) (t : List ℕ) (i : ℕ) → Bool
@@ -98,10 +102,10 @@ runnable script out room t i = runs script (length out / 3) room i (passes (call
 
 -- the first n calls of the script were run from an empty table as long as t, and their reports written to the first words of out; t′ and out′ are the
 -- table and the words after that, and `room` is the number of working words lent
-pub record Ran (S script : List ℕ) (room : ℕ) (t out : List ℕ) (n : ℕ) (t′ out′ : List ℕ) : Type 0 where
+pub record Ran (Q : Problem) (script : List ℕ) (room : ℕ) (t out : List ℕ) (n : ℕ) (t′ out′ : List ℕ) : Type 0 where
   -- the calls run are a history, and the third demand's conclusion holds of it
-  pub history : History S (calls script out′ n) t′
-  pub demanded : Demanded S (calls script out′ n) t′
+  pub history : History Q (calls script out′ n) t′
+  pub demanded : Demanded Q (calls script out′ n) t′
   -- the table is as long as before; the words behind the reports are unchanged
   pub long : length t′ ≡ length t
   pub wide : length out′ ≡ length out
@@ -110,5 +114,5 @@ pub record Ran (S script : List ℕ) (room : ℕ) (t out : List ℕ) (n : ℕ) (
   pub asked : n ≤ length script / 5
   pub placed : n ≤ length out / 3
   -- each of these calls could be run, on whatever table the calls before it left; the next one may not be run, or there is none
-  pub ready : (i : ℕ) → i < n → (u : List ℕ) → History S (calls script out′ i) u → runnable script out′ room u i ≡ true
+  pub ready : (i : ℕ) → i < n → (u : List ℕ) → History Q (calls script out′ i) u → runnable script out′ room u i ≡ true
   pub stopped : runnable script out′ room t′ n ≡ false

@@ -6,9 +6,12 @@ ghost use Prim.Native.Nat.{ℕ, _/_, _<_};
 ghost use lib.ListN.{length, set, replicate};
 ghost use Rattle.zdd.specs.Table.{count};
 ghost use Rattle.statement.specs.Replies.{gives, outcomeReply};
-ghost use Rattle.history.specs.Histories.{Step, operands};
-ghost use Rattle.history.specs.Script.{callOf, requestCall, requestAt, callAt, outcomeOf, possible, every, runs, Ran};
+ghost use Rattle.exact_cover.specs.Problem.{problemOf};
+ghost use Rattle.statement.specs.Calls.{operands};
+ghost use Rattle.history.specs.Histories.{Step};
+ghost use Rattle.history.specs.Script.{callOf, requestEntry, requestAt, callAt, outcomeOf, possible, every, runs, Ran};
 ghost use Rattle.history.specs.Parts.{marked, noted, Stored};
+use statement::Call;
 use statement::Outcome;
 use statement::Report;
 
@@ -91,7 +94,7 @@ fn passes(given: &[u8; 65536], n: u32, x: u64) -> bool
 
 // Whether each operand may be one.
 fn operands_pass(q: Request, given: &[u8; 65536], n: u32) -> bool
-    ensures { λ r. ⌜ r ≡ every (marked (now (given .entry)) n) (operands (requestCall q)) ⌝ }
+    ensures { λ r. ⌜ r ≡ every (marked (now (given .entry)) n) (operands (requestEntry q .call)) ⌝ }
 {
     if q.kind == 0 {
         return true;
@@ -130,55 +133,40 @@ fn ready(
     operands_pass(q, given, n)
 }
 
-// The call itself, on all the words of work.
-fn dispatch(
-    packages: &[u64],
-    t: &mut [u32],
-    work: &mut [u64],
-    kind: u64,
-    m: u32,
-    x: u64,
-    y: u32,
-) -> Report
+// The call that a request's words ask: see `callOf`.
+fn call_of(kind: u64, x: u64, y: u32) -> Call
     requires { ⌜ (0 < kind → x < 4294967296) ⌝ }
-    ensures { λ r. ⌜ Step (now (packages .entry)) (now (t .entry)) (callOf kind m x y (length (now (work .entry)))) r (now (t .exit)) ⌝ }
+    ensures { λ r. ⌜ r ≡ callOf kind x y ⌝ }
 {
     if kind == 0 {
-        return engine::cover(m, packages, t, x, y, work);
+        return Call::Cover { d: x, limit: y };
     }
     let a = x as u32;
     if kind == 1 {
-        return engine::either(m, packages, t, a, y, work);
+        return Call::Either { a: a, b: y };
     }
     if kind == 2 {
-        return engine::both(m, packages, t, a, y, work);
+        return Call::Both { a: a, b: y };
     }
     if kind == 3 {
-        return engine::only(m, packages, t, a, y, work);
+        return Call::Only { a: a, b: y };
     }
     if kind == 4 {
-        return engine::with(m, packages, t, a, y, work);
+        return Call::With { a: a, p: y };
     }
-    engine::without(m, packages, t, a, y, work)
+    Call::Without { a: a, p: y }
 }
 
 // Call i of the script, on as many working words as it asks.
 fn call(packages: &[u64], t: &mut [u32], work: &mut [u64], script: &[u64], i: usize) -> Report
     requires { ⌜ i < length (now script) / 5 ⌝ }
     requires { ⌜ possible (length (now work)) (requestAt (now script) i) ≡ true ⌝ }
-    ensures { λ r. ⌜ Step (now (packages .entry)) (now (t .entry)) (callAt (now (script .entry)) i) r (now (t .exit)) ⌝ }
+    ensures { λ r. ⌜ Step (problemOf (now (packages .entry))) (now (t .entry)) (callAt (now (script .entry)) i) r (now (t .exit)) ⌝ }
 {
     let q = asked(script, i);
     let words = q.words as usize;
-    dispatch(
-        packages,
-        t,
-        &mut work[..words],
-        q.kind,
-        q.m as u32,
-        q.x,
-        q.y as u32,
-    )
+    let c = call_of(q.kind, q.x, q.y as u32);
+    engine::answer(q.m as u32, packages, t, c, &mut work[..words])
 }
 
 // The word of an outcome.
@@ -232,7 +220,7 @@ pub fn run(
     script: &[u64],
     out: &mut [u64],
 ) -> usize
-    ensures { λ n. ⌜ Ran (now (packages .entry)) (now (script .entry)) (length (now (work .entry))) (now (t .entry)) (now (out .entry)) n (now (t .exit)) (now (out .exit)) ⌝ }
+    ensures { λ n. ⌜ Ran (problemOf (now (packages .entry))) (now (script .entry)) (length (now (work .entry))) (now (t .entry)) (now (out .entry)) n (now (t .exit)) (now (out .exit)) ⌝ }
 {
     clear(t);
     let mut given = [0u8; 65536];

@@ -2,7 +2,7 @@
 use mathlib.Core.Path.{_≡_, refl}
 use mathlib.Core.Bool.{Bool, true, false}
 use mathlib.Core.List.{List, [], _∷_, _++_}
-use Prim.Native.Nat.{ℕ, suc, _<_}
+use Prim.Native.Nat.{ℕ, zero, suc}
 use native.Mathlib.Omega.{arith}
 use Rattle.statement.specs.Refusals.{firstOf}
 
@@ -37,20 +37,23 @@ front (x ∷ xs) ts f = go (x .0) (front xs ts) f
     go true h f = refl
     go false h f = h f
 
--- the first test's number is not said: it fails
-pub unsaid : (b : Bool) (n : ℕ) (ts : List (Bool × ℕ)) → (firstOf ((b, n) ∷ ts) ≡ n → ⊥) → b ≡ false
-unfolding firstOf
-unsaid true n ts f = absurd (f refl)
-unsaid false n ts f = refl
+-- no test has the number 0
+abbrev counts : ℕ → Type 0 → Type 0
+counts zero T = ⊥
+counts (suc n) T = T
 
--- it is said, and the others do not say it: the first test holds
-pub said : (b : Bool) (n : ℕ) (ts : List (Bool × ℕ)) → firstOf ((b, n) ∷ ts) ≡ n → (firstOf ts ≡ n → ⊥) → b ≡ true
-unfolding firstOf
-said true n ts e f = refl
-said false n ts e f = absurd (f e)
+abbrev pub Numbered : List (Bool × ℕ) → Type 0
+Numbered [] = Unit {0}
+Numbered (x ∷ xs) = counts (x .1) (Numbered xs)
 
--- tests with greater numbers do not say it
-pub above : {n : ℕ} (b : Bool) (k : ℕ) (ts : List (Bool × ℕ)) → n < k → (firstOf ts ≡ n → ⊥) → firstOf ((b, k) ∷ ts) ≡ n → ⊥
+-- where the first tests give no refusal, those behind them decide
+pub behind : (xs ts : List (Bool × ℕ)) → Numbered xs → firstOf xs ≡ 0 → firstOf (xs ++ ts) ≡ firstOf ts
 unfolding firstOf
-above true k ts l f e = omega arith
-above false k ts l f e = f e
+behind [] ts n e = refl
+behind (x ∷ xs) ts n e = go (x .0) (x .1) n (behind xs ts) e
+  where
+    go : (b : Bool) (k : ℕ) → counts k (Numbered xs) → (Numbered xs → firstOf xs ≡ 0 → firstOf (xs ++ ts) ≡ firstOf ts)
+        → firstOf ((b, k) ∷ xs) ≡ 0 → firstOf ((b, k) ∷ (xs ++ ts)) ≡ firstOf ts
+    go b zero n h e = absurd n
+    go true (suc k) n h e = absurd (omega arith)
+    go false (suc k) n h e = h n e

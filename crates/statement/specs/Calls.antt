@@ -49,10 +49,10 @@ pairTests t a b F words =
     []
 
 -- of one on an answer and a package
-abbrev pub partTests : (Q : Problem) (t : List ℕ) (a p : ℕ) (F : Family) (words : ℕ) → List (Bool × ℕ)
-partTests Q t a p F words =
+abbrev pub partTests : (packages t : List ℕ) (a p : ℕ) (F : Family) (words : ℕ) → List (Bool × ℕ)
+partTests packages t a p F words =
     (unknownAnswer t a, 5) ∷
-    (unknownPackage (Q .packages) p, 6) ∷
+    (unknownPackage packages p, 6) ∷
     (shortWork 2 words, 8) ∷
     (full t F, 10) ∷
     []
@@ -72,8 +72,8 @@ callTests Q m t (Cover d limit) words = coverTests Q m t d limit words
 callTests Q m t (Either a b) words = pairTests t a b (familyOf Q t (Either a b)) words
 callTests Q m t (Both a b) words = pairTests t a b (familyOf Q t (Both a b)) words
 callTests Q m t (Only a b) words = pairTests t a b (familyOf Q t (Only a b)) words
-callTests Q m t (With a p) words = partTests Q t a p (familyOf Q t (With a p)) words
-callTests Q m t (Without a p) words = partTests Q t a p (familyOf Q t (Without a p)) words
+callTests Q m t (With a p) words = partTests (Q .packages) t a p (familyOf Q t (With a p)) words
+callTests Q m t (Without a p) words = partTests (Q .packages) t a p (familyOf Q t (Without a p)) words
 
 unfoldable pub callRefusal : (Q : Problem) (m : ℕ) (t : List ℕ) → Call → ℕ → ℕ
 callRefusal Q m t c words = firstOf (tableTests Q m t (callTests Q m t c words))

@@ -3,7 +3,7 @@ use Prim.Native.Nat.{ℕ}
 use lib.ListN.{length-replicate}
 use native.Mathlib.Omega.{arith}
 use mathlib.Core.Path.{sym, _∙_}
-use Rattle.engine.proofs.Reading.{readable, pick-refused, pick-words, pick-end, below-end, pick-delivers}
+use Rattle.engine.proofs.Delivery.{readable, pick-refused, pick-words, pick-end, below-end, pick-delivers}
 use borrow.Author.Needs.{needs}
 use Rattle.engine.proofs.pick.Statement.{statement}
 use Rattle.engine.proofs.pick.Tie as tie
@@ -15,17 +15,17 @@ returns : tie.Need-returns
 returns c = pick-refused (c .before .opened .ensures) (c .if1 .taken)
 
 returns-2 : tie.Need-returns-2
-returns-2 c = pick-words (c .before .before .before .opened .ensures .ready (c .before .before .if1 .left)) (omega (arith, c .before .wide .ensures, c .if2 .taken))
+returns-2 c = pick-words (c .before .before .before .opened .ensures) (c .before .before .if1 .left) (omega (arith, c .before .wide .ensures, c .if2 .taken))
 
 count-requires : tie.Need-count-requires
 count-requires c κs =
     let if1 = c .before .before .before .if1 in let opened = c .before .before .before .before .opened in
-    (readable (opened .ensures .ready (if1 .left) .good), (omega (arith, c .before .before .wide .ensures, opened .ensures .ready (if1 .left) .known), omega (arith, c .before .if2 .left)))
+    (readable (opened .ensures .ready (if1 .left) .usable), (omega (arith, c .before .before .wide .ensures, opened .ensures .ready (if1 .left) .known), omega (arith, c .before .if2 .left)))
 
 returns-3 : tie.Need-returns-3
 returns-3 c =
     let here = c .before .before .before .before in let count = here .count in let wide = here .before .before .before .wide in
-    pick-end (c .before .before .before .before .before .before .before .before .before .opened .ensures .ready (c .before .before .before .before .before .before .before .before .if1 .left))
+    pick-end (c .before .before .before .before .before .before .before .before .before .opened .ensures) (c .before .before .before .before .before .before .before .before .if1 .left)
     (omega (arith, wide .ensures, c .before .before .before .before .before .before .if2 .left)) (count .result) (rw (wide .ensures) at (count .ensures .1)) (c .before .past-end .ensures)
     (c .if3 .taken)
 
@@ -34,7 +34,7 @@ pick-requires c κs =
     let here = c .before .before .before .before .before .before in let count = here .count in let wide = here .before .before .before .wide in
     let if1 = here .before .before .before .before .if1 in let opened = here .before .before .before .before .before .opened in
     let args = here .before .before .before .before .before .before .before .before .before .before .before .args in (
-      readable (opened .ensures .ready (if1 .left) .good),
+      readable (opened .ensures .ready (if1 .left) .usable),
       (
         (
           omega (arith, wide .ensures, opened .ensures .ready (if1 .left) .known),
@@ -52,7 +52,7 @@ returns-4 c =
     let wide = c .before .before .before .before .before .before .before .before .before .before .before .before .before .wide in
     let if1 = c .before .before .before .before .before .before .before .before .before .before .before .before .before .before .if1 in
     let opened = c .before .before .before .before .before .before .before .before .before .before .before .before .before .before .before .opened in
-    pick-delivers (opened .ensures .ready (if1 .left)) (omega (arith, wide .ensures, if2 .left)) (count .result) (rw (wide .ensures) at (count .ensures .1))
+    pick-delivers (opened .ensures) (if1 .left) (omega (arith, wide .ensures, if2 .left)) (count .result) (rw (wide .ensures) at (count .ensures .1))
     (sym (c .before .before .before .before .before .before .before .past-end .ensures) ∙ c .before .before .before .before .before .before .if3 .left) (c .picked .result) (pick′ .result)
     (c .picked .ensures) (rw (wide .ensures) at (pick′ .ensures))
 

@@ -10,8 +10,10 @@ returns : tie.Need-returns
 returns c = admitted-packages (c .before .packages-refusal .result) (c .before .packages-refusal .ensures) (c .if1 .taken)
 
 usable-requires : tie.Need-usable-requires
-usable-requires c κs = (rows (fit-of _ (sym (c .before .before .before .before .packages-refusal .ensures) ∙ c .before .before .before .if1 .left) .0),
-    c .before .before .before .before .before .before .before .before .pre)
+usable-requires c κs = (
+  rows (fit-of _ (sym (c .before .before .before .before .packages-refusal .ensures) ∙ c .before .before .before .if1 .left) .0),
+  c .before .before .before .before .before .before .before .before .pre,
+)
 
 returns-2 : tie.Need-returns-2
 returns-2 c = admitted-spoilt (sym (c .before .before .before .before .before .before .before .before .packages-refusal .ensures) ∙

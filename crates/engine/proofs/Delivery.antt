@@ -1,0 +1,268 @@
+-- The calls that read an answer: what `query`'s functions ask, and what their answers make of the calls' refusals. Assumes nothing.
+use mathlib.Core.Path.{_≡_, sym, ap, ap₂, _∙_}
+use mathlib.Core.Bool.{Bool, true, false, not, _||_}
+use mathlib.Core.List.{List, [], _∷_, _++_}
+use Prim.Native.Nat.{ℕ, _+_, _*_, _≤_, _<_}
+use native.Mathlib.Omega.{arith}
+use lib.Dec.{leb}
+use lib.ListN.{length}
+use borrow.Author.Tests.{leb-false, eqb-true, not-true, not-false}
+use Rattle.zdd.specs.Table.{Family, count}
+use Rattle.exact_cover.specs.Problem.{Problem}
+use Rattle.exact_cover.specs.Cover.{keysOf}
+use Rattle.exact_cover.proofs.Order.{length-keys}
+use Rattle.query.specs.Questions.{familyAt, nth, position, cost, cheapest, ascending, inPrecedence}
+use Rattle.query.specs.Reading.{Readable, Priceable}
+use Rattle.query.specs.Answers.{Told, Wrote, Stands, Bought}
+use Rattle.query.specs.declared.Tally.{Tally}
+use Rattle.query.specs.declared.Tally.the-variants.{Exactly, TooMany}
+use Rattle.query.specs.declared.Written.{Written}
+use Rattle.query.specs.declared.Written.the-variants.{Packages, Short}
+use Rattle.query.specs.declared.Spot.{Spot}
+use Rattle.query.specs.declared.Spot.the-variants.{At, Absent}
+use Rattle.query.specs.declared.Cheap.{Cheap}
+use Rattle.query.specs.declared.Cheap.the-variants.{Found, NoRoom}
+use Rattle.query.proofs.Precede.{unknown-length}
+use Rattle.statement.specs.declared.Counted.{Counted}
+use Rattle.statement.specs.declared.Counted.the-variants.{Refused as CountRefused}
+use Rattle.statement.specs.declared.Picked.{Picked}
+use Rattle.statement.specs.declared.Picked.the-variants.{Refused as PickRefused}
+use Rattle.statement.specs.declared.Placed.{Placed}
+use Rattle.statement.specs.declared.Placed.the-variants.{Refused as PlaceRefused}
+use Rattle.statement.specs.declared.Priced.{Priced}
+use Rattle.statement.specs.declared.Priced.the-variants.{Refused as PriceRefused}
+use Rattle.statement.specs.Replies.{gives, reply, countReply, pickReply, placeReply, cheapestReply}
+use Rattle.statement.specs.Refusals.{firstOf, packageTests, unpriced, notTimetable, uncountable, pastEnd, absent, shortPage}
+use Rattle.statement.specs.Refusals.{countRefusal, pickRefusal, placeRefusal, cheapestRefusal}
+use Rattle.statement.specs.Postconditions.{CountPost, PickPost, PlacePost, CheapestPost}
+use Rattle.statement.proofs.FirstOf.{pass, hit, none, passed, front, Numbered, behind}
+use Rattle.statement.proofs.Admission.{fit-passes, fit-of, fit-refused}
+use Rattle.statement.proofs.TestLaws.{reply-refused, reply-gives, page-left, page-written, all-priced, not-priced, answer-known, answer-unknown, enough, too-few}
+use Rattle.statement.proofs.TestLaws.{countable, too-many, not-past, something, is-nothing, page-fits, page-short}
+use Rattle.engine.specs.Answers.{tallyReply, endRefusal, writtenReply, placedReply, cheapReply}
+use Rattle.engine.specs.Opened.{knownTests, openTests, pricedTests, Opened}
+use Rattle.guard.specs.Admitted.{Usable, Tested}
+
+module _ {Q : Problem} {t keys heads next : List ℕ} (g : Usable Q t keys heads next) where
+  pub readable : Readable t
+  readable = record { keys = keysOf Q; sound = g .sound; few = omega (arith, length-keys Q, g .rows .few) }
+
+-- ---- refusals 4 and 5
+
+module _ {Q : Problem} {t keys heads next : List ℕ} {b : Bool} (a : ℕ) (o : Tested Q t keys heads next b) where
+  pub known-spoilt : b ≡ false → Opened (knownTests Q t a) Q t keys a 4
+  known-spoilt e = record { says = sym (hit 4 _ (not-false _ (sym (o .says) ∙ e))); ready = λ z. absurd (omega arith) }
+
+  pub known-unknown : b ≡ true → count t + 2 ≤ a → Opened (knownTests Q t a) Q t keys a 5
+  known-unknown e h = record { says = sym (pass 4 _ (o .usable e .unspoilt) ∙ hit 5 _ (answer-unknown t a h)); ready = λ z. absurd (omega arith) }
+
+  pub known-known : b ≡ true → a < count t + 2 → Opened (knownTests Q t a) Q t keys a 0
+  known-known e h = record {
+    says = sym (pass 4 _ (o .usable e .unspoilt) ∙ pass 5 _ (answer-known t a h) ∙ none);
+    ready = λ z. record { heads = heads; next = next; usable = o .usable e; known = h };
+  }
+
+-- ---- 1 and 2 in front
+
+module _ {Q : Problem} (m : ℕ) {ts : List (Bool × ℕ)} {t keys : List ℕ} {a r : ℕ} where
+  pub opened-packages : r ≡ firstOf (packageTests Q m []) → (r ≡ 0 → ⊥) → Opened (packageTests Q m ts) Q t keys a r
+  opened-packages e f = record { says = sym (fit-refused Q m ts e f); ready = λ z. absurd (f z) }
+
+  pub opened-rest : firstOf (packageTests Q m []) ≡ 0 → Opened ts Q t keys a r → Opened (packageTests Q m ts) Q t keys a r
+  opened-rest e o = record { says = o .says ∙ sym (fit-passes ts (fit-of [] e .0)); ready = o .ready }
+
+-- ---- and 3
+
+module _ {Q : Problem} (C : List ℕ) {t keys : List ℕ} {a : ℕ} where
+  pub priced-3 : {ts : List (Bool × ℕ)} → (length C ≡ length (Q .packages) → ⊥) → Opened ((unpriced Q C, 3) ∷ ts) Q t keys a 3
+  priced-3 h = record { says = sym (hit 3 _ (not-priced Q C h)); ready = λ z. absurd (omega arith) }
+
+  pub priced-rest : {ts : List (Bool × ℕ)} {r : ℕ} → length C ≡ length (Q .packages) → Opened ts Q t keys a r → Opened ((unpriced Q C, 3) ∷ ts) Q t keys a r
+  priced-rest e o = record { says = o .says ∙ sym (pass 3 _ (all-priced Q C e)); ready = o .ready }
+
+-- ---- other tests stand behind them
+
+module _ {xs : List (Bool × ℕ)} {Q : Problem} {t keys : List ℕ} {a r : ℕ} (o : Opened xs Q t keys a r) (ts : List (Bool × ℕ)) where
+  refused-by : (r ≡ 0 → ⊥) → firstOf (xs ++ ts) ≡ r
+  refused-by f = front xs ts (λ z. f (o .says ∙ z)) ∙ sym (o .says)
+
+  passed-by : Numbered xs → r ≡ 0 → firstOf (xs ++ ts) ≡ firstOf ts
+  passed-by n z = behind xs ts n (sym (o .says) ∙ z)
+
+-- ---- count
+
+module _ {Q : Problem} {m : ℕ} {t keys : List ℕ} {a words r : ℕ} (o : Opened (openTests Q m t a) Q t keys a r) where
+  pub count-refused : (r ≡ 0 → ⊥) → CountPost Q m t a words (CountRefused r)
+  unfolding countRefusal
+  count-refused f = record { result = reply-refused r _ (refused-by o _ f) f }
+
+  module _ (ok : r ≡ 0) where
+    pub count-words : words ≤ a → CountPost Q m t a words (CountRefused 8)
+    unfolding countRefusal
+    count-words h = record { result = reply-refused 8 _ (passed-by o _ tt ok ∙ hit 8 _ (too-few (a + 1) words (omega arith))) (λ z. omega arith) }
+
+    pub count-delivers : a < words → (x : Counted) (c : Tally) → countReply x ≡ tallyReply c → Told c (length (familyAt t a)) → CountPost Q m t a words x
+    unfolding countRefusal
+    count-delivers room x c d e = record { result = d ∙ go c e }
+      where
+        so-far : countRefusal Q m t a words ≡ firstOf ((uncountable (familyAt t a), 11) ∷ [])
+        so-far = passed-by o _ tt ok ∙ pass 8 _ (enough (a + 1) words (omega arith))
+
+        go : (c : Tally) → Told c (length (familyAt t a)) → tallyReply c ≡ reply (countRefusal Q m t a words) (length (familyAt t a))
+        go (Exactly n) e = ap gives (e .0) ∙ reply-gives _ (so-far ∙ pass 11 _ (countable (familyAt t a) (e .1)) ∙ none)
+        go TooMany e = reply-refused 11 _ (so-far ∙ hit 11 _ (too-many (familyAt t a) e)) (λ z. omega arith)
+
+-- ---- pick
+
+pick-post : {Q : Problem} {m : ℕ} {t : List ℕ} {a k words : ℕ} {page : List ℕ} {r : ℕ} → pickRefusal Q m t a k words page ≡ r → (r ≡ 0 → ⊥)
+    → PickPost Q m t a k words page (PickRefused r) page
+pick-post {page = page} {r} e f = record { result = reply-refused r _ e f; pages = page-left r _ page e f }
+
+-- 11 and 12 do not apply
+pub below-end : (F : Family) (k : ℕ) (c : Tally) → Told c (length F) → endRefusal c k ≡ 0 → (length F ≤ 18446744073709551615) × (k < length F)
+below-end F k (Exactly n) d e = (d .1, omega (arith, leb-false n k (passed (leb n k) 11 [] e .0), d .0))
+below-end F k TooMany d e = absurd (omega arith)
+
+module _ {Q : Problem} {m : ℕ} {t keys : List ℕ} {a k words q : ℕ} {page : List ℕ} (o : Opened (openTests Q m t a) Q t keys a q) where
+  pub pick-refused : (q ≡ 0 → ⊥) → PickPost Q m t a k words page (PickRefused q) page
+  unfolding pickRefusal
+  pick-refused f = pick-post (refused-by o _ f) f
+
+  pub pick-words : q ≡ 0 → words ≤ a → PickPost Q m t a k words page (PickRefused 8) page
+  unfolding pickRefusal
+  pick-words ok h = pick-post (passed-by o _ tt ok ∙ hit 8 _ (too-few (a + 1) words (omega arith))) (λ z. omega arith)
+
+  module _ (ok : q ≡ 0) (room : a < words) (c : Tally) (told : Told c (length (familyAt t a))) where
+    pub pick-end : {r : ℕ} → r ≡ endRefusal c k → (r ≡ 0 → ⊥) → PickPost Q m t a k words page (PickRefused r) page
+    unfolding pickRefusal pastEnd
+    pick-end {r} e f = pick-post (passed-by o _ tt ok ∙ pass 8 _ (enough (a + 1) words (omega arith)) ∙ go c told e) f
+      where
+        go : (c : Tally) → Told c (length (familyAt t a)) → r ≡ endRefusal c k
+            → firstOf ((uncountable (familyAt t a), 11) ∷ (pastEnd (familyAt t a) k, 12) ∷ (shortPage page (nth (familyAt t a) k), 15) ∷ []) ≡ r
+        go (Exactly n) d e =
+            let F : Family = familyAt t a in
+            let z : r ≡ firstOf ((leb (length F) k, 12) ∷ []) = e ∙ rw (d .0) in
+            pass 11 _ (countable F (d .1)) ∙ front ((leb (length F) k, 12) ∷ []) _ (λ y. f (z ∙ y)) ∙ sym z
+        go TooMany d e = hit 11 _ (too-many (familyAt t a) d) ∙ sym e
+
+    pub pick-delivers : {page′ : List ℕ} → endRefusal c k ≡ 0 → (x : Picked) (w : Written) → pickReply x ≡ writtenReply w
+        → Wrote (nth (familyAt t a) k) page page′ w → PickPost Q m t a k words page x page′
+    unfolding pickRefusal
+    pick-delivers {page′} e x w d p = go w d p
+      where
+        s : List ℕ
+        s = nth (familyAt t a) k
+
+        so-far : pickRefusal Q m t a k words page ≡ firstOf ((shortPage page s, 15) ∷ [])
+        so-far =
+            let i = below-end (familyAt t a) k c told e in
+            passed-by o _ tt ok ∙ pass 8 _ (enough (a + 1) words (omega arith)) ∙ pass 11 _ (countable (familyAt t a) (i .0))
+            ∙ pass 12 _ (not-past (familyAt t a) k (i .1))
+
+        go : (w : Written) → pickReply x ≡ writtenReply w → Wrote (nth (familyAt t a) k) page page′ w → PickPost Q m t a k words page x page′
+        go (Packages n) d p =
+            let z : pickRefusal Q m t a k words page ≡ 0 = so-far ∙ pass 15 _ (page-fits page s (p .1)) ∙ none in
+            record { result = d ∙ ap gives (p .0) ∙ reply-gives (length s) z; pages = p .2 ∙ page-written s page z }
+        go Short d p =
+            let z : pickRefusal Q m t a k words page ≡ 15 = so-far ∙ hit 15 _ (page-short page s (p .0)) in
+            record { result = d ∙ reply-refused 15 _ z (λ y. omega arith); pages = p .1 ∙ page-left 15 s page z (λ y. omega arith) }
+
+-- ---- place
+
+place-post : {Q : Problem} {m : ℕ} {t : List ℕ} {a : ℕ} {s : List ℕ} {words r : ℕ} → placeRefusal Q m t a s words ≡ r → (r ≡ 0 → ⊥)
+    → PlacePost Q m t a s words (PlaceRefused r)
+place-post {r = r} e f = record { result = reply-refused r _ e f }
+
+-- in_precedence tells refusal 6
+module _ (Q : Problem) (s : List ℕ) {b : Bool} (is : b ≡ inPrecedence (keysOf Q) s) where
+  says : b ≡ not (notTimetable Q s)
+  unfolding notTimetable inPrecedence
+  says = is ∙ ap (λ (b : Bool). not (b || not (ascending (keysOf Q) s))) (sym (unknown-length (Q .packages) (keysOf Q) s (sym (length-keys Q))))
+
+  pub no-list : b ≡ false → notTimetable Q s ≡ true
+  no-list e = not-false _ (sym says ∙ e)
+
+  pub is-list : b ≡ true → notTimetable Q s ≡ false
+  is-list e = not-true _ (sym says ∙ e)
+
+module _ {Q : Problem} {m : ℕ} {t keys : List ℕ} {a : ℕ} {s : List ℕ} {words r : ℕ} (o : Opened (openTests Q m t a) Q t keys a r) where
+  pub place-refused : (r ≡ 0 → ⊥) → PlacePost Q m t a s words (PlaceRefused r)
+  unfolding placeRefusal
+  place-refused f = place-post (refused-by o _ f) f
+
+  pub place-unlisted : r ≡ 0 → notTimetable Q s ≡ true → PlacePost Q m t a s words (PlaceRefused 6)
+  unfolding placeRefusal
+  place-unlisted ok e = place-post (passed-by o _ tt ok ∙ hit 6 _ e) (λ z. omega arith)
+
+  module _ (ok : r ≡ 0) (listed : notTimetable Q s ≡ false) where
+    pub place-words : words ≤ a → PlacePost Q m t a s words (PlaceRefused 8)
+    unfolding placeRefusal
+    place-words h = place-post (passed-by o _ tt ok ∙ pass 6 _ listed ∙ hit 8 _ (too-few (a + 1) words (omega arith))) (λ z. omega arith)
+
+    pub place-delivers : a < words → (x : Placed) (c : Tally) (p : Spot) → placeReply x ≡ placedReply c p
+        → Told c (length (familyAt t a)) → Stands s (familyAt t a) p → PlacePost Q m t a s words x
+    unfolding placeRefusal absent
+    place-delivers room x c p d e q = record { result = d ∙ go c e p q }
+      where
+        so-far : placeRefusal Q m t a s words ≡ firstOf ((uncountable (familyAt t a), 11) ∷ (absent (familyAt t a) s, 14) ∷ [])
+        so-far = passed-by o _ tt ok ∙ pass 6 _ listed ∙ pass 8 _ (enough (a + 1) words (omega arith))
+
+        go : (c : Tally) → Told c (length (familyAt t a)) → (p : Spot) → Stands s (familyAt t a) p
+            → placedReply c p ≡ reply (placeRefusal Q m t a s words) (position s (familyAt t a))
+        go (Exactly n) e (At k) p =
+            ap gives (p .1 (e .1)) ∙ reply-gives _ (so-far ∙ pass 11 _ (countable (familyAt t a) (e .1)) ∙ pass 14 _ (ap not (p .0)) ∙ none)
+        go (Exactly n) e Absent p = reply-refused 14 _ (so-far ∙ pass 11 _ (countable (familyAt t a) (e .1)) ∙ hit 14 _ (ap not p)) (λ z. omega arith)
+        go TooMany e p q = reply-refused 11 _ (so-far ∙ hit 11 _ (too-many (familyAt t a) e)) (λ z. omega arith)
+
+-- ---- cheapest
+
+module _ {Q : Problem} (m : ℕ) (C : List ℕ) {t keys : List ℕ} {a r : ℕ} (o : Opened (pricedTests Q m C t a) Q t keys a r) (ok : r ≡ 0) where
+  priced : length C ≡ length (Q .packages)
+  unfolding unpriced
+  priced = eqb-true _ _ (not-false _ (passed _ 2 _ (fit-of _ (sym (o .says) ∙ ok) .1) .0))
+
+  pub priceable : Priceable t C
+  unfolding readable
+  priceable = record { table = readable (o .ready ok .usable); priced = omega (arith, length-keys Q, priced) }
+
+module _ {Q : Problem} {m : ℕ} {C t : List ℕ} {a words : ℕ} {page : List ℕ} where
+  cheapest-post : {r : ℕ} → cheapestRefusal Q m C t a words page ≡ r → (r ≡ 0 → ⊥) → CheapestPost Q m C t a words page (PriceRefused r) page
+  cheapest-post {r} e f = record { result = reply-refused r _ e f; pages = page-left r _ page e f }
+
+module _ {Q : Problem} {m : ℕ} {C t keys : List ℕ} {a words r : ℕ} {page : List ℕ} (o : Opened (pricedTests Q m C t a) Q t keys a r) where
+  pub cheapest-refused : (r ≡ 0 → ⊥) → CheapestPost Q m C t a words page (PriceRefused r) page
+  unfolding cheapestRefusal
+  cheapest-refused f = cheapest-post (refused-by o _ f) f
+
+  module _ (ok : r ≡ 0) where
+    pub cheapest-words : words < 2 * (a + 1) → CheapestPost Q m C t a words page (PriceRefused 8) page
+    unfolding cheapestRefusal
+    cheapest-words h = cheapest-post (passed-by o _ tt ok ∙ hit 8 _ (too-few (2 * (a + 1)) words h)) (λ z. omega arith)
+
+    module _ (room : 2 * (a + 1) ≤ words) where
+      pub cheapest-nothing : a ≡ 0 → CheapestPost Q m C t a words page (PriceRefused 13) page
+      unfolding cheapestRefusal
+      cheapest-nothing e =
+          cheapest-post (passed-by o _ tt ok ∙ pass 8 _ (enough (2 * (a + 1)) words room) ∙ hit 13 _ (is-nothing a e)) (λ z. omega arith)
+
+      pub cheapest-delivers : {page′ : List ℕ} → (a ≡ 0 → ⊥) → (x : Priced) (b : Cheap) → cheapestReply x ≡ cheapReply b
+          → Bought (cheapest C (familyAt t a)) (cost C (cheapest C (familyAt t a))) page page′ b → CheapestPost Q m C t a words page x page′
+      unfolding cheapestRefusal
+      cheapest-delivers {page′} some x b d p = go b d p
+        where
+          s : List ℕ
+          s = cheapest C (familyAt t a)
+
+          so-far : cheapestRefusal Q m C t a words page ≡ firstOf ((shortPage page s, 15) ∷ [])
+          so-far = passed-by o _ tt ok ∙ pass 8 _ (enough (2 * (a + 1)) words room) ∙ pass 13 _ (something a some)
+
+          go : (b : Cheap) → cheapestReply x ≡ cheapReply b → Bought s (cost C s) page page′ b → CheapestPost Q m C t a words page x page′
+          go (Found n c) d p =
+              let z : cheapestRefusal Q m C t a words page ≡ 0 = so-far ∙ pass 15 _ (page-fits page s (p .2)) ∙ none in
+              record {
+                result = d ∙ ap₂ (λ (i j : ℕ). gives (i, j)) (p .0) (p .1) ∙ reply-gives (length s, cost C s) z;
+                pages = p .3 ∙ page-written s page z;
+              }
+          go NoRoom d p =
+              let z : cheapestRefusal Q m C t a words page ≡ 15 = so-far ∙ hit 15 _ (page-short page s (p .0)) in
+              record { result = d ∙ reply-refused 15 _ z (λ y. omega arith); pages = p .1 ∙ page-left 15 s page z (λ y. omega arith) }
