@@ -1,9 +1,9 @@
 -- What the contract of a call says, whichever call it is. Assumes nothing.
 use mathlib.Core.Path.{_≡_, refl, ap, subst⁻¹}
-use mathlib.Core.Logic.{_⊎_, inl, inr, ⊎-elim}
-use mathlib.Core.Bool.{Bool, true, false, not, _&&_, _||_}
+use mathlib.Core.Logic.{⊎-elim}
+use mathlib.Core.Bool.{Bool, false, _||_}
 use mathlib.Core.List.{List, [], _∷_, List·Memᴰ·cases-cons, List·Memᴰ·not-nil, List·Memᴰ·eq-of-singleton}
-use Prim.Native.Nat.{ℕ, zero, suc, _+_, _/_, _<_}
+use Prim.Native.Nat.{ℕ, zero, suc, _+_, _<_}
 use native.Mathlib.Nat.{eq-zero-or-pos}
 use native.Mathlib.Omega.{arith}
 use lib.ListN.{length}
@@ -14,7 +14,6 @@ use Rattle.zdd.specs.Operations.{combine, including, excluding}
 use Rattle.zdd.proofs.Tested.{sound-of}
 use Rattle.exact_cover.specs.Problem.{Problem}
 use Rattle.exact_cover.specs.Cover.{keysOf, covering}
-use Rattle.exact_cover.specs.Steps.{steps}
 use Rattle.statement.specs.declared.Report.{Report}
 use Rattle.statement.specs.Replies.{Reply, refused, gives, outcomeReply}
 use Rattle.query.specs.Questions.{familyAt}

@@ -23,7 +23,7 @@ use Rattle.statement.specs.declared.Picked.{Picked}
 use Rattle.statement.specs.Replies.{Reply, refused, gives, reply, outcomeReply}
 use Rattle.query.specs.Questions.{familyAt, nth}
 use Rattle.statement.specs.Refusals.{firstOf, Fit, unsound, unknownAnswer, shortWork, uncountable, pastEnd, shortPage, pickRefusal}
-use Rattle.statement.specs.Postconditions.{Answered, Makes, PickPost, written}
+use Rattle.statement.specs.Postconditions.{Answered, PickPost, written}
 use Rattle.statement.specs.declared.Call.{Call}
 use Rattle.statement.specs.declared.Call.the-variants.{Cover, Either, Both, Only, With, Without}
 use Rattle.statement.specs.Calls.{operands, familyOf, stepsOf}
@@ -58,7 +58,7 @@ unfolding sets
 listing-empty Q = one-empty (order (keysOf Q))
 
 -- what a call makes depends on the sets of its operands only
-makes-same : (Q : Problem) (F G : ℕ → Chosen) (s : List ℕ) (c : Call) → ((x : ℕ) → x ∈ operands (c .call) → F x s ≡ G x s) → makes Q F c s ≡ makes Q G c s
+makes-same : (Q : Problem) (F G : ℕ → Chosen) (s : List ℕ) (c : Call) → ((x : ℕ) → x ∈ operands c → F x s ≡ G x s) → makes Q F c s ≡ makes Q G c s
 makes-same Q F G s (Cover d limit) h = refl
 makes-same Q F G s (Either a b) h = rw (h a (List·Memᴰ·head refl), h b (List·Memᴰ·tail (List·Memᴰ·head refl)))
 makes-same Q F G s (Both a b) h = rw (h a (List·Memᴰ·head refl), h b (List·Memᴰ·tail (List·Memᴰ·head refl)))

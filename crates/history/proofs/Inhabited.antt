@@ -16,10 +16,13 @@ use Rattle.exact_cover.specs.Steps.{each, visit, steps}
 use Rattle.statement.specs.declared.Report.{Report}
 use Rattle.statement.specs.declared.Outcome.the-variants.{Answer, Refused}
 use Rattle.statement.specs.declared.Picked.the-variants.{Packages}
-use Rattle.statement.specs.Refusals.{firstOf, oversize, stray, unsound, unknownAnswer, unknownItem, shortWork, spent, full, uncountable, pastEnd, shortPage, callRefusal, callRefusal, callRefusal, pickRefusal}
+use Rattle.statement.specs.Refusals.{firstOf, oversize, strayIn, stray, unsound, unknownAnswer, unknownItem, shortWork, spent, full, uncountable, pastEnd, shortPage, pickRefusal}
+use Rattle.statement.specs.Calls.{callRefusal}
+use Rattle.statement.specs.declared.Call.the-variants.{Cover, Only, With, Without}
+use Rattle.exact_cover.specs.Problem.{lead, done}
 use Rattle.query.specs.Questions.{unknownPackage}
 use Rattle.statement.specs.Postconditions.{CoverPost, WithPost, WithoutPost, OnlyPost, PickPost}
-use Rattle.history.specs.Histories.{cover, only, «with», without as exclude, Calls, History, start, next, SameSet, Posting, noTimetable, ledger, Returns, Demanded}
+use Rattle.history.specs.Histories.{entry, Calls, History, start, next, SameSet, Posting, noTimetable, ledger, Returns, Demanded}
 use Rattle.history.proofs.Demand.{demand3}
 use Rattle.statement.specs.Examples.{figure1, emptyTable}
 

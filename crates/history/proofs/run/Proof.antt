@@ -6,12 +6,13 @@ use lib.ListN.{length, length-replicate}
 use native.Mathlib.Omega.{arith}
 use Prim.Native.Nat.{_/_, _-_}
 use mathlib.Core.Path.{_≡_, refl, sym, ap, _∙_}
+use Rattle.exact_cover.specs.Problem.{problemOf}
 use borrow.Author.Needs.{needs}
 use Rattle.history.proofs.run.Statement.{statement}
 use Rattle.history.proofs.run.Tie as tie
 
 abbrev Inv-loop : tie.InvT-loop
-Inv-loop packages t₀ work₀ script out₀ given₀ places room i₀ t work out given i = (Running packages script room t₀ out₀ i given t out) × (length work ≡ length work₀)
+Inv-loop packages t₀ work₀ script out₀ given₀ places room i₀ t work out given i = (Running (problemOf packages) script room t₀ out₀ i given t out) × (length work ≡ length work₀)
 
 abbrev μ-loop : tie.MeasureT-loop
 μ-loop packages t₀ work₀ script out₀ given₀ places room i₀ t work out given i = length out₀ / 3 - i
@@ -38,7 +39,7 @@ mark-requires c κs =
     let here = c .before .before .before .before .before .before .before .before .before in let call = here .call in
     let loop = here .before .before .before .before .before .before .before .loop in
     let args = here .before .before .before .before .before .before .before .before .before .before .before .before .before .before .before .before .before .before .before .args in
-    answer-below (args .packages .now) (loop .t) (callAt (args .script .now) (loop .i)) (call .result) (call .last .1 .0) (call .ensures)
+    answer-below (problemOf (args .packages .now)) (loop .t) (callAt (args .script .now) (loop .i)) (call .result) (call .last .1 .0) (call .ensures)
 
 add-i : tie.Need-add-i Inv-loop μ-loop
 add-i c =
