@@ -35,13 +35,13 @@ module _ (b : List ℕ) where
   by-header p e f = e ∙ sym (not-cut p ∙ front (headerTests b) (recordTests b) (λ z. f (e ∙ z)))
 
   -- the tests of a header that it passes
-  pub record Passed : Type 0 where
+  pub record HeaderPassed : Type 0 where
     pub marked : unmarked b ≡ false
     pub version : otherVersion b ≡ false
     pub sized : oversize b ≡ false
     pub long : wrongLength b ≡ false
 
-  pub header-passed : (ts : List (Bool × ℕ)) → firstOf (headerTests b ++ ts) ≡ 0 → Passed × (firstOf ts ≡ 0)
+  pub header-passed : (ts : List (Bool × ℕ)) → firstOf (headerTests b ++ ts) ≡ 0 → HeaderPassed × (firstOf ts ≡ 0)
   header-passed ts z =
       let p1 = passed (unmarked b) 20 _ z in
       let p2 = passed (otherVersion b) 21 _ (p1 .1) in
@@ -66,7 +66,7 @@ module _ (b : List ℕ) where
   unfolding wrongLength
   whole-length e = eqb-true (length b) (13 + 2 * schools b + 12 * packages b) (not-false (eqb (length b) (13 + 2 * schools b + 12 * packages b)) e)
 
-  pub sized : {s t n : ℕ} → s ≡ schools b → t ≡ slots b → n ≡ packages b → Passed → Sized b s t n
+  pub sized : {s t n : ℕ} → s ≡ schools b → t ≡ slots b → n ≡ packages b → HeaderPassed → Sized b s t n
   sized e f g p = rw (e, f, g) (record {
     long = whole-length (p .long);
     items = small-size (p .sized) .0;
@@ -130,7 +130,7 @@ module _ (b : List ℕ) (z : refusal b ≡ 0) where
   unfolding refusal cut
   whole = ltb-false (length b) 13 (passed (cut b) 19 (headerTests b ++ recordTests b) z .0)
 
-  rest : Passed b × (firstOf (recordTests b) ≡ 0)
+  rest : HeaderPassed b × (firstOf (recordTests b) ≡ 0)
   rest = header-passed b (recordTests b) (sym (not-cut b whole) ∙ z)
 
   pub accepted-sized : {s t n : ℕ} → s ≡ schools b → t ≡ slots b → n ≡ packages b → Sized b s t n

@@ -24,7 +24,7 @@ use Rattle.statement.proofs.Kiosk.{too-many, over-limit, triple-left}
 use Rattle.kiosk.specs.declared.Node.{Node}
 use Rattle.kiosk.specs.Triples.{nodeIn, nodesIn}
 use Rattle.kiosk.specs.Flat.{none, filled, numbered, headed}
-use Rattle.kiosk.proofs.Filled.{Clear, Spoilt, Holds, holds, clear-word}
+use Rattle.kiosk.proofs.Filled.{Clear, Spoilt, Dealt, dealt, clear-word}
 
 -- ---- tables of the same words
 
@@ -109,8 +109,8 @@ module _ (t : List ℕ) (long : length t ≡ 196603) (zeros : (j : ℕ) → getD
   abbrev table : List ℕ
   table = tableOf n (nodesIn ns)
 
-  all : Holds t ns (length ns) s
-  all = holds t long zeros ns (length ns)
+  all : Dealt t ns (length ns) s
+  all = dealt t long zeros ns (length ns)
 
   -- a triple past the table's room that is not all 0
   left : Spoilt ns (length ns) s → soundb K table ≡ false

@@ -1,5 +1,5 @@
 use Rattle.bids.proofs.Answers.{by-file, few-places, few-costs, accepted, unwritten, items-stored, costs-stored}
-use Rattle.bids.proofs.Fit.{readable}
+use Rattle.bids.proofs.Fit.{fillable}
 use Rattle.bids.proofs.Refused.{whole}
 use Rattle.bids.specs.Format.{refusal, packagesOf, costsOf}
 use Rattle.bids.specs.Format as F
@@ -54,7 +54,7 @@ fill-requires : tie.Need-fill-requires
 fill-requires c κs =
     let args = c .before .before .before .before .before .before .before .before .before .before .before .before .before .args in
     let p = c .before .before .before .before .before .before .before .read-header .ensures in (
-      readable (args .file .now) (sym (c .before .before .before .before .before .before .before .before .before .refusal .ensures) ∙
+      fillable (args .file .now) (sym (c .before .before .before .before .before .before .before .before .before .refusal .ensures) ∙
           c .before .before .before .before .before .before .before .before .if1 .left) (c .before .before .wide .ensures ∙ p .schools) (p .packages),
       (omega (arith, c .before .before .before .before .if2 .left), omega (arith, c .before .before .before .if3 .left)),
     )
