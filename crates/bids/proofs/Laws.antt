@@ -97,13 +97,21 @@ module _ (f : ℕ → Bool) where
   unfolding some
   some-hit n i p e g = lt-ltb (first f n) n (omega (arith, first-hit n i p e g))
 
-  pub some-none : (n : ℕ) → first f n ≡ n → some f n ≡ false
+  pub some-none : (n i : ℕ) → i ≡ n → first f i ≡ i → some f n ≡ false
   unfolding some
-  some-none n e = le-ltb (first f n) n (omega (arith, e))
+  some-none n i q e = le-ltb (first f n) n (omega (arith, rw q at e))
 
   pub none-some : (n i : ℕ) → some f n ≡ false → i < n → f i ≡ false
   unfolding some
   none-some n i e p = first-none n i p (omega (arith, ltb-false (first f n) n e, first-le n))
+
+-- the test whether the record at a place is among the first i, by what g said of it where it was read
+module _ (g : ℕ → ℕ) {at place r i : ℕ} (e : at ≡ place) (f : r ≡ g at) where
+  pub among : r < i → ltb (g place) i ≡ true
+  among h = rw (← e, ← f) (lt-ltb r i h)
+
+  pub not-among : i ≤ r → ltb (g place) i ≡ false
+  not-among h = rw (← e, ← f) (le-ltb r i h)
 
 -- ---- a list by its places, and stored
 

@@ -20,7 +20,7 @@ package-record-requires c κs = omega arith
 
 loop-holds : tie.Need-loop-holds Inv-loop μ-loop
 unfolding packageIn
-loop-holds c = (omega arith, omega arith, λ x p. first-zero (λ j. samePackage (c .before .before .args .file .now) (packageAt (c .before .before .args .s) j) x))
+loop-holds c = (omega arith, omega arith, λ x p. first-zero _)
 
 package-record-requires-2 : tie.Need-package-record-requires-2 Inv-loop μ-loop
 package-record-requires-2 c κs = omega (arith, c .before .before .before .before .pre .0)
@@ -31,7 +31,7 @@ returns c =
     let here = c .before .before .before .before in let loop = here .loop in let package-record = here .before .package-record in let args = here .before .before .before .args in
     let b = args .file .now in
     let x = args .key .at in
-    sym (first-hit (λ j. samePackage b (packageAt (args .s) j) x) (args .n) (loop .k) (c .before .before .before .loop-test .taken) (loop .inv .2 x (package-record .ensures))
+    sym (first-hit _ (args .n) (loop .k) (c .before .before .before .loop-test .taken) (loop .inv .2 x (package-record .ensures))
     (same-package b (loop .inv .1) (c .before .before .package-record2 .ensures) (package-record .ensures) (c .before .same-package .ensures) ∙ c .if1 .taken))
 
 loop-less : tie.Need-loop-less Inv-loop μ-loop
@@ -45,7 +45,7 @@ loop-again c =
     let b = args .file .now in (
       omega arith,
       omega (arith, package-record2 .ensures .next),
-      λ x p. first-more (λ j. samePackage b (packageAt (args .s) j) x) (loop .k) (loop .inv .2 x p)
+      λ x p. first-more _ (loop .k) (loop .inv .2 x p)
           (same-package b (loop .inv .1) (package-record2 .ensures) p (c .before .before .same-package .ensures) ∙ c .before .if1 .left),
     )
 

@@ -19,7 +19,7 @@ school-record-requires c κs = omega arith
 
 loop-holds : tie.Need-loop-holds Inv-loop μ-loop
 unfolding schoolIn
-loop-holds c = (omega arith, omega arith, λ x p. first-zero (λ j. sameSchool (c .before .before .before .args .file .now) (schoolAt j) x))
+loop-holds c = (omega arith, omega arith, λ x p. first-zero _)
 
 school-record-requires-2 : tie.Need-school-record-requires-2 Inv-loop μ-loop
 school-record-requires-2 c κs = omega (arith, c .before .before .before .before .before .pre .0)
@@ -31,7 +31,7 @@ returns c =
     let args = here .before .before .before .before .args in
     let b = args .file .now in
     let x = args .key .at in
-    sym (first-hit (λ j. sameSchool b (schoolAt j) x) (args .n) (loop .j) (c .before .before .before .before .loop-test .taken) (loop .inv .2 x (names (school-record .ensures)))
+    sym (first-hit _ (args .n) (loop .j) (c .before .before .before .before .loop-test .taken) (loop .inv .2 x (names (school-record .ensures)))
     (same-school b (loop .inv .1) (c .before .before .before .school-record2 .ensures) (names (school-record .ensures)) (c .before .same-school .ensures) ∙ c .if1 .taken))
 
 loop-less : tie.Need-loop-less Inv-loop μ-loop
@@ -44,7 +44,7 @@ loop-again c =
     let b = c .before .before .before .before .before .before .before .before .before .before .args .file .now in (
       omega arith,
       omega (arith, school-record2 .ensures .next),
-      λ x p. first-more (λ j. sameSchool b (schoolAt j) x) (loop .j) (loop .inv .2 x p)
+      λ x p. first-more _ (loop .j) (loop .inv .2 x p)
           (same-school b (loop .inv .1) (school-record2 .ensures) p (c .before .before .same-school .ensures) ∙ c .before .if1 .left),
     )
 
