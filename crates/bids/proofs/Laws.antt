@@ -116,7 +116,7 @@ module _ (g : ℕ → ℕ) {at place r i : ℕ} (e : at ≡ place) (f : r ≡ g 
 -- ---- a list by its places, and stored
 
 -- l with vs stored at its start, one after the other
-abbrev pub over : List ℕ → List ℕ → List ℕ
+unfoldable pub over : List ℕ → List ℕ → List ℕ
 over vs l = sets l 0 vs
 
 sets-more : (vs l : List ℕ) (i v : ℕ) → sets l i (vs ++ (v ∷ [])) ≡ set (sets l i vs) (i + length vs) v
@@ -124,9 +124,11 @@ sets-more [] l i v = rw add-zero
 sets-more (w ∷ vs) l i v = sets-more vs (set l i w) (suc i) v ∙ ap (λ (k : ℕ). set (sets (set l i w) (suc i) vs) k v) (omega arith)
 
 pub over-long : (vs l : List ℕ) {m : List ℕ} → m ≡ over vs l → length m ≡ length l
+unfolding over
 over-long vs l e = ap length e ∙ length-sets l 0 vs
 
 pub over-room : (vs l : List ℕ) → length vs ≤ length l → over vs l ≡ vs ++ drop (length vs) l
+unfolding over
 over-room vs l p = sets-eq vs l 0 (omega arith) ∙ rw zero-add
 
 module _ (f : ℕ → ℕ) where
@@ -136,11 +138,11 @@ module _ (f : ℕ → ℕ) where
   length-listed (suc n) = simp (length-append, length-listed n) (omega arith)
 
   pub over-zero : (l : List ℕ) → l ≡ over (listed f 0) l
-  unfolding listed
+  unfolding over listed
   over-zero l = refl
 
   -- one store more
   pub over-more : (l : List ℕ) (n v : ℕ) → v ≡ f n → set (over (listed f n) l) n v ≡ over (listed f (n + 1)) l
-  unfolding listed
+  unfolding over listed
   over-more l n v e =
       rw (add-one, e, sets-more (listed f n) l 0 (f n)) (ap (λ (k : ℕ). set (sets l 0 (listed f n)) k (f n)) (omega (arith, length-listed n)))

@@ -74,54 +74,54 @@ module _ (b : List ℕ) where
     counts = (refl, (refl, refl));
   })
 
-  module _ (h : Header) (p : HeaderPost b h) where
-    pub mark-test : unmarked b ≡ not (h .marked)
-    unfolding unmarked
-    mark-test = rw (p .marked)
+module _ {b : List ℕ} {h : Header} (p : HeaderPost b h) where
+  pub mark-test : unmarked b ≡ not (h .marked)
+  unfolding unmarked
+  mark-test = rw (p .marked)
 
-    pub other-version : (h .version ≡ 1 → ⊥) → otherVersion b ≡ true
-    unfolding otherVersion
-    other-version f = rw (ne-eqb (version b) 1 (λ e. f (p .version ∙ e)))
+  pub other-version : (h .version ≡ 1 → ⊥) → otherVersion b ≡ true
+  unfolding otherVersion
+  other-version f = rw (ne-eqb (version b) 1 (λ e. f (p .version ∙ e)))
 
-    pub same-version : h .version ≡ 1 → otherVersion b ≡ false
-    unfolding otherVersion
-    same-version e = rw (eq-eqb (version b) 1 (sym (p .version) ∙ e))
+  pub same-version : h .version ≡ 1 → otherVersion b ≡ false
+  unfolding otherVersion
+  same-version e = rw (eq-eqb (version b) 1 (sym (p .version) ∙ e))
 
-    pub many-items : 64 < h .schools + h .slots → oversize b ≡ true
-    unfolding oversize
-    many-items q = rw (lt-ltb 64 (schools b + slots b) (omega (arith, p .schools, p .slots)))
+  pub many-items : 64 < h .schools + h .slots → oversize b ≡ true
+  unfolding oversize
+  many-items q = rw (lt-ltb 64 (schools b + slots b) (omega (arith, p .schools, p .slots)))
 
-    pub many-packages : h .schools + h .slots ≤ 64 → 512 < h .packages → oversize b ≡ true
-    unfolding oversize
-    many-packages q r = rw (le-ltb 64 (schools b + slots b) (omega (arith, p .schools, p .slots)), lt-ltb 512 (packages b) (omega (arith, p .packages)))
+  pub many-packages : h .schools + h .slots ≤ 64 → 512 < h .packages → oversize b ≡ true
+  unfolding oversize
+  many-packages q r = rw (le-ltb 64 (schools b + slots b) (omega (arith, p .schools, p .slots)), lt-ltb 512 (packages b) (omega (arith, p .packages)))
 
-    pub few : h .schools + h .slots ≤ 64 → h .packages ≤ 512 → oversize b ≡ false
-    unfolding oversize
-    few q r = rw (le-ltb 64 (schools b + slots b) (omega (arith, p .schools, p .slots)), le-ltb 512 (packages b) (omega (arith, p .packages)))
+  pub few : h .schools + h .slots ≤ 64 → h .packages ≤ 512 → oversize b ≡ false
+  unfolding oversize
+  few q r = rw (le-ltb 64 (schools b + slots b) (omega (arith, p .schools, p .slots)), le-ltb 512 (packages b) (omega (arith, p .packages)))
 
-    pub other-length : (length b ≡ 13 + 2 * h .schools + 12 * h .packages → ⊥) → wrongLength b ≡ true
-    unfolding wrongLength
-    other-length f = rw (ne-eqb (length b) (13 + 2 * schools b + 12 * packages b) (λ e. f (omega (arith, p .schools, p .packages))))
+  pub other-length : (length b ≡ 13 + 2 * h .schools + 12 * h .packages → ⊥) → wrongLength b ≡ true
+  unfolding wrongLength
+  other-length f = rw (ne-eqb (length b) (13 + 2 * schools b + 12 * packages b) (λ e. f (omega (arith, p .schools, p .packages))))
 
-    pub same-length : length b ≡ 13 + 2 * h .schools + 12 * h .packages → wrongLength b ≡ false
-    unfolding wrongLength
-    same-length e = rw (eq-eqb (length b) (13 + 2 * schools b + 12 * packages b) (omega (arith, p .schools, p .packages)))
+  pub same-length : length b ≡ 13 + 2 * h .schools + 12 * h .packages → wrongLength b ≡ false
+  unfolding wrongLength
+  same-length e = rw (eq-eqb (length b) (13 + 2 * schools b + 12 * packages b) (omega (arith, p .schools, p .packages)))
 
-  -- ---- the tests of the check and the records
+-- ---- the tests of the check and the records
 
-  pub check-of : {x y n : ℕ} → n ≡ length b - 4 → x ≡ fnv (take n b) → y ≡ word32At b n → wrongCheck b ≡ not (eqb x y)
-  unfolding wrongCheck
-  check-of e f g = rw (f, g, e)
+pub check-of : (b : List ℕ) {x y n : ℕ} → n ≡ length b - 4 → x ≡ fnv (take n b) → y ≡ word32At b n → wrongCheck b ≡ not (eqb x y)
+unfolding wrongCheck
+check-of b e f g = rw (f, g, e)
 
-  module _ {s t n : ℕ} (p : Sized b s t n) where
-    pub twice-of : {r : Bool} → r ≡ schoolTwice b s → schoolTwice b (schools b) ≡ r
-    twice-of e = sym (rw (p .counts .0) at e)
+module _ {b : List ℕ} {s t n : ℕ} (p : Sized b s t n) where
+  pub twice-of : {r : Bool} → r ≡ schoolTwice b s → schoolTwice b (schools b) ≡ r
+  twice-of e = sym (rw (p .counts .0) at e)
 
-    pub stray-of : {r : Bool} → r ≡ stray b s t n → stray b (schools b) (slots b) (packages b) ≡ r
-    stray-of e = sym (rw (p .counts .0, p .counts .1 .0, p .counts .1 .1) at e)
+  pub stray-of : {r : Bool} → r ≡ stray b s t n → stray b (schools b) (slots b) (packages b) ≡ r
+  stray-of e = sym (rw (p .counts .0, p .counts .1 .0, p .counts .1 .1) at e)
 
-    pub package-twice-of : {r : Bool} → r ≡ packageTwice b s n → packageTwice b (schools b) (packages b) ≡ r
-    package-twice-of e = sym (rw (p .counts .0, p .counts .1 .1) at e)
+  pub package-twice-of : {r : Bool} → r ≡ packageTwice b s n → packageTwice b (schools b) (packages b) ≡ r
+  package-twice-of e = sym (rw (p .counts .0, p .counts .1 .1) at e)
 
 -- ---- an accepted file passes every test
 

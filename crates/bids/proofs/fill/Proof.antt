@@ -22,9 +22,7 @@ add-t11 : tie.Need-add-t11 Inv-loop μ-loop
 add-t11 c = omega (arith, c .before .before .before .pre .0 .few .0)
 
 loop-holds : tie.Need-loop-holds Inv-loop μ-loop
-loop-holds c =
-    let a = c .before .before .before .args in
-    (omega arith, omega arith, over-zero (itemsOf (a .file .now) (a .s)) (a .packages .now), over-zero (costOf (a .file .now) (a .s)) (a .costs .now))
+loop-holds c = (omega arith, omega arith, over-zero _ _, over-zero _ _)
 
 school-index-requires : tie.Need-school-index-requires Inv-loop μ-loop
 school-index-requires c κs = omega (arith, c .before .before .before .before .before .pre .0 .long)
@@ -47,8 +45,8 @@ mul-packages c = omega (arith, c .before .before .before .before .before .before
 
 slice-write-packages : tie.Need-slice-write-packages Inv-loop μ-loop
 slice-write-packages c =
-    let here = c .before .before .before .before in let loop = here .loop in let args = here .before .before .before .before .args in
-    omega (arith, c .before .before .before .before .before .before .before .before .pre .1 .0, over-long (listed (itemsOf (args .file .now) (args .s)) (loop .k)) (args .packages .now) (loop .inv .2))
+    let here = c .before .before .before .before in
+    omega (arith, here .before .before .before .before .pre .1 .0, over-long _ _ (here .loop .inv .2))
 
 cast-costs : tie.Need-cast-costs Inv-loop μ-loop
 cast-costs c = omega (arith, c .before .before .package-record .ensures .small)
@@ -58,13 +56,8 @@ mul-costs c = omega (arith, c .before .before .before .before .before .before .b
 
 slice-write-costs : tie.Need-slice-write-costs Inv-loop μ-loop
 slice-write-costs c =
-    let here = c .before .before .before .before .before in let loop = here .loop in let args = here .before .before .before .before .args in
-    omega (
-      arith,
-      c .before .before .before .before .before .before .before .before .before .pre .1 .1,
-      over-long (listed (costOf (args .file .now) (args .s)) (loop .k)) (args .costs .now)
-          (loop .inv .3),
-    )
+    let here = c .before .before .before .before .before in
+    omega (arith, here .before .before .before .before .pre .1 .1, over-long _ _ (here .loop .inv .3))
 
 add-k : tie.Need-add-k Inv-loop μ-loop
 add-k c = omega arith
@@ -87,14 +80,10 @@ loop-again c =
     )
 
 same-length : tie.Need-same-length Inv-loop μ-loop
-same-length c =
-    let args = c .before .before .before .before .before .args in
-    over-long (listed (itemsOf (args .file .now) (args .s)) (c .before .loop .k)) (args .packages .now) (c .before .loop .inv .2)
+same-length c = over-long _ _ (c .before .loop .inv .2)
 
 same-length-2 : tie.Need-same-length-2 Inv-loop μ-loop
-same-length-2 c =
-    let args = c .before .before .before .before .before .args in
-    over-long (listed (costOf (args .file .now) (args .s)) (c .before .loop .k)) (args .costs .now) (c .before .loop .inv .3)
+same-length-2 c = over-long _ _ (c .before .loop .inv .3)
 
 returns : tie.Need-returns Inv-loop μ-loop
 returns c =

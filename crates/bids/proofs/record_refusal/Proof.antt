@@ -32,7 +32,7 @@ returns-2 c =
     let p = c .before .before .before .before .before .before .before .pre in
     let e1 = check-of b refl (c .before .before .before .before .check .ensures) (c .before .before .before .before .before .word32 .ensures .value) ∙ ap not
     (eq-eqb _ _ (c .before .before .if1 .left)) in
-    sym (pass 23 _ e1 ∙ hit 25 _ (twice-of b p (c .before .school-twice .ensures) ∙ c .if2 .taken))
+    sym (pass 23 _ e1 ∙ hit 25 _ (twice-of p (c .before .school-twice .ensures) ∙ c .if2 .taken))
 
 stray-requires : tie.Need-stray-requires
 stray-requires c κs = (omega (arith, c .before .before .before .before .before .before .before .pre .long), omega (arith, c .before .before .before .before .before .before .before .pre .items))
@@ -43,8 +43,8 @@ returns-3 c =
     let p = c .before .before .before .before .before .before .before .before .before .pre in
     let e1 = check-of b refl (c .before .before .before .before .before .before .check .ensures) (c .before .before .before .before .before .before .before .word32 .ensures .value) ∙ ap not
     (eq-eqb _ _ (c .before .before .before .before .if1 .left)) in
-    let e2 = twice-of b p (c .before .before .before .school-twice .ensures) ∙ c .before .before .if2 .left in
-    sym (pass 23 _ e1 ∙ pass 25 _ e2 ∙ hit 26 _ (stray-of b p (c .before .stray .ensures) ∙ c .if3 .taken))
+    let e2 = twice-of p (c .before .before .before .school-twice .ensures) ∙ c .before .before .if2 .left in
+    sym (pass 23 _ e1 ∙ pass 25 _ e2 ∙ hit 26 _ (stray-of p (c .before .stray .ensures) ∙ c .if3 .taken))
 
 package-twice-requires : tie.Need-package-twice-requires
 package-twice-requires c κs = omega (arith, c .before .before .before .before .before .before .before .before .before .pre .long)
@@ -55,9 +55,9 @@ returns-4 c =
     let p = c .before .before .before .before .before .before .before .before .before .before .before .pre in
     let e1 = check-of b refl (c .before .before .before .before .before .before .before .before .check .ensures)
     (c .before .before .before .before .before .before .before .before .before .word32 .ensures .value) ∙ ap not (eq-eqb _ _ (c .before .before .before .before .before .before .if1 .left)) in
-    let e2 = twice-of b p (c .before .before .before .before .before .school-twice .ensures) ∙ c .before .before .before .before .if2 .left in
-    let e3 = stray-of b p (c .before .before .before .stray .ensures) ∙ c .before .before .if3 .left in
-    sym (pass 23 _ e1 ∙ pass 25 _ e2 ∙ pass 26 _ e3 ∙ hit 27 _ (package-twice-of b p (c .before .package-twice .ensures) ∙ c .if4 .taken))
+    let e2 = twice-of p (c .before .before .before .before .before .school-twice .ensures) ∙ c .before .before .before .before .if2 .left in
+    let e3 = stray-of p (c .before .before .before .stray .ensures) ∙ c .before .before .if3 .left in
+    sym (pass 23 _ e1 ∙ pass 25 _ e2 ∙ pass 26 _ e3 ∙ hit 27 _ (package-twice-of p (c .before .package-twice .ensures) ∙ c .if4 .taken))
 
 returns-5 : tie.Need-returns-5
 returns-5 c =
@@ -65,9 +65,9 @@ returns-5 c =
     let p = c .before .before .before .before .before .before .before .before .before .before .before .pre in
     let e1 = check-of b refl (c .before .before .before .before .before .before .before .before .check .ensures)
     (c .before .before .before .before .before .before .before .before .before .word32 .ensures .value) ∙ ap not (eq-eqb _ _ (c .before .before .before .before .before .before .if1 .left)) in
-    let e2 = twice-of b p (c .before .before .before .before .before .school-twice .ensures) ∙ c .before .before .before .before .if2 .left in
-    let e3 = stray-of b p (c .before .before .before .stray .ensures) ∙ c .before .before .if3 .left in
-    let e4 = package-twice-of b p (c .before .package-twice .ensures) ∙ c .if4 .left in
+    let e2 = twice-of p (c .before .before .before .before .before .school-twice .ensures) ∙ c .before .before .before .before .if2 .left in
+    let e3 = stray-of p (c .before .before .before .stray .ensures) ∙ c .before .before .if3 .left in
+    let e4 = package-twice-of p (c .before .package-twice .ensures) ∙ c .if4 .left in
     sym (pass 23 _ e1 ∙ pass 25 _ e2 ∙ pass 26 _ e3 ∙ pass 27 _ e4 ∙ pass 28 _ (fit b e3 p) ∙ none)
 
 pub record-refusal-spec : {M : Type 1} → statement M
