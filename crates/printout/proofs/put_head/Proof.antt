@@ -12,8 +12,7 @@ returns c =
     let put-field3 = here .before .before .before .before .before .before .before .before .before .before .put-field3 in
     let put-field2 = here .before .before .before .before .before .before .before .before .before .before .before .before .before .before .before .put-field2 in
     let put-field = here .before .before .before .before .before .before .before .before .before .before .before .before .before .before .before .before .before .before .before .before .put-field in
-    let args = here .before .before .before .before .before .before .before .before .before .before .before .before .before .before .before .before .before .before .before .before .before .before .before .before .args in
-    let a = args in
+    let a = here .before .before .before .before .before .before .before .before .before .before .before .before .before .before .before .before .before .before .before .before .before .before .before .before .args in
     puts-then (field slotsWord (a .t)) (put-field .ensures)
     (puts-then (field schoolsWord (a .s)) (put-field2 .ensures)
     (puts-then (field packagesWord (a .n)) (put-field3 .ensures)

@@ -28,9 +28,8 @@ returns : tie.Need-returns
 returns c =
     let here = c .before .before .before .before .before .before .before .before .before .before .before .before .before .before in let least = here .least in
     let put-head = here .before .before .before .put-head in
-    let args = here .before .before .before .before .before .before .before .before .before .before .before .before .before .before .before .args in
+    let a = here .before .before .before .before .before .before .before .before .before .before .before .before .before .before .before .args in
     let pre = here .before .before .before .before .before .before .before .before .before .before .before .before .before .before .before .pre in
-    let a = args in
     let C = a .costs .now in
     let F = familyAt (a .table .now) (a .c .answer) in
     let q = puts-then (timetableLines C F (min (a .count) 10))
