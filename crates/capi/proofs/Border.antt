@@ -1,7 +1,7 @@
 -- What a struct at the border says is what the engine's answer says. Assumes nothing.
 use mathlib.Core.Path.{_≡_, refl, sym, ap, _∙_}
 use mathlib.Core.List.{List}
-use Prim.Native.Nat.{ℕ, zero, suc, _+_, _<_}
+use Prim.Native.Nat.{ℕ, zero, suc, _+_}
 use native.Mathlib.Omega.{arith}
 use lib.ListN.{length}
 use Rattle.zdd.specs.Table.{Family, count}
@@ -11,9 +11,10 @@ use Rattle.statement.specs.declared.Counted.{Counted}
 use Rattle.statement.specs.declared.Picked.{Picked}
 use Rattle.statement.specs.declared.Placed.{Placed}
 use Rattle.statement.specs.declared.Priced.{Priced}
-use Rattle.statement.specs.Replies.{Reply, refused, reply, soundnessReply, countReply, pickReply, placeReply, cheapestReply}
+use Rattle.statement.specs.Replies.{Reply, refused, soundnessReply, countReply, pickReply, placeReply, cheapestReply}
 use Rattle.statement.specs.Refusals.{checkRefusal, countRefusal, pickRefusal, placeRefusal, cheapestRefusal}
 use Rattle.statement.specs.Postconditions.{Makes, CheckPost, CountPost, PickPost, PlacePost, CheapestPost}
+use Rattle.statement.proofs.TestLaws.{reply-refused}
 use Rattle.query.specs.Questions.{familyAt, nth, position, cost, cheapest}
 use Rattle.bids.specs.declared.Reading.{Reading}
 use Rattle.bids.specs.Format as F
@@ -34,16 +35,11 @@ says-refused said same zero e zero v h = cc
 says-refused said same zero e (suc n) v h = let z : _≡_ {A = ℕ} 0 (suc n) = cc in absurd (omega arith)
 says-refused said same (suc k) e n v h = same k ∙ (sym e ∙ h)
 
--- a refusal's reply is one of a call
-refused-reply : {A : Type 0} (v : A) (n : ℕ) → 0 < n → refused n ≡ reply n v
-refused-reply v zero h = absurd (omega (arith, h))
-refused-reply v (suc n) h = refl
-
 -- what the engine promises of its report, the entry promises of the struct
 pub shows-makes : {K t t′ : List ℕ} {n s : ℕ} {F : Family} {r : EngineReport} (c : Report) → Shows r c → Makes K n F s t r t′ → Makes K n F s t (reportOf c) t′
 shows-makes {t = t} {n = n} c h m = record {
-  declined = λ p. let d = m .declined p in record {
-    outcome = h .outcome n 0 (d .outcome ∙ refused-reply 0 n p) ∙ sym (refused-reply 0 n p);
+  declined = λ p. let d = m .declined p in let e = reply-refused {A = ℕ} n 0 refl (λ z. omega arith) in record {
+    outcome = h .outcome n 0 (d .outcome ∙ e) ∙ sym e;
     steps = h .steps ∙ d .steps;
     made = h .made ∙ d .made;
     table = d .table;
