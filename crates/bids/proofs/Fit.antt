@@ -49,7 +49,8 @@ module _ (b : List ℕ) (listed-all : stray b (schools b) (slots b) (packages b)
   kept : (k : ℕ) → k < packages b → (schoolOf b (schools b) k < schools b) × (slotsOf b (schools b) k < 2 ^ slots b)
   unfolding stray strayb
   kept k q =
-      let e = neither (not (ltb (schoolOf b (schools b) k) (schools b))) (not (belowb (slotsOf b (schools b) k) (slots b))) (none-some (λ i. strayb b (schools b) (slots b) i) (packages b) k listed-all q) in (
+      let e = neither (not (ltb (schoolOf b (schools b) k) (schools b))) (not (belowb (slotsOf b (schools b) k) (slots b)))
+      (none-some (λ i. strayb b (schools b) (slots b) i) (packages b) k listed-all q) in (
         ltb-true (schoolOf b (schools b) k) (schools b) (not-false (ltb (schoolOf b (schools b) k) (schools b)) (e .0)),
         below-lt (slotsOf b (schools b) k) (slots b) (not-false (belowb (slotsOf b (schools b) k) (slots b)) (e .1)),
       )

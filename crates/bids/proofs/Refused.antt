@@ -11,7 +11,8 @@ use Rattle.base.proofs.Bools.{never}
 use Rattle.statement.specs.Refusals.{firstOf}
 use Rattle.statement.proofs.FirstOf.{pass, hit, passed, front}
 use Rattle.bids.specs.Bytes.{word32At, fnv}
-use Rattle.bids.specs.Format.{unmarked, otherVersion, version, schools, slots, packages, cut, oversize, wrongLength, wrongCheck, schoolTwice, stray, packageTwice, unfit, headerTests, recordTests, refusal}
+use Rattle.bids.specs.Format.{unmarked, otherVersion, version, schools, slots, packages, cut, oversize, wrongLength, wrongCheck, schoolTwice}
+use Rattle.bids.specs.Format.{stray, packageTwice, unfit, headerTests, recordTests, refusal}
 use Rattle.bids.specs.Contract.{HeaderPost, Sized}
 use Rattle.bids.specs.declared.Header.{Header}
 

@@ -66,16 +66,19 @@ shows-check {S} {m} {t} r h p = record { result = h (checkRefusal S m t) tt (p .
 pub shows-count : {S : List ℕ} {m : ℕ} {t : List ℕ} {a w : ℕ} {e : Counted} (r : Number) → Says (countReply e) (countReply (countedOf r)) → CountPost S m t a w e → CountPost S m t a w (countedOf r)
 shows-count {S} {m} {t} {a} {w} r h p = record { result = h (countRefusal S m t a w) (length (familyAt t a)) (p .result) }
 
-pub shows-pick : {S : List ℕ} {m : ℕ} {t : List ℕ} {a k w : ℕ} {g g′ : List ℕ} {e : Picked} (r : Timetable) → Says (pickReply e) (pickReply (pickedOf r)) → PickPost S m t a k w g e g′ → PickPost S m t a k w g (pickedOf r) g′
+pub shows-pick : {S : List ℕ} {m : ℕ} {t : List ℕ} {a k w : ℕ} {g g′ : List ℕ} {e : Picked} (r : Timetable) → Says (pickReply e) (pickReply (pickedOf r))
+    → PickPost S m t a k w g e g′ → PickPost S m t a k w g (pickedOf r) g′
 shows-pick {S} {m} {t} {a} {k} {w} {g} r h p = record {
   result = h (pickRefusal S m t a k w g) (length (nth (familyAt t a) k)) (p .result);
   pages = p .pages;
 }
 
-pub shows-place : {S : List ℕ} {m : ℕ} {t : List ℕ} {a : ℕ} {s : List ℕ} {w : ℕ} {e : Placed} (r : Number) → Says (placeReply e) (placeReply (placedOf r)) → PlacePost S m t a s w e → PlacePost S m t a s w (placedOf r)
+pub shows-place : {S : List ℕ} {m : ℕ} {t : List ℕ} {a : ℕ} {s : List ℕ} {w : ℕ} {e : Placed} (r : Number) → Says (placeReply e) (placeReply (placedOf r))
+    → PlacePost S m t a s w e → PlacePost S m t a s w (placedOf r)
 shows-place {S} {m} {t} {a} {s} {w} r h p = record { result = h (placeRefusal S m t a s w) (position s (familyAt t a)) (p .result) }
 
-pub shows-cheapest : {S : List ℕ} {m : ℕ} {C t : List ℕ} {a w : ℕ} {g g′ : List ℕ} {e : Priced} (r : Timetable) → Says (cheapestReply e) (cheapestReply (pricedOf r)) → CheapestPost S m C t a w g e g′ → CheapestPost S m C t a w g (pricedOf r) g′
+pub shows-cheapest : {S : List ℕ} {m : ℕ} {C t : List ℕ} {a w : ℕ} {g g′ : List ℕ} {e : Priced} (r : Timetable) → Says (cheapestReply e) (cheapestReply (pricedOf r))
+    → CheapestPost S m C t a w g e g′ → CheapestPost S m C t a w g (pricedOf r) g′
 shows-cheapest {S} {m} {C} {t} {a} {w} {g} r h p = record {
   result = h (cheapestRefusal S m C t a w g) (length (cheapest C (familyAt t a)), cost C (cheapest C (familyAt t a))) (p .result);
   pages = p .pages;

@@ -10,7 +10,8 @@ use Rattle.bids.proofs.fill.Statement.{statement}
 use Rattle.bids.proofs.fill.Tie as tie
 
 abbrev Inv-loop : tie.InvT-loop
-Inv-loop file s n packages₀ costs₀ c₀ k₀ packages costs c k = (k ≤ n) × (c .at ≡ packageAt s k) × (packages ≡ over (listed (itemsOf file s) k) packages₀) × (costs ≡ over (listed (costOf file s) k) costs₀)
+Inv-loop file s n packages₀ costs₀ c₀ k₀ packages costs c k = (k ≤ n) × (c .at ≡ packageAt s k) × (packages ≡ over (listed (itemsOf file s) k) packages₀) ×
+    (costs ≡ over (listed (costOf file s) k) costs₀)
 
 abbrev μ-loop : tie.MeasureT-loop
 μ-loop file s n packages₀ costs₀ c₀ k₀ packages costs c k = n - k
