@@ -38,7 +38,7 @@ use Rattle.statement.proofs.TestLaws.{all-priced, answer-known, enough, countab
 use Rattle.statement.proofs.Cheapest.{cheapest-least}
 use Rattle.statement.proofs.Undo.{place-of-pick}
 use Rattle.guard.proofs.GuardLaws.{rows}
-use Rattle.printout.specs.Program.{Answerable, Listable}
+use Rattle.printout.specs.Program.{Askable, Listable}
 
 -- ---- a timetable has at most as many packages as there are items
 
@@ -99,15 +99,15 @@ no-refusal e = absurd (let z : _≡_ {A = ℕ} 0 1 = cc in omega arith)
 
 -- ---- the questions
 
-pub count-left : {S : List ℕ} {m : ℕ} {t : List ℕ} {a words : ℕ} → Answerable S m t a words
+pub count-left : {S : List ℕ} {m : ℕ} {t : List ℕ} {a words : ℕ} → Askable S m t a words
     → countRefusal S m t a words ≡ firstOf ((uncountable (familyAt t a), 11) ∷ [])
 unfolding countRefusal
 count-left {a = a} {words} A =
     pass 1 _ (A .sized) ∙ pass 2 _ (A .clean) ∙ pass 4 _ (A .sound) ∙ pass 5 _ (A .known) ∙ pass 8 _ (enough (a + 1) words (omega (arith, A .room)))
 
 module _ {S : List ℕ} {m : ℕ} {t : List ℕ} {a words : ℕ} (Q : Listable S m t a words) where
-  abbrev A : Answerable S m t a words
-  A = Q .answerable
+  abbrev A : Askable S m t a words
+  A = Q .askable
 
   abbrev F : Family
   F = familyAt t a
@@ -198,11 +198,11 @@ pub cover-answered : {K : List ℕ} {F : Family} {st : ℕ} {b : List ℕ} {r : 
 cover-answered zero a M e = (refl, M .answered refl)
 cover-answered (suc n) a M e = no-refusal (sym (M .declined (omega arith) .outcome) ∙ e)
 
-pub answerable : (S : List ℕ) (m limit words : ℕ) {b : List ℕ} {st : ℕ} {r : Report} {t : List ℕ} (a : ℕ) → length b ≡ 5401 → words ≡ 3604 → m ≤ 64
+pub askable : (S : List ℕ) (m limit words : ℕ) {b : List ℕ} {st : ℕ} {r : Report} {t : List ℕ} (a : ℕ) → length b ≡ 5401 → words ≡ 3604 → m ≤ 64
     → coverRefusal S m b (allItems m) limit words ≡ 0 → Answered (keysOf S) (covering S (allItems m)) st b r t → outcomeReply (r .outcome) ≡ gives a
-    → Answerable S m t a words × (familyAt t a ≡ covering S (allItems m))
+    → Askable S m t a words × (familyAt t a ≡ covering S (allItems m))
 unfolding coverRefusal unsound
-answerable S m limit words {t = t} a l v h z A o =
+askable S m limit words {t = t} a l v h z A o =
     let p1 = passed (oversize m S) 0 _ z in
     let p2 = passed (stray m S) 1 _ (p1 .1) in
     let R : Rows S = rows S m (pass 1 _ (p1 .0) ∙ pass 2 _ (p2 .0) ∙ none) in

@@ -26,8 +26,8 @@ use Rattle.bids.proofs.Refused.{accepted-sized}
 use Rattle.bids.proofs.Laws.{length-listed}
 use Rattle.printout.specs.Text.{head, timetableLine, cheapestLine, noneLine, refusedLine}
 use Rattle.printout.specs.Written.{Holds, Puts}
-use Rattle.printout.specs.Program.{unless, timetableLines, lastLine, sheet, answerText, blank, solved, printed, Answerable}
-use Rattle.printout.proofs.Asking.{was-given, was-refused, cover-refused, cover-answered, answerable}
+use Rattle.printout.specs.Program.{unless, timetableLines, lastLine, sheet, answerText, blank, solved, printed, Askable}
+use Rattle.printout.proofs.Asking.{was-given, was-refused, cover-refused, cover-answered, askable}
 
 -- ---- a text from the start of the buffer
 
@@ -90,11 +90,11 @@ module _ (s t : ℕ) (S C : List ℕ) {b : List ℕ} {w d : ℕ} {r : Report} {t
   cover-said x o = let q = cover-refused (coverRefusal S (s + t) blank (allItems (s + t)) 1000000 3604) x M0 o in said x _ (q .0) (q .1)
 
   pub cover-gave : (a : ℕ) → s + t ≤ 64 → outcomeReply (r .outcome) ≡ gives a
-      → ((n : ℕ) → n ≡ 3604 → Answerable S (s + t) t′ a n) × (answerText s t (length S) C (familyAt t′ a) (r .made) (r .steps) ≡ solved s t S C)
+      → ((n : ℕ) → n ≡ 3604 → Askable S (s + t) t′ a n) × (answerText s t (length S) C (familyAt t′ a) (r .made) (r .steps) ≡ solved s t S C)
   unfolding solved blank
   cover-gave a small o =
       let q = cover-answered (coverRefusal S (s + t) blank (allItems (s + t)) 1000000 3604) a M0 o in
-      let g = answerable S (s + t) 1000000 3604 a (length-replicate {A = ℕ} 5401 0) refl small (q .0) (q .1) o in
+      let g = askable S (s + t) 1000000 3604 a (length-replicate {A = ℕ} 5401 0) refl small (q .0) (q .1) o in
       (λ n e. rw e (g .0), rw (g .1, q .1 .made, q .1 .steps) (unsaid _ (q .0)))
 
 -- ---- the file

@@ -7,7 +7,7 @@ ghost use lib.ListN.{length, getD};
 ghost use Rattle.query.specs.Questions.{familyAt, nth, cost};
 ghost use Rattle.printout.specs.Text.{decimalIn, decimal, field, head, packagesText, timetableLine, refusedLine};
 ghost use Rattle.printout.specs.Written.{Puts, Holds, Whole};
-ghost use Rattle.printout.specs.Program.{timetableLines, lastLine, sheet, answerText, solved, printed, Answerable, Listable};
+ghost use Rattle.printout.specs.Program.{timetableLines, lastLine, sheet, answerText, solved, printed, Askable, Listable};
 ghost use Rattle.statement.specs.Examples.{allItems};
 ghost use Rattle.statement.specs.Replies.{gives, pickReply, placeReply, cheapestReply};
 use bids::Reading;
@@ -323,7 +323,7 @@ fn put_answer(
     work: &mut [u64],
     out: &mut [u8],
 ) -> usize
-    requires { ⌜ Answerable (now packages) (c .s + c .t) (now table) (c .answer) (length (now work)) ⌝ }
+    requires { ⌜ Askable (now packages) (c .s + c .t) (now table) (c .answer) (length (now work)) ⌝ }
     requires { ⌜ length (now costs) ≡ length (now packages) ⌝ }
     requires { ⌜ c .s + c .t ≤ 64 ⌝ }
     ensures { λ r. ⌜ Holds (now (out .exit)) r (answerText (c .s) (c .t) (length (now (packages .entry))) (now (costs .entry)) (familyAt (now (table .entry)) (c .answer)) (c .made) (c .steps)) ⌝ }

@@ -1,6 +1,6 @@
 use Rattle.printout.proofs.Sheets.{from-start, holds-same, said, unsaid, few-of}
 use Rattle.printout.proofs.Asking.{count-left, was-given, was-refused}
-use Rattle.printout.specs.Program.{answerText, sheet, Answerable}
+use Rattle.printout.specs.Program.{answerText, sheet, Askable}
 use Rattle.statement.specs.Replies.{countReply}
 use Rattle.statement.specs.Refusals.{countRefusal}
 use Rattle.query.specs.Questions.{familyAt}
@@ -18,7 +18,7 @@ put-sheet-requires c κs =
     let q = was-given _ (countRefusal (a .packages .now) (a .c .s + a .c .t) (a .table .now) (a .c .answer) (length (a .work .now))) (length (familyAt (a .table .now) (a .c .answer)))
     (sym (ap countReply (c .before .before .before .counted2 .given .1)) ∙ c .before .before .before .before .before .before .before .count .ensures .result) in (
       record {
-        answerable = subst⁻¹ (λ (w : ℕ). Answerable (a .packages .now) (a .c .s + a .c .t) (a .table .now) (a .c .answer) w) (c .before .before .before .before .before .before .work .given) (pre .0);
+        askable = subst⁻¹ (λ (w : ℕ). Askable (a .packages .now) (a .c .s + a .c .t) (a .table .now) (a .c .answer) w) (c .before .before .before .before .before .before .work .given) (pre .0);
         few = few-of (familyAt (a .table .now) (a .c .answer)) (sym k ∙ q .0);
       },
       (pre .1 .0, (q .1, pre .1 .1)),
