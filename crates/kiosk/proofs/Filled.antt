@@ -103,7 +103,8 @@ module _ (s : List ℕ) (a : ℕ) (w : ℕ × ℕ × ℕ) where
     stored2 = getD-set-same s2 (a + 2) (w .2) 0 (omega (arith, length-set s1 (a + 1) (w .1), length-set s a (w .0)))
 
   beside : (j : ℕ) → (j < a) ⊎ (a + 2 < j) → getD (store s a w) j 0 ≡ getD s j 0
-  beside j h = getD-set-other s2 (a + 2) j (w .2) 0 (apart h 2 (omega arith)) ∙ getD-set-other s1 (a + 1) j (w .1) 0 (apart h 1 (omega arith)) ∙ getD-set-other s a j (w .0) 0 (λ q. apart h 0 (omega arith) (omega arith))
+  beside j h = getD-set-other s2 (a + 2) j (w .2) 0 (apart h 2 (omega arith)) ∙ getD-set-other s1 (a + 1) j (w .1) 0 (apart h 1 (omega arith))
+      ∙ getD-set-other s a j (w .0) 0 (λ q. apart h 0 (omega arith) (omega arith))
     where
       apart : (j < a) ⊎ (a + 2 < j) → (d : ℕ) → d ≤ 2 → j ≡ a + d → ⊥
       apart (inl l) d e q = omega arith
@@ -190,7 +191,11 @@ module _ (t : List ℕ) (long : length t ≡ 196603) (blank : (j : ℕ) → getD
     clear-at i = go (ltb i (length ns)) refl (ltb i 65534) refl
       where
         zeros : (length ns ≤ i) ⊎ (65534 ≤ i) → getD ns i none ≡ none → TripleAt s (3 * i + 1) (getD ns i none)
-        zeros h e = subst (λ (x : Node). TripleAt s (3 * i + 1) x) (sym e) (record { label = out i (3 * i + 1) refl h (3 * i + 1) (omega arith); lo = out i (3 * i + 1) refl h (3 * i + 1 + 1) (omega arith); hi = out i (3 * i + 1) refl h (3 * i + 1 + 2) (omega arith) })
+        zeros h e = subst (λ (x : Node). TripleAt s (3 * i + 1) x) (sym e) (record {
+          label = out i (3 * i + 1) refl h (3 * i + 1) (omega arith);
+          lo = out i (3 * i + 1) refl h (3 * i + 1 + 1) (omega arith);
+          hi = out i (3 * i + 1) refl h (3 * i + 1 + 2) (omega arith);
+        })
 
         go : (x : Bool) → ltb i (length ns) ≡ x → (y : Bool) → ltb i 65534 ≡ y → TripleAt s (3 * i + 1) (getD ns i none)
         go true e true f = p .put i (ltb-true i (length ns) e) (ltb-true i 65534 f)
