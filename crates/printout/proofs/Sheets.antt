@@ -1,5 +1,5 @@
 -- The program's text, part by part. Assumes nothing.
-use mathlib.Core.Path.{_≡_, refl, sym, ap, ap₂, _∙_, subst}
+use mathlib.Core.Path.{_≡_, refl, sym, ap, _∙_, subst}
 use mathlib.Core.List.{List, [], _∷_, _++_}
 use mathlib.Core.Logic.{⊎-elim}
 use Prim.Native.Nat.{ℕ, zero, suc, _+_, _≤_, _<_, min}
@@ -7,12 +7,11 @@ use native.Mathlib.Nat.{eq-zero-or-pos}
 use native.Mathlib.Numerals.{add-one}
 use native.Mathlib.Omega.{arith}
 use borrow.Author.Tests.{eq-eqb, ne-eqb, ltb-false}
-use lib.ListN.{length, take, drop, replicate, length-replicate}
-use lib.Seq.{take-at}
+use lib.ListN.{length, take, replicate, length-replicate}
 use Rattle.zdd.specs.Table.{Family}
 use Rattle.query.specs.Questions.{familyAt, nth, position, cheapest}
 use Rattle.statement.specs.Refusals.{firstOf, uncountable, coverRefusal}
-use Rattle.statement.specs.Postconditions.{CoverPost, written}
+use Rattle.statement.specs.Postconditions.{CoverPost}
 use Rattle.statement.specs.Examples.{allItems}
 use Rattle.statement.specs.Replies.{refused, gives, outcomeReply}
 use Rattle.statement.specs.declared.Report.{Report}
@@ -27,7 +26,7 @@ use Rattle.bids.proofs.Laws.{length-listed}
 use Rattle.printout.specs.Text.{head, timetableLine, cheapestLine, noneLine, refusedLine}
 use Rattle.printout.specs.Written.{Holds, Puts}
 use Rattle.printout.specs.Program.{unless, timetableLines, lastLine, sheet, answerText, blank, solved, printed, Askable}
-use Rattle.printout.proofs.Asking.{was-given, was-refused, cover-refused, cover-answered, askable}
+use Rattle.printout.proofs.Asking.{page-left, was-given, was-refused, cover-refused, cover-answered, askable}
 
 -- ---- a text from the start of the buffer
 
@@ -144,8 +143,8 @@ module _ {b : List ℕ} {r : Reading} {p c : List ℕ} (R : ReadPost b r zeros p
       record {
         few = omega (arith, en, k .few);
         small = omega (arith, es, et, k .items);
-        items = ap₂ take en (R .items ∙ ap (λ (i : ℕ). written i (packagesOf b) zeros) (q .0)) ∙ take-at (packagesOf b) (drop (length (packagesOf b)) zeros) (packages b) li;
-        costs = ap₂ take en (R .costs ∙ ap (λ (i : ℕ). written i (costsOf b) zeros) (q .0)) ∙ take-at (costsOf b) (drop (length (costsOf b)) zeros) (packages b) lk;
+        items = page-left (packagesOf b) zeros (en ∙ sym li) (q .0) (R .items);
+        costs = page-left (costsOf b) zeros (en ∙ sym lk) (q .0) (R .costs);
         same-long = lk ∙ sym li;
         text = rw (es, et) (unsaid _ z);
       }
