@@ -1,10 +1,7 @@
+use borrow.Author.Needs.{needs}
 use Rattle.bids.proofs.Shifts.{shift-small, school-alone, both-parts}
-use native.Mathlib.Omega.{arith}
 use Rattle.bids.proofs.items_of.Statement.{statement}
 use Rattle.bids.proofs.items_of.Tie as tie
-
-shl-school : tie.Need-shl-school
-shl-school c = omega arith
 
 returns : tie.Need-returns
 returns c =
@@ -31,4 +28,4 @@ returns-2 c =
     both-parts (a .j) (a .s) (a .slots) (p .0 .0) (p .0 .1) (p .1)
 
 pub items-of-spec : {M : Type 1} → statement M
-items-of-spec = tie.close (tie.spec shl-school returns shl-result add-result returns-2)
+items-of-spec = tie.close (tie.spec (λ c. search needs) returns shl-result add-result returns-2)

@@ -15,15 +15,9 @@ Inv-loop file s n wanted c₀ k₀ c k = (k ≤ n) × (c .at ≡ packageAt s k) 
 abbrev μ-loop : tie.MeasureT-loop
 μ-loop file s n wanted c₀ k₀ c k = n - k
 
-package-record-requires : tie.Need-package-record-requires Inv-loop μ-loop
-package-record-requires c κs = omega arith
-
 loop-holds : tie.Need-loop-holds Inv-loop μ-loop
 unfolding packageIn
 loop-holds c = (omega arith, omega arith, λ x p. first-zero _)
-
-package-record-requires-2 : tie.Need-package-record-requires-2 Inv-loop μ-loop
-package-record-requires-2 c κs = omega (arith, c .before .before .before .before .pre .0)
 
 returns : tie.Need-returns Inv-loop μ-loop
 unfolding packageIn
@@ -32,9 +26,6 @@ returns c =
     let p = here .before .package-record .ensures in
     sym (first-hit _ (args .n) (loop .k) (c .before .before .before .loop-test .taken) (loop .inv .2 (args .key .at) p)
     (same-package (loop .inv .1) (c .before .before .package-record2 .ensures) p (c .before .same-package .ensures) ∙ c .if1 .taken))
-
-loop-less : tie.Need-loop-less Inv-loop μ-loop
-loop-less c = omega arith
 
 loop-again : tie.Need-loop-again Inv-loop μ-loop
 unfolding packageIn
@@ -57,14 +48,14 @@ package-index-spec =
     (tie.spec
     Inv-loop
     μ-loop
-    package-record-requires
+    (λ c κs. search needs)
     (λ c. search needs)
     (λ c. search needs)
     loop-holds
-    package-record-requires-2
+    (λ c κs. search needs)
     (λ c κs. search needs)
     returns
     (λ c. search needs)
-    loop-less
+    (λ c. search needs)
     loop-again
     returns-2)

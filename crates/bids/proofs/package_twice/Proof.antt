@@ -18,24 +18,12 @@ abbrev μ-loop : tie.MeasureT-loop
 loop-holds : tie.Need-loop-holds Inv-loop μ-loop
 loop-holds c = (omega arith, omega arith, first-zero _)
 
-package-index-requires : tie.Need-package-index-requires Inv-loop μ-loop
-package-index-requires c κs = omega (arith, c .before .before .before .pre)
-
 returns : tie.Need-returns Inv-loop μ-loop
 unfolding packageTwice
 returns c =
     let loop = c .before .before .before .loop in let a = c .before .before .before .before .before .args in
     sym (some-hit _ (a .n) (loop .k) (c .before .before .loop-test .taken) (loop .inv .2)
     (among (packageIn (a .file .now) (a .s) (loop .k)) (loop .inv .1) (c .before .package-index .ensures) (c .if1 .taken)))
-
-package-record-requires : tie.Need-package-record-requires Inv-loop μ-loop
-package-record-requires c κs = omega (arith, c .before .before .before .before .before .pre)
-
-add-k : tie.Need-add-k Inv-loop μ-loop
-add-k c = omega arith
-
-loop-less : tie.Need-loop-less Inv-loop μ-loop
-loop-less c = omega arith
 
 loop-again : tie.Need-loop-again Inv-loop μ-loop
 loop-again c =
@@ -59,10 +47,10 @@ package-twice-spec =
     (λ c. search needs)
     (λ c. search needs)
     loop-holds
-    package-index-requires
+    (λ c κs. search needs)
     returns
-    package-record-requires
-    add-k
-    loop-less
+    (λ c κs. search needs)
+    (λ c. search needs)
+    (λ c. search needs)
     loop-again
     returns-2)

@@ -9,22 +9,10 @@ use borrow.Author.Needs.{needs}
 use Rattle.bids.proofs.record_refusal.Statement.{statement}
 use Rattle.bids.proofs.record_refusal.Tie as tie
 
-sub-end : tie.Need-sub-end
-sub-end c = omega (arith, c .before .pre .long)
-
-word32-requires : tie.Need-word32-requires
-word32-requires c κs = omega (arith, c .before .pre .long)
-
-check-requires : tie.Need-check-requires
-check-requires c κs = omega (arith, c .before .before .pre .long)
-
 returns : tie.Need-returns
 returns c =
     let b = c .before .before .before .before .before .args .file .now in
     sym (hit 23 _ (check-of b refl (c .before .before .check .ensures) (c .before .before .before .word32 .ensures .value) ∙ ap not (ne-eqb _ _ (c .if1 .taken))))
-
-school-twice-requires : tie.Need-school-twice-requires
-school-twice-requires c κs = omega (arith, c .before .before .before .before .before .pre .long)
 
 returns-2 : tie.Need-returns-2
 returns-2 c =
@@ -45,9 +33,6 @@ returns-3 c =
     (eq-eqb _ _ (c .before .before .before .before .if1 .left)) in
     let e2 = twice-of p (c .before .before .before .school-twice .ensures) ∙ c .before .before .if2 .left in
     sym (pass 23 _ e1 ∙ pass 25 _ e2 ∙ hit 26 _ (stray-of p (c .before .stray .ensures) ∙ c .if3 .taken))
-
-package-twice-requires : tie.Need-package-twice-requires
-package-twice-requires c κs = omega (arith, c .before .before .before .before .before .before .before .before .before .pre .long)
 
 returns-4 : tie.Need-returns-4
 returns-4 c =
@@ -74,15 +59,15 @@ pub record-refusal-spec : {M : Type 1} → statement M
 record-refusal-spec =
     tie.close
     (tie.spec
-    sub-end
-    word32-requires
-    check-requires
+    (λ c. search needs)
+    (λ c κs. search needs)
+    (λ c κs. search needs)
     (λ c. search needs)
     returns
-    school-twice-requires
+    (λ c κs. search needs)
     returns-2
     stray-requires
     returns-3
-    package-twice-requires
+    (λ c κs. search needs)
     returns-4
     returns-5)

@@ -14,15 +14,9 @@ Inv-loop file n wanted c₀ j₀ c j = (j ≤ n) × (c .at ≡ schoolAt j) × ((
 abbrev μ-loop : tie.MeasureT-loop
 μ-loop file n wanted c₀ j₀ c j = n - j
 
-school-record-requires : tie.Need-school-record-requires Inv-loop μ-loop
-school-record-requires c κs = omega arith
-
 loop-holds : tie.Need-loop-holds Inv-loop μ-loop
 unfolding schoolIn
 loop-holds c = (omega arith, omega arith, λ x p. first-zero _)
-
-school-record-requires-2 : tie.Need-school-record-requires-2 Inv-loop μ-loop
-school-record-requires-2 c κs = omega (arith, c .before .before .before .before .before .pre .0)
 
 returns : tie.Need-returns Inv-loop μ-loop
 unfolding schoolIn
@@ -31,9 +25,6 @@ returns c =
     let p = names (here .before .before .school-record .ensures) in
     sym (first-hit _ (args .n) (loop .j) (c .before .before .before .before .loop-test .taken) (loop .inv .2 (args .key .at) p)
     (same-school (loop .inv .1) (c .before .before .before .school-record2 .ensures) p (c .before .same-school .ensures) ∙ c .if1 .taken))
-
-loop-less : tie.Need-loop-less Inv-loop μ-loop
-loop-less c = omega arith
 
 loop-again : tie.Need-loop-again Inv-loop μ-loop
 unfolding schoolIn
@@ -56,12 +47,12 @@ school-index-spec =
     (tie.spec
     Inv-loop
     μ-loop
-    school-record-requires
+    (λ c κs. search needs)
     loop-holds
-    school-record-requires-2
+    (λ c κs. search needs)
     (λ c κs. search needs)
     returns
     (λ c. search needs)
-    loop-less
+    (λ c. search needs)
     loop-again
     returns-2)

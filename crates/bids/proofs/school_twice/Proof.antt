@@ -1,3 +1,4 @@
+use borrow.Author.Needs.{needs}
 use Rattle.bids.proofs.Laws.{first-zero, first-more, some-hit, some-none, among, not-among}
 use Rattle.bids.specs.Format.{schoolAt, schoolIn, schoolTwice}
 use Rattle.bids.specs.Ranges.{first}
@@ -17,24 +18,12 @@ abbrev μ-loop : tie.MeasureT-loop
 loop-holds : tie.Need-loop-holds Inv-loop μ-loop
 loop-holds c = (omega arith, omega arith, first-zero _)
 
-school-index-requires : tie.Need-school-index-requires Inv-loop μ-loop
-school-index-requires c κs = omega (arith, c .before .before .before .pre)
-
 returns : tie.Need-returns Inv-loop μ-loop
 unfolding schoolTwice
 returns c =
     let loop = c .before .before .before .loop in let a = c .before .before .before .before .before .args in
     sym (some-hit _ (a .s) (loop .j) (c .before .before .loop-test .taken) (loop .inv .2)
     (among (schoolIn (a .file .now) (loop .j)) (loop .inv .1) (c .before .school-index .ensures) (c .if1 .taken)))
-
-school-record-requires : tie.Need-school-record-requires Inv-loop μ-loop
-school-record-requires c κs = omega (arith, c .before .before .before .before .before .pre)
-
-add-j : tie.Need-add-j Inv-loop μ-loop
-add-j c = omega arith
-
-loop-less : tie.Need-loop-less Inv-loop μ-loop
-loop-less c = omega arith
 
 loop-again : tie.Need-loop-again Inv-loop μ-loop
 loop-again c =
@@ -56,10 +45,10 @@ school-twice-spec =
     Inv-loop
     μ-loop
     loop-holds
-    school-index-requires
+    (λ c κs. search needs)
     returns
-    school-record-requires
-    add-j
-    loop-less
+    (λ c κs. search needs)
+    (λ c. search needs)
+    (λ c. search needs)
     loop-again
     returns-2)

@@ -18,9 +18,6 @@ abbrev μ-loop : tie.MeasureT-loop
 loop-holds : tie.Need-loop-holds Inv-loop μ-loop
 loop-holds c = (omega arith, omega arith, first-zero _)
 
-school-index-requires : tie.Need-school-index-requires Inv-loop μ-loop
-school-index-requires c κs = omega (arith, c .before .before .before .pre .0)
-
 returns : tie.Need-returns Inv-loop μ-loop
 unfolding stray
 returns c =
@@ -28,12 +25,6 @@ returns c =
     let a = c .before .before .before .before .before .args in
     sym (some-hit _ (a .n) (loop .k) (c .before .before .loop-test .taken) (loop .inv .2)
     (unlisted (a .file .now) (a .s) (loop .k) (loop .c .at) (loop .inv .1) (a .t) (c .before .school-index .ensures) (c .if1 .taken)))
-
-package-record-requires : tie.Need-package-record-requires Inv-loop μ-loop
-package-record-requires c κs = omega (arith, c .before .before .before .before .before .pre .0)
-
-below-requires : tie.Need-below-requires Inv-loop μ-loop
-below-requires c κs = omega (arith, c .before .before .before .before .before .before .pre .1)
 
 returns-2 : tie.Need-returns-2 Inv-loop μ-loop
 unfolding stray
@@ -43,12 +34,6 @@ returns-2 c =
     sym (some-hit _ (a .n) (loop .k) (c .before .before .before .before .before .loop-test .taken) (loop .inv .2)
     (outside (a .file .now) (a .s) (loop .k) (loop .c .at) (loop .inv .1) (a .t) (c .before .before .before .before .school-index .ensures) (c .before .before .before .if1 .left)
     (c .before .before .package-record .ensures .slots) (c .before .below .ensures) ∙ c .if2 .taken))
-
-add-k : tie.Need-add-k Inv-loop μ-loop
-add-k c = omega arith
-
-loop-less : tie.Need-loop-less Inv-loop μ-loop
-loop-less c = omega arith
 
 loop-again : tie.Need-loop-again Inv-loop μ-loop
 loop-again c =
@@ -74,12 +59,12 @@ stray-spec =
     (λ c. search needs)
     (λ c. search needs)
     loop-holds
-    school-index-requires
+    (λ c κs. search needs)
     returns
-    package-record-requires
-    below-requires
+    (λ c κs. search needs)
+    (λ c κs. search needs)
     returns-2
-    add-k
-    loop-less
+    (λ c. search needs)
+    (λ c. search needs)
     loop-again
     returns-3)
