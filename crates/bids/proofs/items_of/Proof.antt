@@ -15,12 +15,6 @@ shl-result c =
     let p = c .before .pre in
     shift-small (a .j) (a .s) (a .slots) (p .0 .0) (p .0 .1) (p .1) (c .if1 .left)
 
-add-result : tie.Need-add-result
-add-result c =
-    let a = c .before .args in
-    let p = c .before .pre in
-    record { fits = rw (both-parts (a .j) (a .s) (a .slots) (p .0 .0) (p .0 .1) (p .1)) (p .1) }
-
 returns-2 : tie.Need-returns-2
 returns-2 c =
     let a = c .before .args in
@@ -28,4 +22,5 @@ returns-2 c =
     both-parts (a .j) (a .s) (a .slots) (p .0 .0) (p .0 .1) (p .1)
 
 pub items-of-spec : {M : Type 1} → statement M
-items-of-spec = tie.close (tie.spec (λ c. search needs) returns shl-result add-result returns-2)
+items-of-spec = tie.close (tie.spec (λ c. search needs) returns shl-result
+    (λ c. search needs) returns-2)

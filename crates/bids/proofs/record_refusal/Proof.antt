@@ -1,7 +1,6 @@
 use Rattle.bids.proofs.Fit.{fit}
 use Rattle.bids.proofs.Refused.{check-of, twice-of, stray-of, package-twice-of}
 use Rattle.statement.proofs.FirstOf.{pass, hit, none}
-use native.Mathlib.Omega.{arith}
 use borrow.Author.Tests.{eq-eqb, ne-eqb}
 use mathlib.Core.Bool.{not}
 use mathlib.Core.Path.{refl, sym, ap, _∙_}
@@ -21,9 +20,6 @@ returns-2 c =
     let e1 = check-of b refl (c .before .before .before .before .check .ensures) (c .before .before .before .before .before .word32 .ensures .value) ∙ ap not
     (eq-eqb _ _ (c .before .before .if1 .left)) in
     sym (pass 23 _ e1 ∙ hit 25 _ (twice-of p (c .before .school-twice .ensures) ∙ c .if2 .taken))
-
-stray-requires : tie.Need-stray-requires
-stray-requires c κs = (omega (arith, c .before .before .before .before .before .before .before .pre .long), omega (arith, c .before .before .before .before .before .before .before .pre .items))
 
 returns-3 : tie.Need-returns-3
 returns-3 c =
@@ -66,7 +62,7 @@ record-refusal-spec =
     returns
     (λ c κs. search needs)
     returns-2
-    stray-requires
+    (λ c κs. search needs)
     returns-3
     (λ c κs. search needs)
     returns-4
