@@ -22,5 +22,4 @@ returns-2 c =
     both-parts (a .j) (a .s) (a .slots) (p .0 .0) (p .0 .1) (p .1)
 
 pub items-of-spec : {M : Type 1} → statement M
-items-of-spec = tie.close (tie.spec (λ c. search needs) returns shl-result
-    (λ c. search needs) returns-2)
+items-of-spec = tie.close (tie.spec (λ c. search needs) returns shl-result (λ c. search needs) returns-2)
