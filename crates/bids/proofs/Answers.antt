@@ -9,10 +9,12 @@ use lib.Dec.{ltb}
 use lib.ListN.{length}
 use Rattle.statement.specs.Postconditions.{written}
 use Rattle.statement.proofs.FirstOf.{pass, hit, none}
+use Rattle.statement.proofs.TestLaws.{reply-refused}
 use Rattle.base.proofs.Bools.{or-left, or-right}
 use Rattle.bids.specs.Ranges.{listed}
-use Rattle.bids.specs.Format.{schools, packages, itemsOf, costOf, refusal, packagesOf, costsOf}
-use Rattle.bids.specs.Contract.{readRefusal}
+use Rattle.bids.specs.Format.{schools, slots, packages, itemsOf, costOf, refusal, packagesOf, costsOf}
+use Rattle.bids.specs.Contract.{readRefusal, ReadPost}
+use Rattle.bids.specs.declared.Reading.the-variants.{Refused}
 use Rattle.bids.proofs.Laws.{over, over-room, length-listed}
 
 -- ---- the refusal
@@ -37,9 +39,17 @@ module _ (b : List ℕ) (p c : ℕ) where
 
 -- ---- the buffers
 
-pub unwritten : {k : ℕ} (n : ℕ) (vs l : List ℕ) → k ≡ n → (n ≡ 0 → ⊥) → l ≡ written k vs l
+unwritten : {k : ℕ} (n : ℕ) (vs l : List ℕ) → k ≡ n → (n ≡ 0 → ⊥) → l ≡ written k vs l
 unwritten zero vs l e f = absurd (f refl)
 unwritten (suc n) vs l e f = sym (ap (λ (i : ℕ). written i vs l) e)
+
+-- what a refusal leaves
+pub read-refused : {b p c : List ℕ} {r : ℕ} → readRefusal b (length p) (length c) ≡ r → (r ≡ 0 → ⊥) → ReadPost b (Refused r) p p c c
+read-refused {b} {p} {c} {r} e f = record {
+  answer = reply-refused r (schools b, (slots b, packages b)) e f;
+  items = unwritten r (packagesOf b) p e f;
+  costs = unwritten r (costsOf b) c e f;
+}
 
 -- all of the list was stored, one after the other
 pub stored : (f : ℕ → ℕ) (l : List ℕ) {m : List ℕ} (n : ℕ) → m ≡ over (listed f n) l → n ≤ length l → m ≡ written 0 (listed f n) l

@@ -1,18 +1,30 @@
 -- Files and what the definitions say of them, by computation: document 01's example, one file for each refusal, and some that are accepted.
 -- Assumes nothing.
 use mathlib.Core.Path.{_≡_, refl}
-use mathlib.Core.List.{List, [], _∷_, map}
+use mathlib.Core.List.{List, [], _∷_, _++_, map}
 use Prim.Native.Nat.{ℕ}
+use lib.ListN.{take}
 use Rattle.itemset.specs.Items.{belowb}
 use Rattle.statement.specs.Refusals.{firstOf}
 use Rattle.statement.specs.Refusals as engine
 use Rattle.bids.specs.Bytes.{word16At, word32At, word64At, fnvFrom, fnv}
 use Rattle.bids.specs.Ranges.{first, some, listed}
-use Rattle.bids.specs.Format.{markb, sameSchool, samePackage, schoolIn, packageIn, schoolOf, slotsOf, costOf, itemsOf, packagesOf, costsOf, cut, unmarked, otherVersion, oversize, wrongLength, wrongCheck, schoolTwice, strayb, stray, packageTwice, unfit, refusal}
+use Rattle.bids.specs.Format.{markb, sameSchool, samePackage, schoolIn, packageIn, schoolOf, slotsOf, costOf, itemsOf, packagesOf, costsOf, cut}
+use Rattle.bids.specs.Format.{unmarked, otherVersion, oversize, wrongLength, wrongCheck, schoolTwice, strayb, stray, packageTwice, unfit, refusal}
 
 -- S 2, T 2, schools (1,4), (2,4); (1,4) slot 0 cost 3; (1,4) slot 1 cost 1; (2,4) slot 1 cost 2; (2,4) slot 0 cost 5; (1,4) both cost 2; (2,4) none cost 9
 abbrev example : List ℕ
-example = 80 ∷ 83 ∷ 66 ∷ 1 ∷ 0 ∷ 2 ∷ 2 ∷ 6 ∷ 0 ∷ 1 ∷ 4 ∷ 2 ∷ 4 ∷ 1 ∷ 4 ∷ 1 ∷ 0 ∷ 0 ∷ 0 ∷ 0 ∷ 0 ∷ 0 ∷ 0 ∷ 3 ∷ 0 ∷ 1 ∷ 4 ∷ 2 ∷ 0 ∷ 0 ∷ 0 ∷ 0 ∷ 0 ∷ 0 ∷ 0 ∷ 1 ∷ 0 ∷ 2 ∷ 4 ∷ 2 ∷ 0 ∷ 0 ∷ 0 ∷ 0 ∷ 0 ∷ 0 ∷ 0 ∷ 2 ∷ 0 ∷ 2 ∷ 4 ∷ 1 ∷ 0 ∷ 0 ∷ 0 ∷ 0 ∷ 0 ∷ 0 ∷ 0 ∷ 5 ∷ 0 ∷ 1 ∷ 4 ∷ 3 ∷ 0 ∷ 0 ∷ 0 ∷ 0 ∷ 0 ∷ 0 ∷ 0 ∷ 2 ∷ 0 ∷ 2 ∷ 4 ∷ 0 ∷ 0 ∷ 0 ∷ 0 ∷ 0 ∷ 0 ∷ 0 ∷ 0 ∷ 9 ∷ 0 ∷ 32 ∷ 200 ∷ 101 ∷ 61 ∷ []
+example =
+    80 ∷ 83 ∷ 66 ∷ 1 ∷ 0 ∷ 2 ∷ 2 ∷ 6 ∷ 0 ∷
+    1 ∷ 4 ∷ 2 ∷ 4 ∷
+    1 ∷ 4 ∷ 1 ∷ 0 ∷ 0 ∷ 0 ∷ 0 ∷ 0 ∷ 0 ∷ 0 ∷ 3 ∷ 0 ∷
+    1 ∷ 4 ∷ 2 ∷ 0 ∷ 0 ∷ 0 ∷ 0 ∷ 0 ∷ 0 ∷ 0 ∷ 1 ∷ 0 ∷
+    2 ∷ 4 ∷ 2 ∷ 0 ∷ 0 ∷ 0 ∷ 0 ∷ 0 ∷ 0 ∷ 0 ∷ 2 ∷ 0 ∷
+    2 ∷ 4 ∷ 1 ∷ 0 ∷ 0 ∷ 0 ∷ 0 ∷ 0 ∷ 0 ∷ 0 ∷ 5 ∷ 0 ∷
+    1 ∷ 4 ∷ 3 ∷ 0 ∷ 0 ∷ 0 ∷ 0 ∷ 0 ∷ 0 ∷ 0 ∷ 2 ∷ 0 ∷
+    2 ∷ 4 ∷ 0 ∷ 0 ∷ 0 ∷ 0 ∷ 0 ∷ 0 ∷ 0 ∷ 0 ∷ 9 ∷ 0 ∷
+    32 ∷ 200 ∷ 101 ∷ 61 ∷
+    []
 
 abbrev files : List (List ℕ)
 files =
@@ -27,9 +39,9 @@ files =
     -- S + T is 65
     (80 ∷ 83 ∷ 66 ∷ 1 ∷ 0 ∷ 2 ∷ 63 ∷ 1 ∷ 0 ∷ 1 ∷ 4 ∷ 2 ∷ 4 ∷ 1 ∷ 4 ∷ 1 ∷ 0 ∷ 0 ∷ 0 ∷ 0 ∷ 0 ∷ 0 ∷ 0 ∷ 3 ∷ 0 ∷ 65 ∷ 102 ∷ 215 ∷ 255 ∷ []) ∷
     -- one byte short
-    (80 ∷ 83 ∷ 66 ∷ 1 ∷ 0 ∷ 2 ∷ 2 ∷ 6 ∷ 0 ∷ 1 ∷ 4 ∷ 2 ∷ 4 ∷ 1 ∷ 4 ∷ 1 ∷ 0 ∷ 0 ∷ 0 ∷ 0 ∷ 0 ∷ 0 ∷ 0 ∷ 3 ∷ 0 ∷ 1 ∷ 4 ∷ 2 ∷ 0 ∷ 0 ∷ 0 ∷ 0 ∷ 0 ∷ 0 ∷ 0 ∷ 1 ∷ 0 ∷ 2 ∷ 4 ∷ 2 ∷ 0 ∷ 0 ∷ 0 ∷ 0 ∷ 0 ∷ 0 ∷ 0 ∷ 2 ∷ 0 ∷ 2 ∷ 4 ∷ 1 ∷ 0 ∷ 0 ∷ 0 ∷ 0 ∷ 0 ∷ 0 ∷ 0 ∷ 5 ∷ 0 ∷ 1 ∷ 4 ∷ 3 ∷ 0 ∷ 0 ∷ 0 ∷ 0 ∷ 0 ∷ 0 ∷ 0 ∷ 2 ∷ 0 ∷ 2 ∷ 4 ∷ 0 ∷ 0 ∷ 0 ∷ 0 ∷ 0 ∷ 0 ∷ 0 ∷ 0 ∷ 9 ∷ 0 ∷ 32 ∷ 200 ∷ 101 ∷ []) ∷
+    take 88 example ∷
     -- one byte more
-    (80 ∷ 83 ∷ 66 ∷ 1 ∷ 0 ∷ 2 ∷ 2 ∷ 6 ∷ 0 ∷ 1 ∷ 4 ∷ 2 ∷ 4 ∷ 1 ∷ 4 ∷ 1 ∷ 0 ∷ 0 ∷ 0 ∷ 0 ∷ 0 ∷ 0 ∷ 0 ∷ 3 ∷ 0 ∷ 1 ∷ 4 ∷ 2 ∷ 0 ∷ 0 ∷ 0 ∷ 0 ∷ 0 ∷ 0 ∷ 0 ∷ 1 ∷ 0 ∷ 2 ∷ 4 ∷ 2 ∷ 0 ∷ 0 ∷ 0 ∷ 0 ∷ 0 ∷ 0 ∷ 0 ∷ 2 ∷ 0 ∷ 2 ∷ 4 ∷ 1 ∷ 0 ∷ 0 ∷ 0 ∷ 0 ∷ 0 ∷ 0 ∷ 0 ∷ 5 ∷ 0 ∷ 1 ∷ 4 ∷ 3 ∷ 0 ∷ 0 ∷ 0 ∷ 0 ∷ 0 ∷ 0 ∷ 0 ∷ 2 ∷ 0 ∷ 2 ∷ 4 ∷ 0 ∷ 0 ∷ 0 ∷ 0 ∷ 0 ∷ 0 ∷ 0 ∷ 0 ∷ 9 ∷ 0 ∷ 32 ∷ 200 ∷ 101 ∷ 61 ∷ 0 ∷ []) ∷
+    (example ++ (0 ∷ [])) ∷
     -- another check
     (80 ∷ 83 ∷ 66 ∷ 1 ∷ 0 ∷ 2 ∷ 2 ∷ 1 ∷ 0 ∷ 1 ∷ 4 ∷ 2 ∷ 4 ∷ 1 ∷ 4 ∷ 1 ∷ 0 ∷ 0 ∷ 0 ∷ 0 ∷ 0 ∷ 0 ∷ 0 ∷ 3 ∷ 0 ∷ 70 ∷ 154 ∷ 211 ∷ 199 ∷ []) ∷
     -- a school twice
@@ -49,7 +61,9 @@ files =
     []
 
 refusals : map refusal files ≡ (0 ∷ 20 ∷ 21 ∷ 22 ∷ 24 ∷ 20 ∷ 20 ∷ 23 ∷ 25 ∷ 26 ∷ 26 ∷ 27 ∷ 0 ∷ 0 ∷ 0 ∷ [])
-unfolding belowb firstOf engine.oversize engine.stray word16At word32At word64At fnvFrom fnv first some listed markb sameSchool samePackage schoolIn packageIn schoolOf slotsOf costOf itemsOf packagesOf costsOf cut unmarked otherVersion oversize wrongLength wrongCheck schoolTwice strayb stray packageTwice unfit refusal
+unfolding belowb firstOf engine.oversize engine.stray word16At word32At word64At fnvFrom fnv first some listed
+    markb sameSchool samePackage schoolIn packageIn schoolOf slotsOf costOf itemsOf packagesOf costsOf
+    cut unmarked otherVersion oversize wrongLength wrongCheck schoolTwice strayb stray packageTwice unfit refusal
 refusals = refl
 
 example-read : (packagesOf example ≡ (5 ∷ 9 ∷ 10 ∷ 6 ∷ 13 ∷ 2 ∷ [])) × (costsOf example ≡ (3 ∷ 1 ∷ 2 ∷ 5 ∷ 2 ∷ 9 ∷ []))

@@ -17,7 +17,7 @@ use Rattle.itemset.proofs.Laws.{below-lt}
 use Rattle.statement.specs.Refusals as engine
 use Rattle.bids.specs.Ranges.{listed}
 use Rattle.bids.specs.Format.{schools, slots, packages, strayb, stray, schoolOf, slotsOf, itemsOf, unfit, refusal, packagesOf}
-use Rattle.bids.specs.Contract.{Sized, Readable}
+use Rattle.bids.specs.Contract.{Sized, Fillable}
 use Rattle.bids.proofs.Laws.{none-some, length-listed}
 use Rattle.bids.proofs.Refused.{neither, accepted-sized, accepted-listed}
 
@@ -49,7 +49,8 @@ module _ (b : List ℕ) (listed-all : stray b (schools b) (slots b) (packages b)
   kept : (k : ℕ) → k < packages b → (schoolOf b (schools b) k < schools b) × (slotsOf b (schools b) k < 2 ^ slots b)
   unfolding stray strayb
   kept k q =
-      let e = neither (not (ltb (schoolOf b (schools b) k) (schools b))) (not (belowb (slotsOf b (schools b) k) (slots b))) (none-some (λ i. strayb b (schools b) (slots b) i) (packages b) k listed-all q) in (
+      let e = neither (not (ltb (schoolOf b (schools b) k) (schools b))) (not (belowb (slotsOf b (schools b) k) (slots b)))
+      (none-some (λ i. strayb b (schools b) (slots b) i) (packages b) k listed-all q) in (
         ltb-true (schoolOf b (schools b) k) (schools b) (not-false (ltb (schoolOf b (schools b) k) (schools b)) (e .0)),
         below-lt (slotsOf b (schools b) k) (slots b) (not-false (belowb (slotsOf b (schools b) k) (slots b)) (e .1)),
       )
@@ -80,8 +81,8 @@ module _ (b : List ℕ) (listed-all : stray b (schools b) (slots b) (packages b)
       )
 
 -- what writing the packages asks
-pub readable : (b : List ℕ) {s n : ℕ} → refusal b ≡ 0 → s ≡ schools b → n ≡ packages b → Readable b s n
-readable b z e f =
+pub fillable : (b : List ℕ) {s n : ℕ} → refusal b ≡ 0 → s ≡ schools b → n ≡ packages b → Fillable b s n
+fillable b z e f =
     let p = accepted-sized b z refl refl refl in
     let a = accepted-listed b z in
     rw (e, f) (record {

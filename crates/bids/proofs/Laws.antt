@@ -97,18 +97,26 @@ module _ (f : ℕ → Bool) where
   unfolding some
   some-hit n i p e g = lt-ltb (first f n) n (omega (arith, first-hit n i p e g))
 
-  pub some-none : (n : ℕ) → first f n ≡ n → some f n ≡ false
+  pub some-none : (n i : ℕ) → i ≡ n → first f i ≡ i → some f n ≡ false
   unfolding some
-  some-none n e = le-ltb (first f n) n (omega (arith, e))
+  some-none n i q e = le-ltb (first f n) n (omega (arith, rw q at e))
 
   pub none-some : (n i : ℕ) → some f n ≡ false → i < n → f i ≡ false
   unfolding some
   none-some n i e p = first-none n i p (omega (arith, ltb-false (first f n) n e, first-le n))
 
+-- the test whether the record at a place is among the first i, by what g said of it where it was read
+module _ (g : ℕ → ℕ) {at place r i : ℕ} (e : at ≡ place) (f : r ≡ g at) where
+  pub among : r < i → ltb (g place) i ≡ true
+  among h = rw (← e, ← f) (lt-ltb r i h)
+
+  pub not-among : i ≤ r → ltb (g place) i ≡ false
+  not-among h = rw (← e, ← f) (le-ltb r i h)
+
 -- ---- a list by its places, and stored
 
 -- l with vs stored at its start, one after the other
-abbrev pub over : List ℕ → List ℕ → List ℕ
+unfoldable pub over : List ℕ → List ℕ → List ℕ
 over vs l = sets l 0 vs
 
 sets-more : (vs l : List ℕ) (i v : ℕ) → sets l i (vs ++ (v ∷ [])) ≡ set (sets l i vs) (i + length vs) v
@@ -116,9 +124,11 @@ sets-more [] l i v = rw add-zero
 sets-more (w ∷ vs) l i v = sets-more vs (set l i w) (suc i) v ∙ ap (λ (k : ℕ). set (sets (set l i w) (suc i) vs) k v) (omega arith)
 
 pub over-long : (vs l : List ℕ) {m : List ℕ} → m ≡ over vs l → length m ≡ length l
+unfolding over
 over-long vs l e = ap length e ∙ length-sets l 0 vs
 
 pub over-room : (vs l : List ℕ) → length vs ≤ length l → over vs l ≡ vs ++ drop (length vs) l
+unfolding over
 over-room vs l p = sets-eq vs l 0 (omega arith) ∙ rw zero-add
 
 module _ (f : ℕ → ℕ) where
@@ -128,11 +138,11 @@ module _ (f : ℕ → ℕ) where
   length-listed (suc n) = simp (length-append, length-listed n) (omega arith)
 
   pub over-zero : (l : List ℕ) → l ≡ over (listed f 0) l
-  unfolding listed
+  unfolding over listed
   over-zero l = refl
 
   -- one store more
   pub over-more : (l : List ℕ) (n v : ℕ) → v ≡ f n → set (over (listed f n) l) n v ≡ over (listed f (n + 1)) l
-  unfolding listed
+  unfolding over listed
   over-more l n v e =
       rw (add-one, e, sets-more (listed f n) l 0 (f n)) (ap (λ (k : ℕ). set (sets l 0 (listed f n)) k (f n)) (omega (arith, length-listed n)))

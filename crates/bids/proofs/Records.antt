@@ -22,15 +22,15 @@ pub record Names (b : List ℕ) (x : ℕ) (w : School) : Type 0 where
 pub names : {b : List ℕ} {x : ℕ} {r : SchoolRecord} → SchoolPost b x r → Names b x (r .school)
 names p = record { site = p .site; number = p .number }
 
-pub same-school : (b : List ℕ) {at y x : ℕ} {s : SchoolRecord} {w : School} {r : Bool} → at ≡ y → SchoolPost b at s → Names b x w
+pub same-school : {b : List ℕ} {at y x : ℕ} {s : SchoolRecord} {w : School} {r : Bool} → at ≡ y → SchoolPost b at s → Names b x w
     → r ≡ (eqb (s .school .site) (w .site) && eqb (s .school .number) (w .number)) → sameSchool b y x ≡ r
 unfolding sameSchool
-same-school b e p q f = rw (← e, ← p .site, ← p .number, ← q .site, ← q .number) (sym f)
+same-school e p q f = rw (← e, ← p .site, ← p .number, ← q .site, ← q .number) (sym f)
 
-pub same-package : (b : List ℕ) {at y x : ℕ} {s w : PackageRecord} {r : Bool} → at ≡ y → PackagePost b at s → PackagePost b x w
+pub same-package : {b : List ℕ} {at y x : ℕ} {s w : PackageRecord} {r : Bool} → at ≡ y → PackagePost b at s → PackagePost b x w
     → r ≡ ((eqb (s .school .site) (w .school .site) && eqb (s .school .number) (w .school .number)) && eqb (s .slots) (w .slots)) → samePackage b y x ≡ r
 unfolding sameSchool samePackage
-same-package b e p q f = rw (← e, ← p .site, ← p .number, ← p .slots, ← q .site, ← q .number, ← q .slots) (sym f)
+same-package e p q f = rw (← e, ← p .site, ← p .number, ← p .slots, ← q .site, ← q .number, ← q .slots) (sym f)
 
 -- a field whose place is known
 pub field-at : (g : ℕ → ℕ) {at at′ w v n : ℕ} → at ≡ at′ → FieldPost (g at) at w v n → FieldPost (g at′) at′ w v n

@@ -11,7 +11,8 @@ use Rattle.base.proofs.Bools.{never}
 use Rattle.statement.specs.Refusals.{firstOf}
 use Rattle.statement.proofs.FirstOf.{pass, hit, passed, front}
 use Rattle.bids.specs.Bytes.{word32At, fnv}
-use Rattle.bids.specs.Format.{unmarked, otherVersion, version, schools, slots, packages, cut, oversize, wrongLength, wrongCheck, schoolTwice, stray, packageTwice, unfit, headerTests, recordTests, refusal}
+use Rattle.bids.specs.Format.{unmarked, otherVersion, version, schools, slots, packages, cut, oversize, wrongLength, wrongCheck, schoolTwice}
+use Rattle.bids.specs.Format.{stray, packageTwice, unfit, headerTests, recordTests, refusal}
 use Rattle.bids.specs.Contract.{HeaderPost, Sized}
 use Rattle.bids.specs.declared.Header.{Header}
 
@@ -35,13 +36,13 @@ module _ (b : List ℕ) where
   by-header p e f = e ∙ sym (not-cut p ∙ front (headerTests b) (recordTests b) (λ z. f (e ∙ z)))
 
   -- the tests of a header that it passes
-  pub record Passed : Type 0 where
+  pub record HeaderPassed : Type 0 where
     pub marked : unmarked b ≡ false
     pub version : otherVersion b ≡ false
     pub sized : oversize b ≡ false
     pub long : wrongLength b ≡ false
 
-  pub header-passed : (ts : List (Bool × ℕ)) → firstOf (headerTests b ++ ts) ≡ 0 → Passed × (firstOf ts ≡ 0)
+  pub header-passed : (ts : List (Bool × ℕ)) → firstOf (headerTests b ++ ts) ≡ 0 → HeaderPassed × (firstOf ts ≡ 0)
   header-passed ts z =
       let p1 = passed (unmarked b) 20 _ z in
       let p2 = passed (otherVersion b) 21 _ (p1 .1) in
@@ -66,7 +67,7 @@ module _ (b : List ℕ) where
   unfolding wrongLength
   whole-length e = eqb-true (length b) (13 + 2 * schools b + 12 * packages b) (not-false (eqb (length b) (13 + 2 * schools b + 12 * packages b)) e)
 
-  pub sized : {s t n : ℕ} → s ≡ schools b → t ≡ slots b → n ≡ packages b → Passed → Sized b s t n
+  pub sized : {s t n : ℕ} → s ≡ schools b → t ≡ slots b → n ≡ packages b → HeaderPassed → Sized b s t n
   sized e f g p = rw (e, f, g) (record {
     long = whole-length (p .long);
     items = small-size (p .sized) .0;
@@ -74,54 +75,54 @@ module _ (b : List ℕ) where
     counts = (refl, (refl, refl));
   })
 
-  module _ (h : Header) (p : HeaderPost b h) where
-    pub mark-test : unmarked b ≡ not (h .marked)
-    unfolding unmarked
-    mark-test = rw (p .marked)
+module _ {b : List ℕ} {h : Header} (p : HeaderPost b h) where
+  pub mark-test : unmarked b ≡ not (h .marked)
+  unfolding unmarked
+  mark-test = rw (p .marked)
 
-    pub other-version : (h .version ≡ 1 → ⊥) → otherVersion b ≡ true
-    unfolding otherVersion
-    other-version f = rw (ne-eqb (version b) 1 (λ e. f (p .version ∙ e)))
+  pub other-version : (h .version ≡ 1 → ⊥) → otherVersion b ≡ true
+  unfolding otherVersion
+  other-version f = rw (ne-eqb (version b) 1 (λ e. f (p .version ∙ e)))
 
-    pub same-version : h .version ≡ 1 → otherVersion b ≡ false
-    unfolding otherVersion
-    same-version e = rw (eq-eqb (version b) 1 (sym (p .version) ∙ e))
+  pub same-version : h .version ≡ 1 → otherVersion b ≡ false
+  unfolding otherVersion
+  same-version e = rw (eq-eqb (version b) 1 (sym (p .version) ∙ e))
 
-    pub many-items : 64 < h .schools + h .slots → oversize b ≡ true
-    unfolding oversize
-    many-items q = rw (lt-ltb 64 (schools b + slots b) (omega (arith, p .schools, p .slots)))
+  pub many-items : 64 < h .schools + h .slots → oversize b ≡ true
+  unfolding oversize
+  many-items q = rw (lt-ltb 64 (schools b + slots b) (omega (arith, p .schools, p .slots)))
 
-    pub many-packages : h .schools + h .slots ≤ 64 → 512 < h .packages → oversize b ≡ true
-    unfolding oversize
-    many-packages q r = rw (le-ltb 64 (schools b + slots b) (omega (arith, p .schools, p .slots)), lt-ltb 512 (packages b) (omega (arith, p .packages)))
+  pub many-packages : h .schools + h .slots ≤ 64 → 512 < h .packages → oversize b ≡ true
+  unfolding oversize
+  many-packages q r = rw (le-ltb 64 (schools b + slots b) (omega (arith, p .schools, p .slots)), lt-ltb 512 (packages b) (omega (arith, p .packages)))
 
-    pub few : h .schools + h .slots ≤ 64 → h .packages ≤ 512 → oversize b ≡ false
-    unfolding oversize
-    few q r = rw (le-ltb 64 (schools b + slots b) (omega (arith, p .schools, p .slots)), le-ltb 512 (packages b) (omega (arith, p .packages)))
+  pub few : h .schools + h .slots ≤ 64 → h .packages ≤ 512 → oversize b ≡ false
+  unfolding oversize
+  few q r = rw (le-ltb 64 (schools b + slots b) (omega (arith, p .schools, p .slots)), le-ltb 512 (packages b) (omega (arith, p .packages)))
 
-    pub other-length : (length b ≡ 13 + 2 * h .schools + 12 * h .packages → ⊥) → wrongLength b ≡ true
-    unfolding wrongLength
-    other-length f = rw (ne-eqb (length b) (13 + 2 * schools b + 12 * packages b) (λ e. f (omega (arith, p .schools, p .packages))))
+  pub other-length : (length b ≡ 13 + 2 * h .schools + 12 * h .packages → ⊥) → wrongLength b ≡ true
+  unfolding wrongLength
+  other-length f = rw (ne-eqb (length b) (13 + 2 * schools b + 12 * packages b) (λ e. f (omega (arith, p .schools, p .packages))))
 
-    pub same-length : length b ≡ 13 + 2 * h .schools + 12 * h .packages → wrongLength b ≡ false
-    unfolding wrongLength
-    same-length e = rw (eq-eqb (length b) (13 + 2 * schools b + 12 * packages b) (omega (arith, p .schools, p .packages)))
+  pub same-length : length b ≡ 13 + 2 * h .schools + 12 * h .packages → wrongLength b ≡ false
+  unfolding wrongLength
+  same-length e = rw (eq-eqb (length b) (13 + 2 * schools b + 12 * packages b) (omega (arith, p .schools, p .packages)))
 
-  -- ---- the tests of the check and the records
+-- ---- the tests of the check and the records
 
-  pub check-of : {x y n : ℕ} → n ≡ length b - 4 → x ≡ fnv (take n b) → y ≡ word32At b n → wrongCheck b ≡ not (eqb x y)
-  unfolding wrongCheck
-  check-of e f g = rw (f, g, e)
+pub check-of : (b : List ℕ) {x y n : ℕ} → n ≡ length b - 4 → x ≡ fnv (take n b) → y ≡ word32At b n → wrongCheck b ≡ not (eqb x y)
+unfolding wrongCheck
+check-of b e f g = rw (f, g, e)
 
-  module _ {s t n : ℕ} (p : Sized b s t n) where
-    pub twice-of : {r : Bool} → r ≡ schoolTwice b s → schoolTwice b (schools b) ≡ r
-    twice-of e = sym (rw (p .counts .0) at e)
+module _ {b : List ℕ} {s t n : ℕ} (p : Sized b s t n) where
+  pub twice-of : {r : Bool} → r ≡ schoolTwice b s → schoolTwice b (schools b) ≡ r
+  twice-of e = sym (rw (p .counts .0) at e)
 
-    pub stray-of : {r : Bool} → r ≡ stray b s t n → stray b (schools b) (slots b) (packages b) ≡ r
-    stray-of e = sym (rw (p .counts .0, p .counts .1 .0, p .counts .1 .1) at e)
+  pub stray-of : {r : Bool} → r ≡ stray b s t n → stray b (schools b) (slots b) (packages b) ≡ r
+  stray-of e = sym (rw (p .counts .0, p .counts .1 .0, p .counts .1 .1) at e)
 
-    pub package-twice-of : {r : Bool} → r ≡ packageTwice b s n → packageTwice b (schools b) (packages b) ≡ r
-    package-twice-of e = sym (rw (p .counts .0, p .counts .1 .1) at e)
+  pub package-twice-of : {r : Bool} → r ≡ packageTwice b s n → packageTwice b (schools b) (packages b) ≡ r
+  package-twice-of e = sym (rw (p .counts .0, p .counts .1 .1) at e)
 
 -- ---- an accepted file passes every test
 
@@ -130,7 +131,7 @@ module _ (b : List ℕ) (z : refusal b ≡ 0) where
   unfolding refusal cut
   whole = ltb-false (length b) 13 (passed (cut b) 19 (headerTests b ++ recordTests b) z .0)
 
-  rest : Passed b × (firstOf (recordTests b) ≡ 0)
+  rest : HeaderPassed b × (firstOf (recordTests b) ≡ 0)
   rest = header-passed b (recordTests b) (sym (not-cut b whole) ∙ z)
 
   pub accepted-sized : {s t n : ℕ} → s ≡ schools b → t ≡ slots b → n ≡ packages b → Sized b s t n

@@ -59,7 +59,7 @@ pub record Sized (b : List ℕ) (s t n : ℕ) : Type 0 where
   pub counts : (s ≡ F.schools b) × ((t ≡ F.slots b) × (n ≡ F.packages b))
 
 -- what a file b of s schools and n packages must be for its packages to be written
-pub record Readable (b : List ℕ) (s n : ℕ) : Type 0 where
+pub record Fillable (b : List ℕ) (s n : ℕ) : Type 0 where
   pub long : length b ≡ 13 + 2 * s + 12 * n
   pub few : (s ≤ 64) × (n ≤ 512)
   pub known : (k : ℕ) → k < n → schoolOf b s k < s

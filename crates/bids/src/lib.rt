@@ -11,7 +11,7 @@ ghost use Rattle.bids.specs.Bytes.{byteAt, word16At, word32At, word64At,
 ghost use Rattle.bids.specs.Ranges.{listed};
 ghost use Rattle.bids.specs.Format.{headerTests, recordTests, schoolIn, packageIn, schoolTwice, packageTwice, itemsOf, costOf};
 ghost use Rattle.bids.specs.Format as F;
-ghost use Rattle.bids.specs.Contract.{FieldPost, SchoolPost, PackagePost, HeaderPost, Sized, Readable, ReadPost};
+ghost use Rattle.bids.specs.Contract.{FieldPost, SchoolPost, PackagePost, HeaderPost, Sized, Fillable, ReadPost};
 
 // The reader's place in the file.
 pub struct Cursor {
@@ -428,7 +428,7 @@ fn items_of(j: usize, slots: u64, s: usize) -> u64
 
 // Writes the n packages' items and costs to the start of the buffers.
 fn fill(file: &[u8], s: usize, n: usize, packages: &mut [u64], costs: &mut [u16])
-    requires { ⌜ Readable (now file) s n ⌝ }
+    requires { ⌜ Fillable (now file) s n ⌝ }
     requires { ⌜ (n ≤ length (now packages)) × (n ≤ length (now costs)) ⌝ }
     ensures { λ _. ⌜ now (packages .exit) ≡ written 0 (listed (itemsOf (now (file .entry)) s) n) (now (packages .entry)) ⌝ }
     ensures { λ _. ⌜ now (costs .exit) ≡ written 0 (listed (costOf (now (file .entry)) s) n) (now (costs .entry)) ⌝ }

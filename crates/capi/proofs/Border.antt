@@ -1,7 +1,7 @@
 -- What a struct at the border says is what the engine's answer says. Assumes nothing.
 use mathlib.Core.Path.{_≡_, refl, sym, ap, _∙_}
 use mathlib.Core.List.{List}
-use Prim.Native.Nat.{ℕ, zero, suc, _+_, _<_}
+use Prim.Native.Nat.{ℕ, zero, suc, _+_}
 use native.Mathlib.Omega.{arith}
 use lib.ListN.{length}
 use Rattle.zdd.specs.Table.{Family, count}
@@ -11,9 +11,10 @@ use Rattle.statement.specs.declared.Counted.{Counted}
 use Rattle.statement.specs.declared.Picked.{Picked}
 use Rattle.statement.specs.declared.Placed.{Placed}
 use Rattle.statement.specs.declared.Priced.{Priced}
-use Rattle.statement.specs.Replies.{Reply, refused, reply, soundnessReply, countReply, pickReply, placeReply, cheapestReply}
+use Rattle.statement.specs.Replies.{Reply, refused, soundnessReply, countReply, pickReply, placeReply, cheapestReply}
 use Rattle.statement.specs.Refusals.{checkRefusal, countRefusal, pickRefusal, placeRefusal, cheapestRefusal}
 use Rattle.statement.specs.Postconditions.{Makes, CheckPost, CountPost, PickPost, PlacePost, CheapestPost}
+use Rattle.statement.proofs.TestLaws.{reply-refused}
 use Rattle.query.specs.Questions.{familyAt, nth, position, cost, cheapest}
 use Rattle.bids.specs.declared.Reading.{Reading}
 use Rattle.bids.specs.Format as F
@@ -34,16 +35,11 @@ says-refused said same zero e zero v h = cc
 says-refused said same zero e (suc n) v h = let z : _≡_ {A = ℕ} 0 (suc n) = cc in absurd (omega arith)
 says-refused said same (suc k) e n v h = same k ∙ (sym e ∙ h)
 
--- a refusal's reply is one of a call
-refused-reply : {A : Type 0} (v : A) (n : ℕ) → 0 < n → refused n ≡ reply n v
-refused-reply v zero h = absurd (omega (arith, h))
-refused-reply v (suc n) h = refl
-
 -- what the engine promises of its report, the entry promises of the struct
 pub shows-makes : {K t t′ : List ℕ} {n s : ℕ} {F : Family} {r : EngineReport} (c : Report) → Shows r c → Makes K n F s t r t′ → Makes K n F s t (reportOf c) t′
 shows-makes {t = t} {n = n} c h m = record {
-  declined = λ p. let d = m .declined p in record {
-    outcome = h .outcome n 0 (d .outcome ∙ refused-reply 0 n p) ∙ sym (refused-reply 0 n p);
+  declined = λ p. let d = m .declined p in let e = reply-refused {A = ℕ} n 0 refl (λ z. omega arith) in record {
+    outcome = h .outcome n 0 (d .outcome ∙ e) ∙ sym e;
     steps = h .steps ∙ d .steps;
     made = h .made ∙ d .made;
     table = d .table;
@@ -70,16 +66,19 @@ shows-check {S} {m} {t} r h p = record { result = h (checkRefusal S m t) tt (p .
 pub shows-count : {S : List ℕ} {m : ℕ} {t : List ℕ} {a w : ℕ} {e : Counted} (r : Number) → Says (countReply e) (countReply (countedOf r)) → CountPost S m t a w e → CountPost S m t a w (countedOf r)
 shows-count {S} {m} {t} {a} {w} r h p = record { result = h (countRefusal S m t a w) (length (familyAt t a)) (p .result) }
 
-pub shows-pick : {S : List ℕ} {m : ℕ} {t : List ℕ} {a k w : ℕ} {g g′ : List ℕ} {e : Picked} (r : Timetable) → Says (pickReply e) (pickReply (pickedOf r)) → PickPost S m t a k w g e g′ → PickPost S m t a k w g (pickedOf r) g′
+pub shows-pick : {S : List ℕ} {m : ℕ} {t : List ℕ} {a k w : ℕ} {g g′ : List ℕ} {e : Picked} (r : Timetable) → Says (pickReply e) (pickReply (pickedOf r))
+    → PickPost S m t a k w g e g′ → PickPost S m t a k w g (pickedOf r) g′
 shows-pick {S} {m} {t} {a} {k} {w} {g} r h p = record {
   result = h (pickRefusal S m t a k w g) (length (nth (familyAt t a) k)) (p .result);
   pages = p .pages;
 }
 
-pub shows-place : {S : List ℕ} {m : ℕ} {t : List ℕ} {a : ℕ} {s : List ℕ} {w : ℕ} {e : Placed} (r : Number) → Says (placeReply e) (placeReply (placedOf r)) → PlacePost S m t a s w e → PlacePost S m t a s w (placedOf r)
+pub shows-place : {S : List ℕ} {m : ℕ} {t : List ℕ} {a : ℕ} {s : List ℕ} {w : ℕ} {e : Placed} (r : Number) → Says (placeReply e) (placeReply (placedOf r))
+    → PlacePost S m t a s w e → PlacePost S m t a s w (placedOf r)
 shows-place {S} {m} {t} {a} {s} {w} r h p = record { result = h (placeRefusal S m t a s w) (position s (familyAt t a)) (p .result) }
 
-pub shows-cheapest : {S : List ℕ} {m : ℕ} {C t : List ℕ} {a w : ℕ} {g g′ : List ℕ} {e : Priced} (r : Timetable) → Says (cheapestReply e) (cheapestReply (pricedOf r)) → CheapestPost S m C t a w g e g′ → CheapestPost S m C t a w g (pricedOf r) g′
+pub shows-cheapest : {S : List ℕ} {m : ℕ} {C t : List ℕ} {a w : ℕ} {g g′ : List ℕ} {e : Priced} (r : Timetable) → Says (cheapestReply e) (cheapestReply (pricedOf r))
+    → CheapestPost S m C t a w g e g′ → CheapestPost S m C t a w g (pricedOf r) g′
 shows-cheapest {S} {m} {C} {t} {a} {w} {g} r h p = record {
   result = h (cheapestRefusal S m C t a w g) (length (cheapest C (familyAt t a)), cost C (cheapest C (familyAt t a))) (p .result);
   pages = p .pages;

@@ -31,13 +31,13 @@ filled-none t ns = refl
 -- ---- the three words of a triple
 
 -- the triple x stands in l from word a on
-pub record Stands (l : List ℕ) (a : ℕ) (x : Node) : Type 0 where
+pub record TripleAt (l : List ℕ) (a : ℕ) (x : Node) : Type 0 where
   pub label : getD l a 0 ≡ x .label
   pub lo : getD l (a + 1) 0 ≡ x .lo
   pub hi : getD l (a + 2) 0 ≡ x .hi
 
 -- so does each triple of a list in its words, and a triple of zeros past its end
-pub triple-at : (ns : List Node) (i a : ℕ) → a ≡ 3 * i → Stands (wordsOf (nodesIn ns)) a (getD ns i none)
+pub triple-at : (ns : List Node) (i a : ℕ) → a ≡ 3 * i → TripleAt (wordsOf (nodesIn ns)) a (getD ns i none)
 unfolding wordsOf
 triple-at [] i a e = record { label = refl; lo = refl; hi = refl }
 triple-at (x ∷ ns) zero a e = record { label = at a 0 (omega arith); lo = at (a + 1) 1 (omega arith); hi = at (a + 2) 2 (omega arith) }
@@ -78,9 +78,9 @@ pub record Spoilt (ns : List Node) (k : ℕ) (s : List ℕ) : Type 0 where
   pub below : at < k
   pub some : getD ns at none ≡ none → ⊥
 
-pub record Holds (t : List ℕ) (ns : List Node) (k : ℕ) (s : List ℕ) : Type 0 where
+pub record Dealt (t : List ℕ) (ns : List Node) (k : ℕ) (s : List ℕ) : Type 0 where
   pub long : length s ≡ length t
-  pub put : (i : ℕ) → i < k → i < 65534 → Stands s (3 * i + 1) (getD ns i none)
+  pub put : (i : ℕ) → i < k → i < 65534 → TripleAt s (3 * i + 1) (getD ns i none)
   pub rest : (j : ℕ) → 3 * k < j → getD s j 0 ≡ getD t j 0
   pub first : Clear ns k s ⊎ Spoilt ns k s
 
@@ -103,7 +103,8 @@ module _ (s : List ℕ) (a : ℕ) (w : ℕ × ℕ × ℕ) where
     stored2 = getD-set-same s2 (a + 2) (w .2) 0 (omega (arith, length-set s1 (a + 1) (w .1), length-set s a (w .0)))
 
   beside : (j : ℕ) → (j < a) ⊎ (a + 2 < j) → getD (store s a w) j 0 ≡ getD s j 0
-  beside j h = getD-set-other s2 (a + 2) j (w .2) 0 (apart h 2 (omega arith)) ∙ getD-set-other s1 (a + 1) j (w .1) 0 (apart h 1 (omega arith)) ∙ getD-set-other s a j (w .0) 0 (λ q. apart h 0 (omega arith) (omega arith))
+  beside j h = getD-set-other s2 (a + 2) j (w .2) 0 (apart h 2 (omega arith)) ∙ getD-set-other s1 (a + 1) j (w .1) 0 (apart h 1 (omega arith))
+      ∙ getD-set-other s a j (w .0) 0 (λ q. apart h 0 (omega arith) (omega arith))
     where
       apart : (j < a) ⊎ (a + 2 < j) → (d : ℕ) → d ≤ 2 → j ≡ a + d → ⊥
       apart (inl l) d e q = omega arith
@@ -112,16 +113,16 @@ module _ (s : List ℕ) (a : ℕ) (w : ℕ × ℕ × ℕ) where
   length-store : length (store s a w) ≡ length s
   length-store = length-set s2 (a + 2) (w .2) ∙ length-set s1 (a + 1) (w .1) ∙ length-set s a (w .0)
 
-stored : (s : List ℕ) (a : ℕ) (x : Node) → a + 2 < length s → Stands (store s a (words3 x)) a x
+stored : (s : List ℕ) (a : ℕ) (x : Node) → a + 2 < length s → TripleAt (store s a (words3 x)) a x
 stored s a x h = record { label = stored0 s a (words3 x) h; lo = stored1 s a (words3 x) h; hi = stored2 s a (words3 x) h }
 
 -- a triple that stands where nothing was stored
-moved : {l l′ : List ℕ} {a : ℕ} {x : Node} → ((j : ℕ) → a ≤ j → j ≤ a + 2 → getD l′ j 0 ≡ getD l j 0) → Stands l a x → Stands l′ a x
+moved : {l l′ : List ℕ} {a : ℕ} {x : Node} → ((j : ℕ) → a ≤ j → j ≤ a + 2 → getD l′ j 0 ≡ getD l j 0) → TripleAt l a x → TripleAt l′ a x
 moved {l} {l′} {a} {x} f r = record { label = f a (omega arith) (omega arith) ∙ r .label; lo = f (a + 1) (omega arith) (omega arith) ∙ r .lo; hi = f (a + 2) (omega arith) (omega arith) ∙ r .hi }
 
 module _ (t : List ℕ) (long : length t ≡ 196603) (blank : (j : ℕ) → getD t j 0 ≡ 0) (ns : List Node) where
   -- triple k goes into its words
-  inside : (k : ℕ) (s : List ℕ) → k < 65534 → Holds t ns k s → Holds t ns (suc k) (set3 s k (getD ns k none))
+  inside : (k : ℕ) (s : List ℕ) → k < 65534 → Dealt t ns k s → Dealt t ns (suc k) (set3 s k (getD ns k none))
   inside k s h p = record {
     long = length-store s (3 * k + 1) (words3 x) ∙ p .long;
     put = λ i l m. go i m (eq-or-lt-of-le (omega arith));
@@ -132,8 +133,8 @@ module _ (t : List ℕ) (long : length t ≡ 196603) (blank : (j : ℕ) → getD
       x : Node
       x = getD ns k none
 
-      go : (i : ℕ) → i < 65534 → (i ≡ k) ⊎ (i < k) → Stands (set3 s k (getD ns k none)) (3 * i + 1) (getD ns i none)
-      go i m (inl e) = subst (λ (n : ℕ). Stands (set3 s k (getD ns k none)) (3 * n + 1) (getD ns n none)) (sym e) (stored s (3 * k + 1) (getD ns k none) (omega (arith, p .long)))
+      go : (i : ℕ) → i < 65534 → (i ≡ k) ⊎ (i < k) → TripleAt (set3 s k (getD ns k none)) (3 * i + 1) (getD ns i none)
+      go i m (inl e) = subst (λ (n : ℕ). TripleAt (set3 s k (getD ns k none)) (3 * n + 1) (getD ns n none)) (sym e) (stored s (3 * k + 1) (getD ns k none) (omega (arith, p .long)))
       go i m (inr l) = moved (λ j a b. beside s (3 * k + 1) (words3 (getD ns k none)) j (inl (omega arith))) (p .put i l m)
 
       head : Clear ns k s ⊎ Spoilt ns k s → Clear ns (suc k) (set3 s k (getD ns k none)) ⊎ Spoilt ns (suc k) (set3 s k (getD ns k none))
@@ -141,7 +142,7 @@ module _ (t : List ℕ) (long : length t ≡ 196603) (blank : (j : ℕ) → getD
       head (inr c) = absurd (omega (arith, c .past, c .below))
 
   -- triple k has no words, and is all 0
-  over : (k : ℕ) (s : List ℕ) → 65534 ≤ k → getD ns k none ≡ none → Holds t ns k s → Holds t ns (suc k) s
+  over : (k : ℕ) (s : List ℕ) → 65534 ≤ k → getD ns k none ≡ none → Dealt t ns k s → Dealt t ns (suc k) s
   over k s h e p = record {
     long = p .long;
     put = λ i l m. p .put i (omega arith) m;
@@ -158,7 +159,7 @@ module _ (t : List ℕ) (long : length t ≡ 196603) (blank : (j : ℕ) → getD
       head (inr c) = inr (record { word = c .word; at = c .at; past = c .past; below = omega (arith, c .below); some = c .some })
 
   -- or is not
-  spoils : (k : ℕ) (s : List ℕ) → 65534 ≤ k → (getD ns k none ≡ none → ⊥) → Holds t ns k s → Holds t ns (suc k) (spoil s)
+  spoils : (k : ℕ) (s : List ℕ) → 65534 ≤ k → (getD ns k none ≡ none → ⊥) → Dealt t ns k s → Dealt t ns (suc k) (spoil s)
   spoils k s h f p = record {
     long = length-set s 0 spoilt ∙ p .long;
     put = λ i l m. moved (λ j a b. getD-set-other s 0 j spoilt 0 (λ q. omega arith)) (p .put i (omega arith) m);
@@ -166,19 +167,19 @@ module _ (t : List ℕ) (long : length t ≡ 196603) (blank : (j : ℕ) → getD
     first = inr (record { word = getD-set-same s 0 spoilt 0 (omega (arith, p .long)); at = k; past = h; below = omega arith; some = f });
   }
 
-  pub holds : (k : ℕ) → Holds t ns k (filled t ns k)
+  pub dealt : (k : ℕ) → Dealt t ns k (filled t ns k)
   unfolding filled
-  holds zero = record { long = refl; put = λ i l m. absurd (omega arith); rest = λ j l. refl; first = inl (record { word = blank 0; each = λ i a b. absurd (omega arith) }) }
-  holds (suc k) = go (ltb k 65534) refl (blankb (getD ns k none)) refl (holds k)
+  dealt zero = record { long = refl; put = λ i l m. absurd (omega arith); rest = λ j l. refl; first = inl (record { word = blank 0; each = λ i a b. absurd (omega arith) }) }
+  dealt (suc k) = go (ltb k 65534) refl (blankb (getD ns k none)) refl (dealt k)
     where
-      go : (x : Bool) → ltb k 65534 ≡ x → (y : Bool) → blankb (getD ns k none) ≡ y → Holds t ns k (filled t ns k)
-          → Holds t ns (suc k) (cond x (set3 (filled t ns k) k (getD ns k none)) (cond y (filled t ns k) (spoil (filled t ns k))))
+      go : (x : Bool) → ltb k 65534 ≡ x → (y : Bool) → blankb (getD ns k none) ≡ y → Dealt t ns k (filled t ns k)
+          → Dealt t ns (suc k) (cond x (set3 (filled t ns k) k (getD ns k none)) (cond y (filled t ns k) (spoil (filled t ns k))))
       go true e y f p = inside k (filled t ns k) (ltb-true k 65534 e) p
       go false e true f p = over k (filled t ns k) (ltb-false k 65534 e) (blank-none (getD ns k none) f) p
       go false e false f p = spoils k (filled t ns k) (ltb-false k 65534 e) (none-blank (getD ns k none) f) p
 
   -- the words of a list whose triples past the room are all 0
-  module _ (s : List ℕ) (p : Holds t ns (length ns) s) (c : Clear ns (length ns) s) where
+  module _ (s : List ℕ) (p : Dealt t ns (length ns) s) (c : Clear ns (length ns) s) where
     past-end : (i : ℕ) → length ns ≤ i → getD ns i none ≡ none
     past-end i l = List·getD-eq-default ns none l
 
@@ -186,13 +187,17 @@ module _ (t : List ℕ) (long : length t ≡ 196603) (blank : (j : ℕ) → getD
     out i a e (inl l) j h = p .rest j (omega arith) ∙ blank j
     out i a e (inr l) j h = List·getD-eq-default s 0 (omega (arith, p .long))
 
-    pub clear-at : (i : ℕ) → Stands s (3 * i + 1) (getD ns i none)
+    pub clear-at : (i : ℕ) → TripleAt s (3 * i + 1) (getD ns i none)
     clear-at i = go (ltb i (length ns)) refl (ltb i 65534) refl
       where
-        zeros : (length ns ≤ i) ⊎ (65534 ≤ i) → getD ns i none ≡ none → Stands s (3 * i + 1) (getD ns i none)
-        zeros h e = subst (λ (x : Node). Stands s (3 * i + 1) x) (sym e) (record { label = out i (3 * i + 1) refl h (3 * i + 1) (omega arith); lo = out i (3 * i + 1) refl h (3 * i + 1 + 1) (omega arith); hi = out i (3 * i + 1) refl h (3 * i + 1 + 2) (omega arith) })
+        zeros : (length ns ≤ i) ⊎ (65534 ≤ i) → getD ns i none ≡ none → TripleAt s (3 * i + 1) (getD ns i none)
+        zeros h e = subst (λ (x : Node). TripleAt s (3 * i + 1) x) (sym e) (record {
+          label = out i (3 * i + 1) refl h (3 * i + 1) (omega arith);
+          lo = out i (3 * i + 1) refl h (3 * i + 1 + 1) (omega arith);
+          hi = out i (3 * i + 1) refl h (3 * i + 1 + 2) (omega arith);
+        })
 
-        go : (x : Bool) → ltb i (length ns) ≡ x → (y : Bool) → ltb i 65534 ≡ y → Stands s (3 * i + 1) (getD ns i none)
+        go : (x : Bool) → ltb i (length ns) ≡ x → (y : Bool) → ltb i 65534 ≡ y → TripleAt s (3 * i + 1) (getD ns i none)
         go true e true f = p .put i (ltb-true i (length ns) e) (ltb-true i 65534 f)
         go true e false f = zeros (inr (ltb-false i 65534 f)) (c .each i (ltb-false i 65534 f) (ltb-true i (length ns) e))
         go false e y f = zeros (inl (ltb-false i (length ns) e)) (past-end i (ltb-false i (length ns) e))
@@ -201,10 +206,10 @@ module _ (t : List ℕ) (long : length t ≡ 196603) (blank : (j : ℕ) → getD
     pub clear-word : (j : ℕ) → getD s (suc j) 0 ≡ getD (wordsOf (nodesIn ns)) j 0
     clear-word j = go (ltb (j - 3 * (j / 3)) 1) refl (ltb (j - 3 * (j / 3)) 2) refl
       where
-        x : Stands s (3 * (j / 3) + 1) (getD ns (j / 3) none)
+        x : TripleAt s (3 * (j / 3) + 1) (getD ns (j / 3) none)
         x = clear-at (j / 3)
 
-        y : Stands (wordsOf (nodesIn ns)) (3 * (j / 3)) (getD ns (j / 3) none)
+        y : TripleAt (wordsOf (nodesIn ns)) (3 * (j / 3)) (getD ns (j / 3) none)
         y = triple-at ns (j / 3) (3 * (j / 3)) refl
 
         at : (a b : ℕ) → suc j ≡ a → b ≡ j → getD s a 0 ≡ getD (wordsOf (nodesIn ns)) b 0 → getD s (suc j) 0 ≡ getD (wordsOf (nodesIn ns)) j 0

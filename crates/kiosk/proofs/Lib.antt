@@ -2,3 +2,4 @@
 pub mod Filled
 pub mod Same
 pub mod Filling
+pub mod Walking

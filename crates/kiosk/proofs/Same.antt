@@ -24,7 +24,7 @@ use Rattle.statement.proofs.Kiosk.{too-many, over-limit, triple-left}
 use Rattle.kiosk.specs.declared.Node.{Node}
 use Rattle.kiosk.specs.Triples.{nodeIn, nodesIn}
 use Rattle.kiosk.specs.Flat.{none, filled, numbered, headed}
-use Rattle.kiosk.proofs.Filled.{Clear, Spoilt, Holds, holds, clear-word}
+use Rattle.kiosk.proofs.Filled.{Clear, Spoilt, Dealt, dealt, clear-word}
 
 -- ---- tables of the same words
 
@@ -92,7 +92,8 @@ count-alike {S} {m} {u} {v} {a} {words} {r} k p = record { result = p .result �
 
     bad : soundb (keysOf S) u ≡ false → says (soundb (keysOf S) u) (count u) (nodesOf u) ≡ says (soundb (keysOf S) v) (count v) (nodesOf v)
     bad e =
-        ap (λ (b : Bool). says b (count u) (nodesOf u)) e ∙ shut (oversize m S) (stray m S) (behind (count u) (nodesOf u)) (behind (count v) (nodesOf v)) (length (family (nodesOf u) a)) (length (family (nodesOf v) a))
+        ap (λ (b : Bool). says b (count u) (nodesOf u)) e ∙ shut (oversize m S) (stray m S) (behind (count u) (nodesOf u)) (behind (count v) (nodesOf v))
+        (length (family (nodesOf u) a)) (length (family (nodesOf v) a))
         ∙ ap (λ (b : Bool). says b (count v) (nodesOf v)) (sym e ∙ k .sound)
 
 -- ---- the words that the code makes, and the table
@@ -109,8 +110,8 @@ module _ (t : List ℕ) (long : length t ≡ 196603) (zeros : (j : ℕ) → getD
   abbrev table : List ℕ
   table = tableOf n (nodesIn ns)
 
-  all : Holds t ns (length ns) s
-  all = holds t long zeros ns (length ns)
+  all : Dealt t ns (length ns) s
+  all = dealt t long zeros ns (length ns)
 
   -- a triple past the table's room that is not all 0
   left : Spoilt ns (length ns) s → soundb K table ≡ false
@@ -146,7 +147,8 @@ module _ (t : List ℕ) (long : length t ≡ 196603) (zeros : (j : ℕ) → getD
     where
       at : (b : Bool) → leb n (length ns) ≡ b → Clear ns (length ns) s → Alike K (set s 0 (cond b n 4294967295)) table
       at true e c = clear-alike c (leb-true n (length ns) e)
-      at false e c = unsound-alike (no-room K (set s 0 4294967295) (omega (arith, getD-set-same s 0 4294967295 0 (omega (arith, all .long))))) (too-many K n (nodesIn ns) (omega (arith, leb-false n (length ns) e, length-map ns nodeIn)))
+      at false e c = unsound-alike (no-room K (set s 0 4294967295) (omega (arith, getD-set-same s 0 4294967295 0 (omega (arith, all .long)))))
+          (too-many K n (nodesIn ns) (omega (arith, leb-false n (length ns) e, length-map ns nodeIn)))
 
       -- word 0 is 0, or not
       head : (b : Bool) → eqb (getD s 0 0) 0 ≡ b → Alike K (cond b (set s 0 (numbered n (length ns))) s) table → Alike K (headed s n (length ns)) table

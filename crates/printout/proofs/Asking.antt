@@ -34,11 +34,11 @@ use Rattle.statement.specs.Replies.{Reply, gives, refused, reply, outcomeReply,
 use Rattle.statement.specs.Refusals.{firstOf, oversize, stray, unsound, uncountable, coverRefusal, countRefusal, pickRefusal, placeRefusal, cheapestRefusal}
 use Rattle.statement.specs.Postconditions.{Makes, Answered, PickPost, PlacePost, CheapestPost, written}
 use Rattle.statement.proofs.FirstOf.{pass, none, passed}
-use Rattle.statement.proofs.TestLaws.{all-priced, answer-known, enough, countable, not-past, something, page-fits}
+use Rattle.statement.proofs.TestLaws.{reply-gives, all-priced, answer-known, enough, countable, not-past, something, page-fits}
 use Rattle.statement.proofs.Cheapest.{cheapest-least}
 use Rattle.statement.proofs.Undo.{place-of-pick}
 use Rattle.guard.proofs.GuardLaws.{rows}
-use Rattle.printout.specs.Program.{Answerable, Listable}
+use Rattle.printout.specs.Program.{Askable, Listable}
 
 -- ---- a timetable has at most as many packages as there are items
 
@@ -99,15 +99,19 @@ no-refusal e = absurd (let z : _≡_ {A = ℕ} 0 1 = cc in omega arith)
 
 -- ---- the questions
 
-pub count-left : {S : List ℕ} {m : ℕ} {t : List ℕ} {a words : ℕ} → Answerable S m t a words
+-- the page after a call that was not refused: the list s at its start
+pub page-left : (s page : List ℕ) {page′ : List ℕ} {k n : ℕ} → n ≡ length s → k ≡ 0 → page′ ≡ written k s page → take n page′ ≡ s
+page-left s page e z p = ap₂ take e (p ∙ ap (λ (i : ℕ). written i s page) z) ∙ take-at s (drop (length s) page) (length s) refl
+
+pub count-left : {S : List ℕ} {m : ℕ} {t : List ℕ} {a words : ℕ} → Askable S m t a words
     → countRefusal S m t a words ≡ firstOf ((uncountable (familyAt t a), 11) ∷ [])
 unfolding countRefusal
 count-left {a = a} {words} A =
     pass 1 _ (A .sized) ∙ pass 2 _ (A .clean) ∙ pass 4 _ (A .sound) ∙ pass 5 _ (A .known) ∙ pass 8 _ (enough (a + 1) words (omega (arith, A .room)))
 
 module _ {S : List ℕ} {m : ℕ} {t : List ℕ} {a words : ℕ} (Q : Listable S m t a words) where
-  abbrev A : Answerable S m t a words
-  A = Q .answerable
+  abbrev A : Askable S m t a words
+  A = Q .askable
 
   abbrev F : Family
   F = familyAt t a
@@ -118,23 +122,14 @@ module _ {S : List ℕ} {m : ℕ} {t : List ℕ} {a words : ℕ} (Q : Listable S
       pass 1 _ (A .sized) ∙ pass 2 _ (A .clean) ∙ pass 4 _ (A .sound) ∙ pass 5 _ (A .known) ∙ pass 8 _ (enough (a + 1) words (omega (arith, A .room)))
       ∙ pass 11 _ (countable F (Q .few)) ∙ pass 12 _ (not-past F k l) ∙ pass 15 _ (page-fits page (nth F k) h) ∙ none
 
-  -- what pick leaves
-  pick-gives : {k : ℕ} {page page′ : List ℕ} {r : Picked} → k < length F → 64 ≤ length page → PickPost S m t a k words page r page′
-      → (pickReply r ≡ gives (length (nth F k))) × (take (length (nth F k)) page′ ≡ nth F k)
-  pick-gives {k} {page} {page′} l h P =
-      let s : List ℕ = nth F k in
-      let z = pick-given k page l (omega (arith, h, A .short s (nth-elem F k l))) in (
-        P .result ∙ ap (λ (n : ℕ). reply n (length s)) z,
-        ap (take (length s)) (P .pages ∙ ap (λ (n : ℕ). written n s page) z) ∙ take-at s (drop (length s) page) (length s) refl,
-      )
-
-  -- n is what was read off pick's answer
+  -- what pick leaves; n is what was read off its answer
   pub picked-page : {k n : ℕ} {page page′ : List ℕ} {r : Picked} → k < length F → 64 ≤ length page → PickPost S m t a k words page r page′
       → ((x : ℕ) → pickReply r ≡ gives x → n ≡ x) → (n ≤ 64) × (take n page′ ≡ nth F k)
   picked-page {k} {n} {page} {page′} l h P f =
-      let g = pick-gives l h P in
-      let e : n ≡ length (nth F k) = f (length (nth F k)) (g .0) in
-      (omega (arith, e, A .short (nth F k) (nth-elem F k l)), ap (λ (i : ℕ). take i page′) e ∙ g .1)
+      let b = A .short (nth F k) (nth-elem F k l) in
+      let z = pick-given k page l (omega (arith, h, b)) in
+      let e : n ≡ length (nth F k) = f (length (nth F k)) (P .result ∙ sym (reply-gives (length (nth F k)) z)) in
+      (omega (arith, e, b), page-left (nth F k) page e z (P .pages))
 
   module _ (C : List ℕ) (p : length C ≡ length S) (some : 0 < length F) where
     abbrev s : List ℕ
@@ -153,22 +148,13 @@ module _ {S : List ℕ} {m : ℕ} {t : List ℕ} {a words : ℕ} (Q : Listable S
         ∙ pass 8 _ (enough (2 * (a + 1)) words (A .room)) ∙ pass 13 _ (something a not-empty)
         ∙ pass 15 _ (page-fits page s (omega (arith, h, A .short s in-F))) ∙ none
 
-    -- what cheapest leaves
-    cheapest-gives : {page page′ : List ℕ} {r : Priced} → 64 ≤ length page → CheapestPost S m C t a words page r page′
-        → (cheapestReply r ≡ gives (length s, cost C s)) × (take (length s) page′ ≡ s)
-    cheapest-gives {page} {page′} h P =
-        let z = cheapest-given page h in (
-          P .result ∙ ap (λ (n : ℕ). reply n (length s, cost C s)) z,
-          ap (take (length s)) (P .pages ∙ ap (λ (n : ℕ). written n s page) z) ∙ take-at s (drop (length s) page) (length s) refl,
-        )
-
-    -- n is what was read off cheapest's answer
+    -- what cheapest leaves; n is what was read off its answer
     pub priced-page : {n : ℕ} {page page′ : List ℕ} {r : Priced} → 64 ≤ length page → CheapestPost S m C t a words page r page′
         → ((x y : ℕ) → cheapestReply r ≡ gives (x, y) → n ≡ x) → (n ≤ 64) × (take n page′ ≡ s)
     priced-page {n} {page} {page′} h P f =
-        let g = cheapest-gives h P in
-        let e : n ≡ length s = f (length s) (cost C s) (g .0) in
-        (omega (arith, e, A .short s in-F), ap (λ (i : ℕ). take i page′) e ∙ g .1)
+        let z = cheapest-given page h in
+        let e : n ≡ length s = f (length s) (cost C s) (P .result ∙ sym (reply-gives (length s, cost C s) z)) in
+        (omega (arith, e, A .short s in-F), page-left s page e z (P .pages))
 
     -- its place: place undoes pick
     pub place-gives : {l : List ℕ} {words′ : ℕ} {r : Placed} → l ≡ s → words′ ≡ words → PlacePost S m t a l words′ r → placeReply r ≡ gives (position s F)
@@ -198,11 +184,11 @@ pub cover-answered : {K : List ℕ} {F : Family} {st : ℕ} {b : List ℕ} {r : 
 cover-answered zero a M e = (refl, M .answered refl)
 cover-answered (suc n) a M e = no-refusal (sym (M .declined (omega arith) .outcome) ∙ e)
 
-pub answerable : (S : List ℕ) (m limit words : ℕ) {b : List ℕ} {st : ℕ} {r : Report} {t : List ℕ} (a : ℕ) → length b ≡ 5401 → words ≡ 3604 → m ≤ 64
+pub askable : (S : List ℕ) (m limit words : ℕ) {b : List ℕ} {st : ℕ} {r : Report} {t : List ℕ} (a : ℕ) → length b ≡ 5401 → words ≡ 3604 → m ≤ 64
     → coverRefusal S m b (allItems m) limit words ≡ 0 → Answered (keysOf S) (covering S (allItems m)) st b r t → outcomeReply (r .outcome) ≡ gives a
-    → Answerable S m t a words × (familyAt t a ≡ covering S (allItems m))
+    → Askable S m t a words × (familyAt t a ≡ covering S (allItems m))
 unfolding coverRefusal unsound
-answerable S m limit words {t = t} a l v h z A o =
+askable S m limit words {t = t} a l v h z A o =
     let p1 = passed (oversize m S) 0 _ z in
     let p2 = passed (stray m S) 1 _ (p1 .1) in
     let R : Rows S = rows S m (pass 1 _ (p1 .0) ∙ pass 2 _ (p2 .0) ∙ none) in

@@ -21,7 +21,8 @@ use Rattle.statement.proofs.FirstOf.{pass, none, passed}
 use Rattle.guard.proofs.GuardLaws.{rows}
 use Rattle.bids.specs.Format.{schools, slots, packagesOf, costsOf, refusal}
 use Rattle.bids.proofs.Refused.{neither}
-use Rattle.printout.specs.Text.{decimalIn, decimal, field, head, packagesText, timetableLine, cheapestLine, noneLine, refusedLine, slotsWord, schoolsWord, packagesWord, nodesWord, stepsWord, timetablesWord, costWord, cheapestWord, refusedWord, newline}
+use Rattle.printout.specs.Text.{decimalIn, decimal, field, head, packagesText, timetableLine, cheapestLine, noneLine, refusedLine, slotsWord}
+use Rattle.printout.specs.Text.{schoolsWord, packagesWord, nodesWord, stepsWord, timetablesWord, costWord, cheapestWord, refusedWord, newline}
 use Rattle.printout.specs.Written.{Holds, Whole}
 use Rattle.printout.specs.Program.{unless, timetableLines, lastLine, sheet, answerText, blank, solved, printed}
 use Rattle.printout.proofs.Asking.{covering-short}
@@ -115,7 +116,8 @@ solved-short : (s t : ℕ) (S C : List ℕ) → length (solved s t S C) ≤ 1638
 unfolding solved answerText
 solved-short s t S C = unless-short (coverRefusal S (s + t) blank (allItems (s + t)) 1000000 3604) _ (λ z.
     unless-short (firstOf ((uncountable (covering S (allItems (s + t))), 11) ∷ [])) _ (λ _.
-    sheet-short s t (length S) C (covering S (allItems (s + t))) (missing (nodesOf blank) (covering S (allItems (s + t)))) (steps S 1802 (allItems (s + t))) (members-short S (s + t) blank 1000000 3604 z)))
+    sheet-short s t (length S) C (covering S (allItems (s + t))) (missing (nodesOf blank) (covering S (allItems (s + t)))) (steps S 1802 (allItems (s + t)))
+    (members-short S (s + t) blank 1000000 3604 z)))
 
 -- THEOREM
 pub text-fits : (b : List ℕ) → length (printed b) ≤ 16384

@@ -1,5 +1,5 @@
 -- The program's text, part by part. Assumes nothing.
-use mathlib.Core.Path.{_≡_, refl, sym, ap, ap₂, _∙_, subst}
+use mathlib.Core.Path.{_≡_, refl, sym, ap, _∙_, subst}
 use mathlib.Core.List.{List, [], _∷_, _++_}
 use mathlib.Core.Logic.{⊎-elim}
 use Prim.Native.Nat.{ℕ, zero, suc, _+_, _≤_, _<_, min}
@@ -7,12 +7,11 @@ use native.Mathlib.Nat.{eq-zero-or-pos}
 use native.Mathlib.Numerals.{add-one}
 use native.Mathlib.Omega.{arith}
 use borrow.Author.Tests.{eq-eqb, ne-eqb, ltb-false}
-use lib.ListN.{length, take, drop, replicate, length-replicate}
-use lib.Seq.{take-at}
+use lib.ListN.{length, take, replicate, length-replicate}
 use Rattle.zdd.specs.Table.{Family}
 use Rattle.query.specs.Questions.{familyAt, nth, position, cheapest}
 use Rattle.statement.specs.Refusals.{firstOf, uncountable, coverRefusal}
-use Rattle.statement.specs.Postconditions.{CoverPost, written}
+use Rattle.statement.specs.Postconditions.{CoverPost}
 use Rattle.statement.specs.Examples.{allItems}
 use Rattle.statement.specs.Replies.{refused, gives, outcomeReply}
 use Rattle.statement.specs.declared.Report.{Report}
@@ -26,8 +25,8 @@ use Rattle.bids.proofs.Refused.{accepted-sized}
 use Rattle.bids.proofs.Laws.{length-listed}
 use Rattle.printout.specs.Text.{head, timetableLine, cheapestLine, noneLine, refusedLine}
 use Rattle.printout.specs.Written.{Holds, Puts}
-use Rattle.printout.specs.Program.{unless, timetableLines, lastLine, sheet, answerText, blank, solved, printed, Answerable}
-use Rattle.printout.proofs.Asking.{was-given, was-refused, cover-refused, cover-answered, answerable}
+use Rattle.printout.specs.Program.{unless, timetableLines, lastLine, sheet, answerText, blank, solved, printed, Askable}
+use Rattle.printout.proofs.Asking.{page-left, was-given, was-refused, cover-refused, cover-answered, askable}
 
 -- ---- a text from the start of the buffer
 
@@ -90,59 +89,62 @@ module _ (s t : ℕ) (S C : List ℕ) {b : List ℕ} {w d : ℕ} {r : Report} {t
   cover-said x o = let q = cover-refused (coverRefusal S (s + t) blank (allItems (s + t)) 1000000 3604) x M0 o in said x _ (q .0) (q .1)
 
   pub cover-gave : (a : ℕ) → s + t ≤ 64 → outcomeReply (r .outcome) ≡ gives a
-      → ((n : ℕ) → n ≡ 3604 → Answerable S (s + t) t′ a n) × (answerText s t (length S) C (familyAt t′ a) (r .made) (r .steps) ≡ solved s t S C)
+      → ((n : ℕ) → n ≡ 3604 → Askable S (s + t) t′ a n) × (answerText s t (length S) C (familyAt t′ a) (r .made) (r .steps) ≡ solved s t S C)
   unfolding solved blank
   cover-gave a small o =
       let q = cover-answered (coverRefusal S (s + t) blank (allItems (s + t)) 1000000 3604) a M0 o in
-      let g = answerable S (s + t) 1000000 3604 a (length-replicate {A = ℕ} 5401 0) refl small (q .0) (q .1) o in
+      let g = askable S (s + t) 1000000 3604 a (length-replicate {A = ℕ} 5401 0) refl small (q .0) (q .1) o in
       (λ n e. rw e (g .0), rw (g .1, q .1 .made, q .1 .steps) (unsaid _ (q .0)))
 
 -- ---- the file
 
-module _ (b : List ℕ) where
-  -- buffers of 512 are never short
-  read-refusal : readRefusal b 512 512 ≡ refusal b
-  read-refusal =
-      ⊎-elim
-      (λ (z : refusal b ≡ 0). let p = accepted-sized b z refl refl refl in accepted b 512 512 z (p .few) (p .few) ∙ sym z)
-      (λ (l : 0 < refusal b). by-file b 512 512 refl (λ z. omega arith))
-      (eq-zero-or-pos (refusal b))
+-- buffers of 512 are never short
+read-refusal : (b : List ℕ) → readRefusal b 512 512 ≡ refusal b
+read-refusal b =
+    ⊎-elim
+    (λ (z : refusal b ≡ 0). let p = accepted-sized b z refl refl refl in accepted b 512 512 z (p .few) (p .few) ∙ sym z)
+    (λ (l : 0 < refusal b). by-file b 512 512 refl (λ z. omega arith))
+    (eq-zero-or-pos (refusal b))
 
-  -- what an accepted file leaves
-  pub record Read (s t n : ℕ) (p c : List ℕ) : Type 0 where
-    pub few : n ≤ 512
-    pub small : s + t ≤ 64
-    pub items : take n p ≡ packagesOf b
-    pub costs : take n c ≡ costsOf b
-    pub same-long : length (costsOf b) ≡ length (packagesOf b)
-    pub text : solved s t (packagesOf b) (costsOf b) ≡ printed b
+-- what an accepted file leaves
+pub record Read (b : List ℕ) (s t n : ℕ) (p c : List ℕ) : Type 0 where
+  pub few : n ≤ 512
+  pub small : s + t ≤ 64
+  pub items : take n p ≡ packagesOf b
+  pub costs : take n c ≡ costsOf b
+  pub same-long : length (costsOf b) ≡ length (packagesOf b)
+  pub text : solved s t (packagesOf b) (costsOf b) ≡ printed b
 
-  module _ {r : Reading} {p p′ c c′ : List ℕ} (lp : length p ≡ 512) (lc : length c ≡ 512) (R : ReadPost b r p p′ c c′) where
-    number : readRefusal b (length p) (length c) ≡ refusal b
-    number = rw (lp, lc) read-refusal
+-- the buffers before
+abbrev zeros : List ℕ
+zeros = replicate 512 0
 
-    pub read-said : (n : ℕ) → r ≡ Refused n → refusedLine n ≡ printed b
-    unfolding printed
-    read-said n e =
-        let q = was-refused n (readRefusal b (length p) (length c)) _ (sym (ap readReply e) ∙ R .answer) in
-        said n _ (sym number ∙ q .0) (q .1)
+module _ {b : List ℕ} {r : Reading} {p c : List ℕ} (R : ReadPost b r zeros p zeros c) where
+  number : readRefusal b (length zeros) (length zeros) ≡ refusal b
+  number = let l : length zeros ≡ 512 = length-replicate {A = ℕ} 512 0 in rw l (read-refusal b)
 
-    pub read-gave : (s t n : ℕ) → r ≡ Accepted s t n → Read s t n p′ c′
-    unfolding printed packagesOf costsOf
-    read-gave s t n e =
-        let q = was-given (s, (t, n)) (readRefusal b (length p) (length c)) (schools b, (slots b, packages b)) (sym (ap readReply e) ∙ R .answer) in
-        let z : refusal b ≡ 0 = sym number ∙ q .0 in
-        let es : s ≡ schools b = ap (λ (v : ℕ × (ℕ × ℕ)). v .0) (q .1) in
-        let et : t ≡ slots b = ap (λ (v : ℕ × (ℕ × ℕ)). v .1 .0) (q .1) in
-        let en : n ≡ packages b = ap (λ (v : ℕ × (ℕ × ℕ)). v .1 .1) (q .1) in
-        let k = accepted-sized b z refl refl refl in
-        let li = length-listed (itemsOf b (schools b)) (packages b) in
-        let lk = length-listed (costOf b (schools b)) (packages b) in
-        record {
-          few = omega (arith, en, k .few);
-          small = omega (arith, es, et, k .items);
-          items = ap₂ take en (R .items ∙ ap (λ (i : ℕ). written i (packagesOf b) p) (q .0)) ∙ take-at (packagesOf b) (drop (length (packagesOf b)) p) (packages b) li;
-          costs = ap₂ take en (R .costs ∙ ap (λ (i : ℕ). written i (costsOf b) c) (q .0)) ∙ take-at (costsOf b) (drop (length (costsOf b)) c) (packages b) lk;
-          same-long = lk ∙ sym li;
-          text = rw (es, et) (unsaid _ z);
-        }
+  pub read-said : {n : ℕ} → r ≡ Refused n → refusedLine n ≡ printed b
+  unfolding printed
+  read-said {n} e =
+      let q = was-refused n (readRefusal b (length zeros) (length zeros)) _ (sym (ap readReply e) ∙ R .answer) in
+      said n _ (sym number ∙ q .0) (q .1)
+
+  pub read-gave : {s t n : ℕ} → r ≡ Accepted s t n → Read b s t n p c
+  unfolding printed packagesOf costsOf
+  read-gave {s} {t} {n} e =
+      let q = was-given (s, (t, n)) (readRefusal b (length zeros) (length zeros)) (schools b, (slots b, packages b)) (sym (ap readReply e) ∙ R .answer) in
+      let z : refusal b ≡ 0 = sym number ∙ q .0 in
+      let es : s ≡ schools b = ap (λ (v : ℕ × (ℕ × ℕ)). v .0) (q .1) in
+      let et : t ≡ slots b = ap (λ (v : ℕ × (ℕ × ℕ)). v .1 .0) (q .1) in
+      let en : n ≡ packages b = ap (λ (v : ℕ × (ℕ × ℕ)). v .1 .1) (q .1) in
+      let k = accepted-sized b z refl refl refl in
+      let li = length-listed (itemsOf b (schools b)) (packages b) in
+      let lk = length-listed (costOf b (schools b)) (packages b) in
+      record {
+        few = omega (arith, en, k .few);
+        small = omega (arith, es, et, k .items);
+        items = page-left (packagesOf b) zeros (en ∙ sym li) (q .0) (R .items);
+        costs = page-left (costsOf b) zeros (en ∙ sym lk) (q .0) (R .costs);
+        same-long = lk ∙ sym li;
+        text = rw (es, et) (unsaid _ z);
+      }

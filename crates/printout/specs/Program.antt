@@ -60,7 +60,7 @@ PrintedFor buffer n text = (b : List ℕ) → take (length buffer) b ≡ take n 
 -- ---- what the steps of the program know
 
 -- what cover leaves for the questions to its answer a, with so many working words
-pub record Answerable (S : List ℕ) (m : ℕ) (t : List ℕ) (a words : ℕ) : Type 0 where
+pub record Askable (S : List ℕ) (m : ℕ) (t : List ℕ) (a words : ℕ) : Type 0 where
   pub sized : oversize m S ≡ false
   pub clean : stray m S ≡ false
   pub sound : unsound S t ≡ false
@@ -70,5 +70,5 @@ pub record Answerable (S : List ℕ) (m : ℕ) (t : List ℕ) (a words : ℕ) : 
 
 -- and count was not refused
 pub record Listable (S : List ℕ) (m : ℕ) (t : List ℕ) (a words : ℕ) : Type 0 where
-  pub answerable : Answerable S m t a words
+  pub askable : Askable S m t a words
   pub few : length (familyAt t a) ≤ 18446744073709551615

@@ -5,9 +5,9 @@ ghost use mathlib.Core.List.{[], _∷_, _++_};
 ghost use Prim.Native.Nat.{ℕ, suc, _+_, _^_, _<_, _≤_, min};
 ghost use lib.ListN.{length, getD};
 ghost use Rattle.query.specs.Questions.{familyAt, nth, cost};
-ghost use Rattle.printout.specs.Text.{decimalIn, decimal, field, head, packagesText, timetableLine, cheapestLine, refusedLine};
+ghost use Rattle.printout.specs.Text.{decimalIn, decimal, field, head, packagesText, timetableLine, refusedLine};
 ghost use Rattle.printout.specs.Written.{Puts, Holds, Whole};
-ghost use Rattle.printout.specs.Program.{timetableLines, lastLine, sheet, answerText, solved, printed, Answerable, Listable};
+ghost use Rattle.printout.specs.Program.{timetableLines, lastLine, sheet, answerText, solved, printed, Askable, Listable};
 ghost use Rattle.statement.specs.Examples.{allItems};
 ghost use Rattle.statement.specs.Replies.{gives, pickReply, placeReply, cheapestReply};
 use bids::Reading;
@@ -141,13 +141,6 @@ fn put_timetable(out: &mut [u8], at: usize, k: u64, list: &[u16], costs: &[u16])
     put_text(out, to, b"\n")
 }
 
-fn put_cheapest(out: &mut [u8], at: usize, k: u64) -> usize
-    ensures { λ r. ⌜ Puts (now (out .entry)) at (now (out .exit)) r (cheapestLine k) ⌝ }
-{
-    let to = put_field(out, at, b"cheapest ", k);
-    put_text(out, to, b"\n")
-}
-
 fn put_refused(out: &mut [u8], at: usize, number: u8) -> usize
     ensures { λ r. ⌜ Puts (now (out .entry)) at (now (out .exit)) r (refusedLine number) ⌝ }
 {
@@ -268,7 +261,8 @@ fn put_last(
     let n = priced(p);
     let q = engine::place(m, packages, t, a, &page[..n], work);
     let k = placed(q);
-    put_cheapest(out, at, k)
+    let to = put_field(out, at, b"cheapest ", k);
+    put_text(out, to, b"\n")
 }
 
 // What was compiled: s schools and t slots, the answer's number, and the report's counts.
@@ -329,7 +323,7 @@ fn put_answer(
     work: &mut [u64],
     out: &mut [u8],
 ) -> usize
-    requires { ⌜ Answerable (now packages) (c .s + c .t) (now table) (c .answer) (length (now work)) ⌝ }
+    requires { ⌜ Askable (now packages) (c .s + c .t) (now table) (c .answer) (length (now work)) ⌝ }
     requires { ⌜ length (now costs) ≡ length (now packages) ⌝ }
     requires { ⌜ c .s + c .t ≤ 64 ⌝ }
     ensures { λ r. ⌜ Holds (now (out .exit)) r (answerText (c .s) (c .t) (length (now (packages .entry))) (now (costs .entry)) (familyAt (now (table .entry)) (c .answer)) (c .made) (c .steps)) ⌝ }

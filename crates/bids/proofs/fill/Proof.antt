@@ -3,6 +3,7 @@ use mathlib.Core.Path.{_≡_, _∙_}
 use Prim.Native.Nat.{_≤_, _-_}
 use Rattle.bids.specs.Ranges.{listed}
 use Rattle.bids.specs.Format.{packageAt, itemsOf, costOf}
+use borrow.Author.Needs.{needs}
 use Rattle.bids.proofs.Answers.{stored}
 use Rattle.bids.proofs.Laws.{over, over-zero, over-more, over-long}
 use Rattle.bids.proofs.Records.{items-read, school-read, cost-read}
@@ -10,27 +11,14 @@ use Rattle.bids.proofs.fill.Statement.{statement}
 use Rattle.bids.proofs.fill.Tie as tie
 
 abbrev Inv-loop : tie.InvT-loop
-Inv-loop file s n packages₀ costs₀ c₀ k₀ packages costs c k = (k ≤ n) × (c .at ≡ packageAt s k) × (packages ≡ over (listed (itemsOf file s) k) packages₀) × (costs ≡ over (listed (costOf file s) k) costs₀)
+Inv-loop file s n packages₀ costs₀ c₀ k₀ packages costs c k = (k ≤ n) × (c .at ≡ packageAt s k) × (packages ≡ over (listed (itemsOf file s) k) packages₀) ×
+    (costs ≡ over (listed (costOf file s) k) costs₀)
 
 abbrev μ-loop : tie.MeasureT-loop
 μ-loop file s n packages₀ costs₀ c₀ k₀ packages costs c k = n - k
 
-mul-t10 : tie.Need-mul-t10 Inv-loop μ-loop
-mul-t10 c = omega (arith, c .before .before .before .pre .0 .few .0)
-
-add-t11 : tie.Need-add-t11 Inv-loop μ-loop
-add-t11 c = omega (arith, c .before .before .before .pre .0 .few .0)
-
 loop-holds : tie.Need-loop-holds Inv-loop μ-loop
-loop-holds c =
-    let a = c .before .before .before .args in
-    (omega arith, omega arith, over-zero (itemsOf (a .file .now) (a .s)) (a .packages .now), over-zero (costOf (a .file .now) (a .s)) (a .costs .now))
-
-school-index-requires : tie.Need-school-index-requires Inv-loop μ-loop
-school-index-requires c κs = omega (arith, c .before .before .before .before .before .pre .0 .long)
-
-package-record-requires : tie.Need-package-record-requires Inv-loop μ-loop
-package-record-requires c κs = omega (arith, c .before .before .before .before .before .before .pre .0 .long)
+loop-holds c = (omega arith, omega arith, over-zero _ _, over-zero _ _)
 
 items-of-requires : tie.Need-items-of-requires Inv-loop μ-loop
 items-of-requires c κs =
@@ -42,35 +30,15 @@ items-of-requires c κs =
       rw (items-read (a .file .now) (a .s) k (loop .c .at) (loop .inv .1) (c .before .school-index .ensures) (c .package-record .ensures .slots)) (p .inside k (loop-test .taken)),
     )
 
-mul-packages : tie.Need-mul-packages Inv-loop μ-loop
-mul-packages c = omega (arith, c .before .before .before .before .before .before .before .before .pre .0 .few .1)
-
 slice-write-packages : tie.Need-slice-write-packages Inv-loop μ-loop
 slice-write-packages c =
-    let here = c .before .before .before .before in let loop = here .loop in let args = here .before .before .before .before .args in
-    omega (arith, c .before .before .before .before .before .before .before .before .pre .1 .0, over-long (listed (itemsOf (args .file .now) (args .s)) (loop .k)) (args .packages .now) (loop .inv .2))
-
-cast-costs : tie.Need-cast-costs Inv-loop μ-loop
-cast-costs c = omega (arith, c .before .before .package-record .ensures .small)
-
-mul-costs : tie.Need-mul-costs Inv-loop μ-loop
-mul-costs c = omega (arith, c .before .before .before .before .before .before .before .before .before .pre .0 .few .1)
+    let here = c .before .before .before .before in
+    omega (arith, here .before .before .before .before .pre .1 .0, over-long _ _ (here .loop .inv .2))
 
 slice-write-costs : tie.Need-slice-write-costs Inv-loop μ-loop
 slice-write-costs c =
-    let here = c .before .before .before .before .before in let loop = here .loop in let args = here .before .before .before .before .args in
-    omega (
-      arith,
-      c .before .before .before .before .before .before .before .before .before .pre .1 .1,
-      over-long (listed (costOf (args .file .now) (args .s)) (loop .k)) (args .costs .now)
-          (loop .inv .3),
-    )
-
-add-k : tie.Need-add-k Inv-loop μ-loop
-add-k c = omega arith
-
-loop-less : tie.Need-loop-less Inv-loop μ-loop
-loop-less c = omega arith
+    let here = c .before .before .before .before .before in
+    omega (arith, here .before .before .before .before .pre .1 .1, over-long _ _ (here .loop .inv .3))
 
 loop-again : tie.Need-loop-again Inv-loop μ-loop
 loop-again c =
@@ -87,14 +55,10 @@ loop-again c =
     )
 
 same-length : tie.Need-same-length Inv-loop μ-loop
-same-length c =
-    let args = c .before .before .before .before .before .args in
-    over-long (listed (itemsOf (args .file .now) (args .s)) (c .before .loop .k)) (args .packages .now) (c .before .loop .inv .2)
+same-length c = over-long _ _ (c .before .loop .inv .2)
 
 same-length-2 : tie.Need-same-length-2 Inv-loop μ-loop
-same-length-2 c =
-    let args = c .before .before .before .before .before .args in
-    over-long (listed (costOf (args .file .now) (args .s)) (c .before .loop .k)) (args .costs .now) (c .before .loop .inv .3)
+same-length-2 c = over-long _ _ (c .before .loop .inv .3)
 
 returns : tie.Need-returns Inv-loop μ-loop
 returns c =
@@ -111,19 +75,19 @@ fill-spec =
     (tie.spec
     Inv-loop
     μ-loop
-    mul-t10
-    add-t11
+    (λ c. search needs)
+    (λ c. search needs)
     loop-holds
-    school-index-requires
-    package-record-requires
+    (λ c κs. search needs)
+    (λ c κs. search needs)
     items-of-requires
-    mul-packages
+    (λ c. search needs)
     slice-write-packages
-    cast-costs
-    mul-costs
+    (λ c. search needs)
+    (λ c. search needs)
     slice-write-costs
-    add-k
-    loop-less
+    (λ c. search needs)
+    (λ c. search needs)
     loop-again
     same-length
     same-length-2

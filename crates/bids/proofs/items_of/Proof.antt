@@ -1,10 +1,7 @@
+use borrow.Author.Needs.{needs}
 use Rattle.bids.proofs.Shifts.{shift-small, school-alone, both-parts}
-use native.Mathlib.Omega.{arith}
 use Rattle.bids.proofs.items_of.Statement.{statement}
 use Rattle.bids.proofs.items_of.Tie as tie
-
-shl-school : tie.Need-shl-school
-shl-school c = omega arith
 
 returns : tie.Need-returns
 returns c =
@@ -18,12 +15,6 @@ shl-result c =
     let p = c .before .pre in
     shift-small (a .j) (a .s) (a .slots) (p .0 .0) (p .0 .1) (p .1) (c .if1 .left)
 
-add-result : tie.Need-add-result
-add-result c =
-    let a = c .before .args in
-    let p = c .before .pre in
-    record { fits = rw (both-parts (a .j) (a .s) (a .slots) (p .0 .0) (p .0 .1) (p .1)) (p .1) }
-
 returns-2 : tie.Need-returns-2
 returns-2 c =
     let a = c .before .args in
@@ -31,4 +22,4 @@ returns-2 c =
     both-parts (a .j) (a .s) (a .slots) (p .0 .0) (p .0 .1) (p .1)
 
 pub items-of-spec : {M : Type 1} → statement M
-items-of-spec = tie.close (tie.spec shl-school returns shl-result add-result returns-2)
+items-of-spec = tie.close (tie.spec (λ c. search needs) returns shl-result (λ c. search needs) returns-2)

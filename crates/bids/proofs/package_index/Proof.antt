@@ -1,7 +1,7 @@
 use native.Mathlib.Omega.{arith}
 use mathlib.Core.Path.{_≡_, sym, _∙_}
 use Prim.Native.Nat.{ℕ, _≤_, _-_}
-use Rattle.bids.specs.Format.{packageAt, packageIn, samePackage}
+use Rattle.bids.specs.Format.{packageAt, packageIn}
 use Rattle.bids.specs.Contract.{PackagePost}
 use Rattle.bids.proofs.Laws.{first-zero, first-hit, first-more}
 use Rattle.bids.proofs.Records.{same-package}
@@ -15,38 +15,26 @@ Inv-loop file s n wanted c₀ k₀ c k = (k ≤ n) × (c .at ≡ packageAt s k) 
 abbrev μ-loop : tie.MeasureT-loop
 μ-loop file s n wanted c₀ k₀ c k = n - k
 
-package-record-requires : tie.Need-package-record-requires Inv-loop μ-loop
-package-record-requires c κs = omega arith
-
 loop-holds : tie.Need-loop-holds Inv-loop μ-loop
 unfolding packageIn
-loop-holds c = (omega arith, omega arith, λ x p. first-zero (λ j. samePackage (c .before .before .args .file .now) (packageAt (c .before .before .args .s) j) x))
-
-package-record-requires-2 : tie.Need-package-record-requires-2 Inv-loop μ-loop
-package-record-requires-2 c κs = omega (arith, c .before .before .before .before .pre .0)
+loop-holds c = (omega arith, omega arith, λ x p. first-zero _)
 
 returns : tie.Need-returns Inv-loop μ-loop
 unfolding packageIn
 returns c =
-    let here = c .before .before .before .before in let loop = here .loop in let package-record = here .before .package-record in let args = here .before .before .before .args in
-    let b = args .file .now in
-    let x = args .key .at in
-    sym (first-hit (λ j. samePackage b (packageAt (args .s) j) x) (args .n) (loop .k) (c .before .before .before .loop-test .taken) (loop .inv .2 x (package-record .ensures))
-    (same-package b (loop .inv .1) (c .before .before .package-record2 .ensures) (package-record .ensures) (c .before .same-package .ensures) ∙ c .if1 .taken))
-
-loop-less : tie.Need-loop-less Inv-loop μ-loop
-loop-less c = omega arith
+    let here = c .before .before .before .before in let loop = here .loop in let args = here .before .before .before .args in
+    let p = here .before .package-record .ensures in
+    sym (first-hit _ (args .n) (loop .k) (c .before .before .before .loop-test .taken) (loop .inv .2 (args .key .at) p)
+    (same-package (loop .inv .1) (c .before .before .package-record2 .ensures) p (c .before .same-package .ensures) ∙ c .if1 .taken))
 
 loop-again : tie.Need-loop-again Inv-loop μ-loop
 unfolding packageIn
 loop-again c =
-    let package-record2 = c .before .before .before .package-record2 in let loop = c .before .before .before .before .before .loop in
-    let args = c .before .before .before .before .before .before .before .before .args in
-    let b = args .file .now in (
+    let package-record2 = c .before .before .before .package-record2 in let loop = c .before .before .before .before .before .loop in (
       omega arith,
       omega (arith, package-record2 .ensures .next),
-      λ x p. first-more (λ j. samePackage b (packageAt (args .s) j) x) (loop .k) (loop .inv .2 x p)
-          (same-package b (loop .inv .1) (package-record2 .ensures) p (c .before .before .same-package .ensures) ∙ c .before .if1 .left),
+      λ x p. first-more _ (loop .k) (loop .inv .2 x p)
+          (same-package (loop .inv .1) (package-record2 .ensures) p (c .before .before .same-package .ensures) ∙ c .before .if1 .left),
     )
 
 returns-2 : tie.Need-returns-2 Inv-loop μ-loop
@@ -60,14 +48,14 @@ package-index-spec =
     (tie.spec
     Inv-loop
     μ-loop
-    package-record-requires
+    (λ c κs. search needs)
     (λ c. search needs)
     (λ c. search needs)
     loop-holds
-    package-record-requires-2
+    (λ c κs. search needs)
     (λ c κs. search needs)
     returns
     (λ c. search needs)
-    loop-less
+    (λ c. search needs)
     loop-again
     returns-2)

@@ -1,9 +1,9 @@
-use Rattle.bids.proofs.Answers.{by-file, few-places, few-costs, accepted, unwritten, items-stored, costs-stored}
-use Rattle.bids.proofs.Fit.{readable}
+use Rattle.bids.proofs.Answers.{by-file, few-places, few-costs, accepted, read-refused, items-stored, costs-stored}
+use Rattle.bids.proofs.Fit.{fillable}
 use Rattle.bids.proofs.Refused.{whole}
-use Rattle.bids.specs.Format.{refusal, packagesOf, costsOf}
+use Rattle.bids.specs.Format.{refusal}
 use Rattle.bids.specs.Format as F
-use Rattle.statement.proofs.TestLaws.{reply-refused, reply-gives}
+use Rattle.statement.proofs.TestLaws.{reply-gives}
 use lib.ListN.{length}
 use native.Mathlib.Omega.{arith}
 use mathlib.Core.Path.{sym, _∙_}
@@ -12,49 +12,26 @@ use Rattle.bids.proofs.read.Statement.{statement}
 use Rattle.bids.proofs.read.Tie as tie
 
 returns : tie.Need-returns
-returns c =
-    let a = c .before .before .before .before .before .args in
-    let b = a .file .now in
-    let e = by-file b (length (a .packages .now)) (length (a .costs .now)) (c .before .refusal .ensures) (c .if1 .taken) in
-    record {
-      answer = reply-refused (c .before .refusal .result) (F.schools b, (F.slots b, F.packages b)) e (c .if1 .taken);
-      items = unwritten (c .before .refusal .result) (packagesOf b) (a .packages .now) e (c .if1 .taken);
-      costs = unwritten (c .before .refusal .result) (costsOf b) (a .costs .now) e (c .if1 .taken);
-    }
+returns c = read-refused (by-file _ _ _ (c .before .refusal .ensures) (c .if1 .taken)) (c .if1 .taken)
 
 read-header-requires : tie.Need-read-header-requires
 read-header-requires c κs = whole (c .before .before .before .before .before .args .file .now) (sym (c .before .refusal .ensures) ∙ c .if1 .left)
 
 returns-2 : tie.Need-returns-2
 returns-2 c =
-    let a = c .before .before .before .before .before .before .before .before .before .args in
-    let b = a .file .now in
-    let e = few-places b (length (a .packages .now)) (length (a .costs .now)) (sym (c .before .before .before .before .before .refusal .ensures) ∙ c .before .before .before .before .if1 .left)
-    (omega (arith, c .before .before .before .read-header .ensures .packages, c .if2 .taken)) in
-    record {
-      answer = reply-refused 15 (F.schools b, (F.slots b, F.packages b)) e (λ z. omega arith);
-      items = unwritten 15 (packagesOf b) (a .packages .now) e (λ z. omega arith);
-      costs = unwritten 15 (costsOf b) (a .costs .now) e (λ z. omega arith);
-    }
+    let z = sym (c .before .before .before .before .before .refusal .ensures) ∙ c .before .before .before .before .if1 .left in
+    read-refused (few-places _ _ _ z (omega (arith, c .before .before .before .read-header .ensures .packages, c .if2 .taken))) (λ z. omega arith)
 
 returns-3 : tie.Need-returns-3
 returns-3 c =
-    let a = c .before .before .before .before .before .before .before .before .before .before .args in
-    let b = a .file .now in
-    let e = few-costs b (length (a .packages .now)) (length (a .costs .now))
-    (sym (c .before .before .before .before .before .before .refusal .ensures) ∙ c .before .before .before .before .before .if1 .left)
-    (omega (arith, c .before .before .before .before .read-header .ensures .packages, c .if3 .taken)) in
-    record {
-      answer = reply-refused 15 (F.schools b, (F.slots b, F.packages b)) e (λ z. omega arith);
-      items = unwritten 15 (packagesOf b) (a .packages .now) e (λ z. omega arith);
-      costs = unwritten 15 (costsOf b) (a .costs .now) e (λ z. omega arith);
-    }
+    let z = sym (c .before .before .before .before .before .before .refusal .ensures) ∙ c .before .before .before .before .before .if1 .left in
+    read-refused (few-costs _ _ _ z (omega (arith, c .before .before .before .before .read-header .ensures .packages, c .if3 .taken))) (λ z. omega arith)
 
 fill-requires : tie.Need-fill-requires
 fill-requires c κs =
     let args = c .before .before .before .before .before .before .before .before .before .before .before .before .before .args in
     let p = c .before .before .before .before .before .before .before .read-header .ensures in (
-      readable (args .file .now) (sym (c .before .before .before .before .before .before .before .before .before .refusal .ensures) ∙
+      fillable (args .file .now) (sym (c .before .before .before .before .before .before .before .before .before .refusal .ensures) ∙
           c .before .before .before .before .before .before .before .before .if1 .left) (c .before .before .wide .ensures ∙ p .schools) (p .packages),
       (omega (arith, c .before .before .before .before .if2 .left), omega (arith, c .before .before .before .if3 .left)),
     )
@@ -65,8 +42,7 @@ returns-4 c =
     let read-header = here .before .before .before .before .before .before .before .before .read-header in
     let if1 = here .before .before .before .before .before .before .before .before .before .if1 in
     let refusal′ = here .before .before .before .before .before .before .before .before .before .before .refusal in
-    let args = here .before .before .before .before .before .before .before .before .before .before .before .before .before .before .args in
-    let a = args in
+    let a = here .before .before .before .before .before .before .before .before .before .before .before .before .before .before .args in
     let b = a .file .now in
     let p = read-header .ensures in
     let e = accepted b (length (a .packages .now)) (length (a .costs .now)) (sym (refusal′ .ensures) ∙ if1 .left)

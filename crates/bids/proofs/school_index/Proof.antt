@@ -1,7 +1,7 @@
 use native.Mathlib.Omega.{arith}
 use mathlib.Core.Path.{_≡_, sym, _∙_}
 use Prim.Native.Nat.{ℕ, _≤_, _-_}
-use Rattle.bids.specs.Format.{schoolAt, schoolIn, sameSchool}
+use Rattle.bids.specs.Format.{schoolAt, schoolIn}
 use Rattle.bids.proofs.Laws.{first-zero, first-hit, first-more}
 use Rattle.bids.proofs.Records.{Names, names, same-school}
 use borrow.Author.Needs.{needs}
@@ -14,38 +14,26 @@ Inv-loop file n wanted c₀ j₀ c j = (j ≤ n) × (c .at ≡ schoolAt j) × ((
 abbrev μ-loop : tie.MeasureT-loop
 μ-loop file n wanted c₀ j₀ c j = n - j
 
-school-record-requires : tie.Need-school-record-requires Inv-loop μ-loop
-school-record-requires c κs = omega arith
-
 loop-holds : tie.Need-loop-holds Inv-loop μ-loop
 unfolding schoolIn
-loop-holds c = (omega arith, omega arith, λ x p. first-zero (λ j. sameSchool (c .before .before .before .args .file .now) (schoolAt j) x))
-
-school-record-requires-2 : tie.Need-school-record-requires-2 Inv-loop μ-loop
-school-record-requires-2 c κs = omega (arith, c .before .before .before .before .before .pre .0)
+loop-holds c = (omega arith, omega arith, λ x p. first-zero _)
 
 returns : tie.Need-returns Inv-loop μ-loop
 unfolding schoolIn
 returns c =
-    let here = c .before .before .before .before .before in let loop = here .loop in let school-record = here .before .before .school-record in
-    let args = here .before .before .before .before .args in
-    let b = args .file .now in
-    let x = args .key .at in
-    sym (first-hit (λ j. sameSchool b (schoolAt j) x) (args .n) (loop .j) (c .before .before .before .before .loop-test .taken) (loop .inv .2 x (names (school-record .ensures)))
-    (same-school b (loop .inv .1) (c .before .before .before .school-record2 .ensures) (names (school-record .ensures)) (c .before .same-school .ensures) ∙ c .if1 .taken))
-
-loop-less : tie.Need-loop-less Inv-loop μ-loop
-loop-less c = omega arith
+    let here = c .before .before .before .before .before in let loop = here .loop in let args = here .before .before .before .before .args in
+    let p = names (here .before .before .school-record .ensures) in
+    sym (first-hit _ (args .n) (loop .j) (c .before .before .before .before .loop-test .taken) (loop .inv .2 (args .key .at) p)
+    (same-school (loop .inv .1) (c .before .before .before .school-record2 .ensures) p (c .before .same-school .ensures) ∙ c .if1 .taken))
 
 loop-again : tie.Need-loop-again Inv-loop μ-loop
 unfolding schoolIn
 loop-again c =
-    let here = c .before .before .before .before in let school-record2 = here .school-record2 in let loop = here .before .before .loop in
-    let b = c .before .before .before .before .before .before .before .before .before .before .args .file .now in (
+    let here = c .before .before .before .before in let school-record2 = here .school-record2 in let loop = here .before .before .loop in (
       omega arith,
       omega (arith, school-record2 .ensures .next),
-      λ x p. first-more (λ j. sameSchool b (schoolAt j) x) (loop .j) (loop .inv .2 x p)
-          (same-school b (loop .inv .1) (school-record2 .ensures) p (c .before .before .same-school .ensures) ∙ c .before .if1 .left),
+      λ x p. first-more _ (loop .j) (loop .inv .2 x p)
+          (same-school (loop .inv .1) (school-record2 .ensures) p (c .before .before .same-school .ensures) ∙ c .before .if1 .left),
     )
 
 returns-2 : tie.Need-returns-2 Inv-loop μ-loop
@@ -59,12 +47,12 @@ school-index-spec =
     (tie.spec
     Inv-loop
     μ-loop
-    school-record-requires
+    (λ c κs. search needs)
     loop-holds
-    school-record-requires-2
+    (λ c κs. search needs)
     (λ c κs. search needs)
     returns
     (λ c. search needs)
-    loop-less
+    (λ c. search needs)
     loop-again
     returns-2)

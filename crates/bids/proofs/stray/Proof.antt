@@ -10,65 +10,45 @@ use Rattle.bids.proofs.stray.Statement.{statement}
 use Rattle.bids.proofs.stray.Tie as tie
 
 abbrev Inv-loop : tie.InvT-loop
-Inv-loop file s t n c₀ k₀ c k = (k ≤ n) × ((c .at ≡ packageAt s k) × (first (λ i. strayb file s t i) k ≡ k))
+Inv-loop file s t n c₀ k₀ c k = (k ≤ n) × (c .at ≡ packageAt s k) × (first (λ i. strayb file s t i) k ≡ k)
 
 abbrev μ-loop : tie.MeasureT-loop
 μ-loop file s t n c₀ k₀ c k = n - k
 
 loop-holds : tie.Need-loop-holds Inv-loop μ-loop
-loop-holds c = (omega arith, (omega arith, first-zero (λ j. strayb (c .before .args .file .now) (c .before .args .s) (c .before .args .t) j)))
-
-school-index-requires : tie.Need-school-index-requires Inv-loop μ-loop
-school-index-requires c κs = omega (arith, c .before .before .before .pre .0)
+loop-holds c = (omega arith, omega arith, first-zero _)
 
 returns : tie.Need-returns Inv-loop μ-loop
 unfolding stray
 returns c =
     let loop = c .before .before .before .loop in
     let a = c .before .before .before .before .before .args in
-    sym (some-hit (λ j. strayb (a .file .now) (a .s) (a .t) j) (a .n) (loop .k) (c .before .before .loop-test .taken) (loop .inv .1 .1)
-    (unlisted (a .file .now) (a .s) (loop .k) (loop .c .at) (loop .inv .1 .0) (a .t) (c .before .school-index .ensures) (c .if1 .taken)))
-
-package-record-requires : tie.Need-package-record-requires Inv-loop μ-loop
-package-record-requires c κs = omega (arith, c .before .before .before .before .before .pre .0)
-
-below-requires : tie.Need-below-requires Inv-loop μ-loop
-below-requires c κs = omega (arith, c .before .before .before .before .before .before .pre .1)
+    sym (some-hit _ (a .n) (loop .k) (c .before .before .loop-test .taken) (loop .inv .2)
+    (unlisted (a .file .now) (a .s) (loop .k) (loop .c .at) (loop .inv .1) (a .t) (c .before .school-index .ensures) (c .if1 .taken)))
 
 returns-2 : tie.Need-returns-2 Inv-loop μ-loop
 unfolding stray
 returns-2 c =
     let loop = c .before .before .before .before .before .before .loop in
     let a = c .before .before .before .before .before .before .before .before .args in
-    sym (some-hit (λ j. strayb (a .file .now) (a .s) (a .t) j) (a .n) (loop .k) (c .before .before .before .before .before .loop-test .taken) (loop .inv .1 .1)
-    (outside (a .file .now) (a .s) (loop .k) (loop .c .at) (loop .inv .1 .0) (a .t) (c .before .before .before .before .school-index .ensures) (c .before .before .before .if1 .left)
+    sym (some-hit _ (a .n) (loop .k) (c .before .before .before .before .before .loop-test .taken) (loop .inv .2)
+    (outside (a .file .now) (a .s) (loop .k) (loop .c .at) (loop .inv .1) (a .t) (c .before .before .before .before .school-index .ensures) (c .before .before .before .if1 .left)
     (c .before .before .package-record .ensures .slots) (c .before .below .ensures) ∙ c .if2 .taken))
-
-add-k : tie.Need-add-k Inv-loop μ-loop
-add-k c = omega arith
-
-loop-less : tie.Need-loop-less Inv-loop μ-loop
-loop-less c = omega arith
 
 loop-again : tie.Need-loop-again Inv-loop μ-loop
 loop-again c =
     let package-record = c .before .before .before .package-record in let loop = c .before .before .before .before .before .before .before .loop in
     let a = c .before .before .before .before .before .before .before .before .before .args in (
       omega arith,
-      (
-        omega (arith, package-record .ensures .next),
-        first-more (λ j. strayb (a .file .now) (a .s) (a .t) j) (loop .k) (loop .inv .1 .1)
-            (outside (a .file .now) (a .s) (loop .k) (loop .c .at) (loop .inv .1 .0) (a .t) (c .before .before .before .before .before .school-index .ensures)
-            (c .before .before .before .before .if1 .left) (package-record .ensures .slots) (c .before .before .below .ensures) ∙ c .before .if2 .left),
-      ),
+      omega (arith, package-record .ensures .next),
+      first-more _ (loop .k) (loop .inv .2)
+          (outside (a .file .now) (a .s) (loop .k) (loop .c .at) (loop .inv .1) (a .t) (c .before .before .before .before .before .school-index .ensures)
+          (c .before .before .before .before .if1 .left) (package-record .ensures .slots) (c .before .before .below .ensures) ∙ c .before .if2 .left),
     )
 
 returns-3 : tie.Need-returns-3 Inv-loop μ-loop
 unfolding stray
-returns-3 c =
-    let a = c .before .before .before .args in
-    let e : c .before .loop .k ≡ c .before .before .before .args .n = omega arith in
-    sym (some-none (λ j. strayb (a .file .now) (a .s) (a .t) j) (a .n) (rw e at (c .before .loop .inv .1 .1)))
+returns-3 c = sym (some-none _ (c .before .before .before .args .n) (c .before .loop .k) (omega arith) (c .before .loop .inv .2))
 
 pub stray-spec : {M : Type 1} → statement M
 stray-spec =
@@ -79,12 +59,12 @@ stray-spec =
     (λ c. search needs)
     (λ c. search needs)
     loop-holds
-    school-index-requires
+    (λ c κs. search needs)
     returns
-    package-record-requires
-    below-requires
+    (λ c κs. search needs)
+    (λ c κs. search needs)
     returns-2
-    add-k
-    loop-less
+    (λ c. search needs)
+    (λ c. search needs)
     loop-again
     returns-3)

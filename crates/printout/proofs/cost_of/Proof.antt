@@ -18,9 +18,6 @@ abbrev μ-loop : tie.MeasureT-loop
 loop-holds : tie.Need-loop-holds Inv-loop μ-loop
 loop-holds c = (omega arith, cost-none (c .before .before .args .costs .now) (c .before .before .args .list .now), omega arith)
 
-add-sum : tie.Need-add-sum Inv-loop μ-loop
-add-sum c = omega (arith, c .price .ensures .1, c .before .before .before .before .before .before .pre)
-
 loop-again : tie.Need-loop-again Inv-loop μ-loop
 loop-again c =
     let loop = c .before .before .before .loop in let args = c .before .before .before .before .before .before .args in (
@@ -45,7 +42,7 @@ cost-of-spec =
     (λ c. search needs)
     (λ c. search needs)
     (λ c κs. search needs)
-    add-sum
+    (λ c. search needs)
     (λ c. search needs)
     (λ c. search needs)
     loop-again

@@ -1,6 +1,5 @@
-use Prim.Native.Nat.{ℕ}
 use lib.Seq.{length-take-le}
-use lib.ListN.{length, length-replicate}
+use lib.ListN.{length}
 use native.Mathlib.Omega.{arith}
 use mathlib.Core.Path.{sym, ap, ap₂, _∙_}
 use Rattle.printout.proofs.Sheets.{from-start, holds-same, read-said, read-gave}
@@ -12,51 +11,40 @@ use Rattle.printout.proofs.lines.Tie as tie
 
 array-share-prefix-packages : tie.Need-array-share-prefix-packages
 array-share-prefix-packages c =
-    let g = read-gave (c .before .before .before .before .before .before .before .before .before .args .file .now) (length-replicate {A = ℕ} 512 0) (length-replicate {A = ℕ} 512 0)
-    (c .before .before .before .before .before .read .ensures) _ _ _ (c .before .reading2 .given .1) in
+    let g = read-gave (c .before .before .before .before .before .read .ensures) (c .before .reading2 .given .1) in
     omega (arith, g .few, c .before .before .before .before .packages2 .given)
 
 slice-aggregate-put-solution : tie.Need-slice-aggregate-put-solution
 slice-aggregate-put-solution c =
     let read = c .before .before .before .before .before .before .read in
-    let g = read-gave (c .before .before .before .before .before .before .before .before .before .before .args .file .now) (length-replicate {A = ℕ} 512 0) (length-replicate {A = ℕ} 512 0)
-    (read .ensures) _ _ _ (c .before .before .reading2 .given .1) in
+    let g = read-gave (read .ensures) (c .before .before .reading2 .given .1) in
     sym (length-take-le _ (read .last .1 .0) (omega (arith, g .few, c .before .before .before .before .before .packages2 .given)))
 
 array-share-prefix-costs : tie.Need-array-share-prefix-costs
 array-share-prefix-costs c =
-    let g = read-gave (c .before .before .before .before .before .before .before .before .before .before .args .file .now) (length-replicate {A = ℕ} 512 0) (length-replicate {A = ℕ} 512 0)
-    (c .before .before .before .before .before .before .read .ensures) _ _ _ (c .before .before .reading2 .given .1) in
+    let g = read-gave (c .before .before .before .before .before .before .read .ensures) (c .before .before .reading2 .given .1) in
     omega (arith, g .few, c .before .before .before .before .costs2 .given)
 
 slice-aggregate-put-solution-2 : tie.Need-slice-aggregate-put-solution-2
 slice-aggregate-put-solution-2 c =
     let read = c .before .before .before .before .before .before .before .read in
-    let g = read-gave (c .before .before .before .before .before .before .before .before .before .before .before .args .file .now) (length-replicate {A = ℕ} 512 0)
-    (length-replicate {A = ℕ} 512 0) (read .ensures) _ _ _ (c .before .before .before .reading2 .given .1) in
+    let g = read-gave (read .ensures) (c .before .before .before .reading2 .given .1) in
     sym (length-take-le _ (read .last .1 .1 .0) (omega (arith, g .few, c .before .before .before .before .before .costs2 .given)))
 
 put-solution-requires : tie.Need-put-solution-requires
 put-solution-requires c κs =
-    let args = c .before .before .before .before .before .before .before .before .before .before .before .before .args in
-    let g = read-gave (args .file .now) (length-replicate {A = ℕ} 512 0) (length-replicate {A = ℕ} 512 0) (c .before .before .before .before .before .before .before .before .read .ensures) _ _ _
-    (c .before .before .before .before .reading2 .given .1) in
+    let g = read-gave (c .before .before .before .before .before .before .before .before .read .ensures) (c .before .before .before .before .reading2 .given .1) in
     (ap length (g .costs) ∙ g .same-long ∙ sym (ap length (g .items)), g .small)
 
 returns : tie.Need-returns
 returns c =
-    let b = c .before .before .before .before .before .before .before .before .before .before .before .args .file .now in
-    whole b (omega (arith, c .put-refused .kept)) (holds-same
-    (read-said b (length-replicate {A = ℕ} 512 0) (length-replicate {A = ℕ} 512 0) (c .before .before .before .before .before .before .before .read .ensures) _
-    (c .before .before .before .reading .given .1)) (from-start (c .put-refused .ensures)))
+    whole _ (omega (arith, c .put-refused .kept))
+    (holds-same (read-said (c .before .before .before .before .before .before .before .read .ensures) (c .before .before .before .reading .given .1)) (from-start (c .put-refused .ensures)))
 
 returns-2 : tie.Need-returns-2
 returns-2 c =
-    let args = c .before .before .before .before .before .before .before .before .before .before .before .before .before .args in
-    let b = args .file .now in
-    let g = read-gave b (length-replicate {A = ℕ} 512 0) (length-replicate {A = ℕ} 512 0) (c .before .before .before .before .before .before .before .before .before .read .ensures) _ _ _
-    (c .before .before .before .before .before .reading2 .given .1) in
-    whole b (omega (arith, c .put-solution .kept)) (holds-same (ap₂ (solved _ _) (g .items) (g .costs) ∙ g .text) (c .put-solution .ensures))
+    let g = read-gave (c .before .before .before .before .before .before .before .before .before .read .ensures) (c .before .before .before .before .before .reading2 .given .1) in
+    whole _ (omega (arith, c .put-solution .kept)) (holds-same (ap₂ (solved _ _) (g .items) (g .costs) ∙ g .text) (c .put-solution .ensures))
 
 pub lines-spec : {M : Type 1} → statement M
 lines-spec =

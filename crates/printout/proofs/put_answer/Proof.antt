@@ -1,6 +1,6 @@
 use Rattle.printout.proofs.Sheets.{from-start, holds-same, said, unsaid, few-of}
 use Rattle.printout.proofs.Asking.{count-left, was-given, was-refused}
-use Rattle.printout.specs.Program.{answerText, sheet, Answerable}
+use Rattle.printout.specs.Program.{answerText, sheet, Askable}
 use Rattle.statement.specs.Replies.{countReply}
 use Rattle.statement.specs.Refusals.{countRefusal}
 use Rattle.query.specs.Questions.{familyAt}
@@ -13,13 +13,12 @@ use Rattle.printout.proofs.put_answer.Tie as tie
 
 put-sheet-requires : tie.Need-put-sheet-requires
 put-sheet-requires c κs =
-    let here = c .before .before .before .before .before .before .before .before .before .before .before .before .before .before .before in let args = here .args in let pre = here .pre in
-    let a = args in
+    let here = c .before .before .before .before .before .before .before .before .before .before .before .before .before .before .before in let a = here .args in let pre = here .pre in
     let k = count-left (pre .0) in
     let q = was-given _ (countRefusal (a .packages .now) (a .c .s + a .c .t) (a .table .now) (a .c .answer) (length (a .work .now))) (length (familyAt (a .table .now) (a .c .answer)))
     (sym (ap countReply (c .before .before .before .counted2 .given .1)) ∙ c .before .before .before .before .before .before .before .count .ensures .result) in (
       record {
-        answerable = subst⁻¹ (λ (w : ℕ). Answerable (a .packages .now) (a .c .s + a .c .t) (a .table .now) (a .c .answer) w) (c .before .before .before .before .before .before .work .given) (pre .0);
+        askable = subst⁻¹ (λ (w : ℕ). Askable (a .packages .now) (a .c .s + a .c .t) (a .table .now) (a .c .answer) w) (c .before .before .before .before .before .before .work .given) (pre .0);
         few = few-of (familyAt (a .table .now) (a .c .answer)) (sym k ∙ q .0);
       },
       (pre .1 .0, (q .1, pre .1 .1)),
@@ -28,9 +27,8 @@ put-sheet-requires c κs =
 returns : tie.Need-returns
 unfolding answerText
 returns c =
-    let here = c .before .before .before .before .before .before .before .before .before .before .before .before .before .before .before .before .before in let args = here .args in
+    let here = c .before .before .before .before .before .before .before .before .before .before .before .before .before .before .before .before .before in let a = here .args in
     let pre = here .pre in
-    let a = args in
     let k = count-left (pre .0) in
     let q = was-refused _ (countRefusal (a .packages .now) (a .c .s + a .c .t) (a .table .now) (a .c .answer) (length (a .work .now))) (length (familyAt (a .table .now) (a .c .answer)))
     (sym (ap countReply (c .before .before .before .before .before .counted .given .1)) ∙ c .before .before .before .before .before .before .before .before .before .count .ensures .result) in
@@ -41,8 +39,7 @@ returns-2 : tie.Need-returns-2
 unfolding answerText
 returns-2 c =
     let here = c .before .before .before .before .before .before .before .before .before .before .before .before in let count = here .count in
-    let args = here .before .before .before .before .before .before .before .before .args in let pre = here .before .before .before .before .before .before .before .before .pre in
-    let a = args in
+    let a = here .before .before .before .before .before .before .before .before .args in let pre = here .before .before .before .before .before .before .before .before .pre in
     let k = count-left (pre .0) in
     let q = was-given _ (countRefusal (a .packages .now) (a .c .s + a .c .t) (a .table .now) (a .c .answer) (length (a .work .now))) (length (familyAt (a .table .now) (a .c .answer)))
     (sym (ap countReply (c .before .before .before .before .before .before .before .before .counted2 .given .1)) ∙ count .ensures .result) in

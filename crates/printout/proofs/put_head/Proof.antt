@@ -7,18 +7,17 @@ use Rattle.printout.proofs.put_head.Tie as tie
 returns : tie.Need-returns
 unfolding head
 returns c =
-    let here = c .before .before .before .before .before .before .before .before .before .before .before .before in let put-field5 = here .put-field5 in
-    let put-field4 = here .before .before .before .before .before .put-field4 in
-    let put-field3 = here .before .before .before .before .before .before .before .before .before .before .put-field3 in
-    let put-field2 = here .before .before .before .before .before .before .before .before .before .before .before .before .before .before .before .put-field2 in
-    let put-field = here .before .before .before .before .before .before .before .before .before .before .before .before .before .before .before .before .before .before .before .before .put-field in
-    let args = here .before .before .before .before .before .before .before .before .before .before .before .before .before .before .before .before .before .before .before .before .before .before .before .before .args in
-    let a = args in
-    puts-then (field slotsWord (a .t)) (put-field .ensures)
-    (puts-then (field schoolsWord (a .s)) (put-field2 .ensures)
-    (puts-then (field packagesWord (a .n)) (put-field3 .ensures)
-    (puts-then (field nodesWord (a .made)) (put-field4 .ensures)
-    (puts-then (field stepsWord (a .steps)) (put-field5 .ensures)
+    let f5 = c .before .before .before .before .before .before .before .before .before .before .before .before in
+    let f4 = f5 .before .before .before .before .before in
+    let f3 = f4 .before .before .before .before .before in
+    let f2 = f3 .before .before .before .before .before in
+    let f1 = f2 .before .before .before .before .before in
+    let a = f1 .before .before .before .before .args in
+    puts-then (field slotsWord (a .t)) (f1 .put-field .ensures)
+    (puts-then (field schoolsWord (a .s)) (f2 .put-field2 .ensures)
+    (puts-then (field packagesWord (a .n)) (f3 .put-field3 .ensures)
+    (puts-then (field nodesWord (a .made)) (f4 .put-field4 .ensures)
+    (puts-then (field stepsWord (a .steps)) (f5 .put-field5 .ensures)
     (puts-then (field timetablesWord (a .count)) (c .before .before .before .before .before .before .before .put-field6 .ensures) (c .before .before .put-text .ensures))))))
 
 pub put-head-spec : {M : Type 1} → statement M

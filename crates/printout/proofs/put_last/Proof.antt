@@ -1,8 +1,8 @@
 use lib.Seq.{length-take-le}
 use Rattle.printout.proofs.Sheets.{last-none, last-some}
 use Rattle.printout.proofs.Asking.{priced-page, place-gives}
-use Rattle.printout.proofs.Putting.{puts-same}
-use Rattle.printout.specs.Text.{cheapestLine}
+use Rattle.printout.proofs.Putting.{puts-then, puts-same}
+use Rattle.printout.specs.Text.{cheapestLine, field, cheapestWord}
 use Rattle.query.specs.Questions.{familyAt, position, cheapest}
 use lib.ListN.{length}
 use Prim.Native.Nat.{_<_}
@@ -35,8 +35,10 @@ slice-aggregate-place c =
     sym (length-take-le (c .before .priced .result) (cheapest′ .last .1 .1 .1 .1 .1 .1 .0) (omega (arith, g .0, c .before .before .page2 .given)))
 
 returns-2 : tie.Need-returns-2
+unfolding cheapestLine
 returns-2 c =
-    let here = c .before .before .before .before in let placed = here .placed in let work = here .before .before .before .before .before .before .before .before .before .work in
+    let here = c .before .before .before .before .before .before .before .before .before .before in let placed = here .placed in
+    let work = here .before .before .before .before .before .before .before .before .before .work in
     let cheapest′ = here .before .before .before .before .before .before .before .before .before .before .cheapest in
     let if1 = here .before .before .before .before .before .before .before .before .before .before .before .before .before .if1 in
     let args = here .before .before .before .before .before .before .before .before .before .before .before .before .before .before .before .before .before .before .before .args in
@@ -44,10 +46,11 @@ returns-2 c =
     let C = args .costs .now in
     let F = familyAt (args .t .now) (args .a) in
     let l : 0 < length F = omega (arith, if1 .left, pre .1 .1) in
-    let g = priced-page (pre .0) C (pre .1 .0) l (omega arith) (cheapest′ .ensures) (c .before .before .before .before .before .before .before .before .before .before .priced .ensures) in
+    let g = priced-page (pre .0) C (pre .1 .0) l (omega arith) (cheapest′ .ensures) (here .before .before .before .before .before .before .priced .ensures) in
     let e : placed .result ≡ position (cheapest C F) F = placed .ensures (position (cheapest C F) F)
-    (place-gives (pre .0) C (pre .1 .0) l (g .1) (omega (arith, work .given)) (c .before .before .before .before .before .before .before .place .ensures)) in
-    puts-same (ap cheapestLine e ∙ last-some C F l) (c .before .before .put-cheapest .ensures)
+    (place-gives (pre .0) C (pre .1 .0) l (g .1) (omega (arith, work .given)) (here .before .before .before .place .ensures)) in
+    puts-same (ap cheapestLine e ∙ last-some C F l)
+    (puts-then (field cheapestWord (placed .result)) (c .before .before .before .before .before .before .before .put-field .ensures) (c .before .before .put-text2 .ensures))
 
 pub put-last-spec : {M : Type 1} → statement M
 put-last-spec =
@@ -64,6 +67,9 @@ put-last-spec =
     slice-aggregate-place
     (λ c κs. search needs)
     (λ c κs. search needs)
+    (λ c. search needs)
+    (λ c κs. search needs)
+    (λ c. search needs)
     (λ c κs. search needs)
     (λ c. search needs)
     (λ c. search needs)

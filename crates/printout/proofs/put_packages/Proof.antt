@@ -20,9 +20,6 @@ abbrev μ-loop : tie.MeasureT-loop
 loop-holds : tie.Need-loop-holds Inv-loop μ-loop
 loop-holds c = (omega arith, omega arith, puts-same (packages-none (c .before .before .args .list .now)) (puts-none (c .before .before .args .out .now) (c .before .before .args .at)))
 
-loop-less : tie.Need-loop-less Inv-loop μ-loop
-loop-less c = omega arith
-
 loop-again : tie.Need-loop-again Inv-loop μ-loop
 loop-again c =
     let here = c .before .before .before .before .before .before .before .before in let loop = here .loop in let args = here .before .before .before .args in (
@@ -33,9 +30,6 @@ loop-again c =
           (c .before .before .before .before .before .before .before .loop-test .taken))
           (puts-then (packagesText (take (loop .i) (args .list .now))) (loop .inv .2) (c .before .before .put-field .ensures)),
     )
-
-same-length : tie.Need-same-length Inv-loop μ-loop
-same-length c = c .before .loop .inv .1
 
 returns : tie.Need-returns Inv-loop μ-loop
 returns c = puts-same (ap packagesText (take-all (c .before .loop .i) (c .before .before .before .before .args .list .now) (omega (arith, c .loop-test .left)))) (c .before .loop .inv .2)
@@ -53,7 +47,7 @@ put-packages-spec =
     (λ c. search needs)
     (λ c κs. search needs)
     (λ c. search needs)
-    loop-less
+    (λ c. search needs)
     loop-again
-    same-length
+    (λ c. search needs)
     returns)

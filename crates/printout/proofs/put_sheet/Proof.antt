@@ -18,7 +18,8 @@ put-timetables-requires c κs =
 
 put-last-requires : tie.Need-put-last-requires
 put-last-requires c κs =
-    let here = c .before .before .before .before .before .before .before .before .before .before .before .before .before .before .before .before .before .before .before .before .before .before .before .before in
+    let least = c .before .before .before .before .before .before .before .before .before in
+    let here = least .before .before .before .before .before .before .before .before .before .before .before .before .before .before .before in
     let args = here .args in let pre = here .pre in (
       subst⁻¹ (λ (w : ℕ). Listable (args .packages .now) (args .c .s + args .c .t) (args .table .now) (args .c .answer) w) (c .before .before .before .before .before .work .given) (pre .0),
       (pre .1 .0, pre .1 .1 .0),
@@ -28,9 +29,8 @@ returns : tie.Need-returns
 returns c =
     let here = c .before .before .before .before .before .before .before .before .before .before .before .before .before .before in let least = here .least in
     let put-head = here .before .before .before .put-head in
-    let args = here .before .before .before .before .before .before .before .before .before .before .before .before .before .before .before .args in
+    let a = here .before .before .before .before .before .before .before .before .before .before .before .before .before .before .before .args in
     let pre = here .before .before .before .before .before .before .before .before .before .before .before .before .before .before .before .pre in
-    let a = args in
     let C = a .costs .now in
     let F = familyAt (a .table .now) (a .c .answer) in
     let q = puts-then (timetableLines C F (min (a .count) 10))

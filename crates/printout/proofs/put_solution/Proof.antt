@@ -10,8 +10,7 @@ use Rattle.printout.proofs.put_solution.Tie as tie
 
 put-answer-requires : tie.Need-put-answer-requires
 put-answer-requires c κs =
-    let here = c .before .before .before .before .before .before .before .before .before .before .before .before .before .before .before in let args = here .args in let pre = here .pre in
-    let a = args in
+    let here = c .before .before .before .before .before .before .before .before .before .before .before .before .before .before .before in let a = here .args in let pre = here .pre in
     let g = cover-gave (a .s) (a .t) (a .packages .now) (a .costs .now) is-blank (length-replicate {A = ℕ} 3604 0)
     (c .before .before .before .before .before .before .before .before .before .before .before .all-items .ensures)
     (c .before .before .before .before .before .before .before .before .cover .ensures) _ (pre .1) (ap outcomeReply (c .before .before .before .before .outcome2 .given .1)) in
@@ -20,8 +19,7 @@ put-answer-requires c κs =
 returns : tie.Need-returns
 returns c =
     let here = c .before .before .before .before .before .before .before .before .before .before .before .before in let all-items = here .all-items in
-    let args = here .before .before .before .before .args in
-    let a = args in
+    let a = here .before .before .before .before .args in
     holds-same (cover-said (a .s) (a .t) (a .packages .now) (a .costs .now) is-blank (length-replicate {A = ℕ} 3604 0) (all-items .ensures)
     (c .before .before .before .before .before .before .before .before .before .cover .ensures) _ (ap outcomeReply (c .before .before .before .before .before .outcome .given .1)))
     (from-start (c .before .before .put-refused .ensures))
@@ -29,9 +27,8 @@ returns c =
 returns-2 : tie.Need-returns-2
 returns-2 c =
     let here = c .before .before .before .before .before .before .before .before .before .before .before .before in let cover = here .cover in
-    let all-items = here .before .before .before .all-items in let args = here .before .before .before .before .before .before .before .args in
+    let all-items = here .before .before .before .all-items in let a = here .before .before .before .before .before .before .before .args in
     let pre = here .before .before .before .before .before .before .before .pre in
-    let a = args in
     let g = cover-gave (a .s) (a .t) (a .packages .now) (a .costs .now) is-blank (length-replicate {A = ℕ} 3604 0) (all-items .ensures) (cover .ensures) _ (pre .1)
     (ap outcomeReply (c .before .before .before .before .before .before .before .before .outcome2 .given .1)) in
     holds-same (g .1) (c .before .before .before .put-answer .ensures)

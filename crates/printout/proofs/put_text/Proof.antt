@@ -27,9 +27,6 @@ loop-again c =
           (puts-then (take (loop .i) (args .text .now)) (loop .inv .2) (c .before .before .put-byte .ensures)),
     )
 
-same-length : tie.Need-same-length Inv-loop μ-loop
-same-length c = c .before .loop .inv .1
-
 returns : tie.Need-returns Inv-loop μ-loop
 returns c = puts-same (take-all (c .before .loop .i) (c .before .before .before .before .args .text .now) (omega (arith, c .loop-test .left))) (c .before .loop .inv .2)
 
@@ -45,5 +42,5 @@ put-text-spec =
     (λ c. search needs)
     (λ c. search needs)
     loop-again
-    same-length
+    (λ c. search needs)
     returns)

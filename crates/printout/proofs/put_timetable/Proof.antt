@@ -12,8 +12,7 @@ unfolding timetableLine
 returns c =
     let here = c .before .before .before .before .before .before .before .before .before .before .before .before .before .before .before in let put-field = here .put-field in
     let put-decimal = here .before .before .before .before .before .put-decimal in let cost-of = here .before .before .before .before .before .before .before .cost-of in
-    let args = here .before .before .before .before .before .before .before .before .before .before .before .args in
-    let a = args in
+    let a = here .before .before .before .before .before .before .before .before .before .before .before .args in
     let s = a .list .now in
     puts-same (ap (λ (x : ℕ). decimal (a .k) ++ (field costWord x ++ ((58 ∷ []) ++ (packagesText s ++ newline)))) (cost-of .ensures))
     (puts-then (decimal (a .k)) (put-decimal .ensures)

@@ -1,3 +1,4 @@
+use borrow.Author.Needs.{needs}
 use Rattle.printout.proofs.Sheets.{lines-none, lines-more}
 use Rattle.printout.proofs.Putting.{puts-none, puts-then, puts-same}
 use Rattle.printout.specs.Program.{timetableLines, Listable}
@@ -26,12 +27,6 @@ put-nth-requires c κs =
     let here = c .before .before .before .before .before .before .before .before .before in let args = here .args in let pre = here .pre in
     (subst⁻¹ (λ (w : ℕ). Listable (args .packages .now) (args .m) (args .t .now) (args .a) w) (c .before .before .before .loop .inv .1) (pre .0), omega (arith, pre .1))
 
-add-k : tie.Need-add-k Inv-loop μ-loop
-add-k c = omega arith
-
-loop-less : tie.Need-loop-less Inv-loop μ-loop
-loop-less c = omega arith
-
 loop-again : tie.Need-loop-again Inv-loop μ-loop
 loop-again c =
     let here = c .before .before .before .before .before .before .before .before in let loop = here .loop in let args = here .before .before .before .before .before .before .args in
@@ -43,12 +38,6 @@ loop-again c =
       puts-same (lines-more C F (loop .k))
           (puts-then (timetableLines C F (loop .k)) (loop .inv .3) (c .before .before .before .before .put-nth .ensures)),
     )
-
-same-length : tie.Need-same-length Inv-loop μ-loop
-same-length c = c .before .loop .inv .1
-
-same-length-2 : tie.Need-same-length-2 Inv-loop μ-loop
-same-length-2 c = c .before .loop .inv .2
 
 returns : tie.Need-returns Inv-loop μ-loop
 returns c =
@@ -64,9 +53,9 @@ put-timetables-spec =
     μ-loop
     loop-holds
     put-nth-requires
-    add-k
-    loop-less
+    (λ c. search needs)
+    (λ c. search needs)
     loop-again
-    same-length
-    same-length-2
+    (λ c. search needs)
+    (λ c. search needs)
     returns)
