@@ -2,7 +2,7 @@
 use mathlib.Core.Path.{_≡_, refl, sym, ap, _∙_, subst, fun-ext}
 use mathlib.Core.Bool.{Bool, true, false}
 use mathlib.Core.Logic.{⊎-elim}
-use mathlib.Core.List.{List, [], _∷_, _++_, map, flatMap, append-assoc, List·Memᴰ, List·Memᴰ·head, List·Memᴰ·tail, List·Memᴰ·cases-cons, List·Memᴰ·not-nil}
+use mathlib.Core.List.{List, [], _∷_, _++_, map, List·Memᴰ, List·Memᴰ·head, List·Memᴰ·tail, List·Memᴰ·cases-cons, List·Memᴰ·not-nil}
 use Rattle.base.proofs.Bools.{by-test, clash}
 use Rattle.zdd.specs.Table.{filter}
 
@@ -61,9 +61,3 @@ filter-map {A} {B} g f (a ∷ l) =
     by-test (f (g a))
     (λ t. rw t (ap (λ (x : List B). g a ∷ x) (filter-map g f l)))
     (λ t. rw t (filter-map g f l))
-
-pub flat-append {ℓ κ} : {A : Type ℓ} {B : Type κ} (f : A → List B) (l r : List A) → flatMap f (l ++ r) ≡ flatMap f l ++ flatMap f r
-unfolding flatMap
-flat-append f [] r = refl
-flat-append {B} f (a ∷ l) r =
-    ap (λ (x : List B). f a ++ x) (flat-append f l r) ∙ sym (append-assoc (f a) (flatMap f l) (flatMap f r))

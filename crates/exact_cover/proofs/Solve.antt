@@ -1,8 +1,8 @@
 -- What `covering` has, and a recursion that finds it. Assumes nothing.
 use mathlib.Core.Path.{_≡_, refl, sym, ap, _∙_}
-use mathlib.Core.Bool.{Bool, true, false}
-use mathlib.Core.Logic.{_↔_, ⊎-elim, ∥∥₁-map}
-use mathlib.Core.List.{List, [], _∷_, _++_, map, List·Memᴰ, List·Memᴰ·head, List·Memᴰ·tail, List·Nodup, Pairwise, Pairwise·nil, Pairwise·cons, pairwise-cons}
+use mathlib.Core.Bool.{true, false}
+use mathlib.Core.Logic.{_↔_, ⊎-elim}
+use mathlib.Core.List.{List, [], _∷_, _++_, map, List·Memᴰ, List·Memᴰ·head, List·Memᴰ·tail}
 use Prim.Native.Nat.{ℕ, zero, suc, _^_, _≤_, _<_}
 use native.Mathlib.Nat.{le-refl, eq-zero-or-pos}
 use native.Mathlib.Omega.{arith}
@@ -12,25 +12,15 @@ use borrow.Author.Tests.{eqb-true, eqb-false}
 use Rattle.itemset.specs.Items.{without, size, lowest}
 use Rattle.base.proofs.Bools.{by-test}
 use Rattle.itemset.proofs.Laws.{falls, holds-pos, size-pos, without-lt}
-use Rattle.zdd.specs.Table.{sets, filter}
+use Rattle.zdd.specs.Table.{sets}
 use Rattle.exact_cover.specs.Cover.{row, covers, covering, candidates, keysOf}
 use Rattle.exact_cover.specs.Recursion.{Ascends, gather, solve}
 use Rattle.exact_cover.proofs.Lists.{filter-in, in-filter}
 use Rattle.exact_cover.proofs.First.{fits-holds, fits-inside, candidate-fits}
-use Rattle.exact_cover.proofs.Sets.{sets-member, sets-distinct}
+use Rattle.exact_cover.proofs.Sets.{sets-member}
 use Rattle.exact_cover.proofs.Listing.{covering-zero, covering-gather}
 
 -- ---- each cover once
-
-filter-pairs {κ} : {A : Type 0} {R : A → A → Type κ} (f : A → Bool) (l : List A) → Pairwise R l → Pairwise R (filter f l)
-unfolding filter
-filter-pairs f [] h = Pairwise·nil
-filter-pairs {A} {R} f (a ∷ l) h =
-    let k = pairwise-cons .0 h in
-    let r : Pairwise R (filter f l) = filter-pairs f l (k .1) in
-    by-test (f a)
-    (λ t. rw (t, filter) (Pairwise·cons (λ b m. k .0 b (∥∥₁-map m (λ d. filter-in f l d .0))) r))
-    (λ t. rw (t, filter) r)
 
 pub covering-member : (S : List ℕ) (A : ℕ) (t : List ℕ) → length S ≤ 512
     → List·Memᴰ t (covering S A) ↔ (Ascends S (length S) 0 t × (covers S A t ≡ true))
@@ -39,10 +29,6 @@ covering-member S A t few = (
   λ d. let r = filter-in (covers S A) (sets (keysOf S)) d in (sets-member S t few .0 (r .0), r .1),
   λ h. in-filter (covers S A) (sets (keysOf S)) (sets-member S t few .1 (h .0)) (h .1),
 )
-
-pub covering-distinct : (S : List ℕ) (A : ℕ) → length S ≤ 512 → List·Nodup (covering S A)
-unfolding covering
-covering-distinct S A few = filter-pairs (covers S A) (sets (keysOf S)) (sets-distinct S few)
 
 -- ---- the recursion
 

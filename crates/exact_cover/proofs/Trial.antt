@@ -8,11 +8,10 @@ use native.Mathlib.Omega.{arith}
 use lib.ListN.{length}
 use Rattle.zdd.specs.Table.{Node, Family, fork, family, Nodes}
 use Rattle.zdd.proofs.Grow.{family-zero}
-use Rattle.zdd.specs.Work.{Worked, Got}
-use Rattle.zdd.proofs.Room.{worked-under}
+use Rattle.zdd.specs.Work.{Got}
 use Rattle.zdd.proofs.Got.{got-eq, got-there, got-split-lo, got-none-lo}
 use Rattle.exact_cover.specs.Cover.{row, covering, fits, keysOf}
-use Rattle.exact_cover.proofs.Partial.{Partial, left, partial-start, partial-skip, partial-take, partial-split, partial-end, partial-under}
+use Rattle.exact_cover.proofs.Partial.{Partial, left, partial-start, partial-skip, partial-take, partial-split, partial-end}
 
 pub record Trial (S : List ℕ) (A c : ℕ) (ns : List Node) (b : Bool) (n l : ℕ) (ns′ : List Node) (b′ : Bool) : Type 0 where
   pub acc : Family
@@ -51,7 +50,3 @@ module _ (S : List ℕ) (few : length S ≤ 512) (full : (p : ℕ) → p < lengt
 
   pub trial-end : (l : ℕ) {ns′ : List Node} {b′ : Bool} → Trial S A c ns b 0 l ns′ b′ → Got (keysOf S) c ns b l ns′ b′ (covering S A)
   trial-end l t = got-eq (partial-end S few full A w (t .acc) (t .part)) (t .got)
-
-  -- at any time (the step limit): what was made was made for the covers of A
-  pub trial-leave : (n l : ℕ) {ns′ : List Node} {b′ : Bool} → n ≤ length S → Trial S A c ns b n l ns′ b′ → Worked c ns b ns′ b′ (covering S A)
-  trial-leave n l h t = worked-under (t .got .work) (partial-under S few full A w n (t .acc) h (t .part))

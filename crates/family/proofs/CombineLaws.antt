@@ -422,9 +422,6 @@ module _ (op : ℕ) {K t heads next : List ℕ} {f g : ℕ} (y : Ready K t heads
         whole : Gives K t t′ heads′ next′ r (combined op K (family (nodesOf t) f) (family (nodesOf t) g))
         whole = step-node split-o q1 w1 p0 (c .label-known) w0 n
 
-        pub last-small : r ≤ 65536
-        last-small = whole .small
-
         pub last-none : {memo0 : List ℕ} → r ≡ 65536 → Gives K t t′ heads′ next′ 65536 (combined op K (family (nodesOf t) f) (family (nodesOf t) g)) × (65536 < 65536 → Stored op K (nodesOf t′) memo0)
         last-none e = (subst (λ (x : ℕ). Gives K t t′ heads′ next′ x (combined op K (family (nodesOf t) f) (family (nodesOf t) g))) e whole, λ z. absurd (omega arith))
 

@@ -51,17 +51,11 @@ module _ {K t : List ℕ} (s : Sound K t) (f a : ℕ) (l : 2 ≤ f) (w : f < cou
   pub word-lo : getD (nodesOf t) (f - 2) blank .lo ≡ getD t (a + 1) 0
   word-lo = ap (λ (x : Node). x .lo) word-node
 
-  pub word-hi : getD (nodesOf t) (f - 2) blank .hi ≡ getD t (a + 2) 0
-  word-hi = ap (λ (x : Node). x .hi) word-node
-
   pub word-fine : Fine K (nodesOf t) (f - 2) (at-word t a)
   word-fine = fine-at s f a l w (omega arith)
 
   pub label-known : getD t a 0 < length K
   label-known = word-fine .label-known
-
-  pub word-in : a + 2 < length t
-  word-in = omega (arith, s .room)
 
   -- the label is another one
   pub split-other : Keys K → (b : Bool) (p : ℕ) → (getD t a 0 ≡ p → ⊥)

@@ -3,18 +3,17 @@
 use mathlib.Core.Path.{_≡_, refl, sym, ap, ap₂, _∙_, subst, subst⁻¹}
 use mathlib.Core.Logic.{_⊎_, inl, inr, ⊎-elim}
 use mathlib.Core.Bool.{Bool, true, false, cond, _||_}
-use mathlib.Core.List.{List, [], _∷_, _++_, List·Memᴰ·head, List·Memᴰ·tail, List·Memᴰ·cases-cons, List·Memᴰ·not-nil, List·Memᴰ·append-cases, Memᴰ·append-left, Memᴰ·append-right, Memᴰ·cast, append-nil}
+use mathlib.Core.List.{List, [], _∷_, _++_, List·Memᴰ·head, List·Memᴰ·tail, List·Memᴰ·cases-cons, List·Memᴰ·not-nil, List·Memᴰ·append-cases, Memᴰ·cast}
 use Prim.Native.Nat.{ℕ, zero, suc, _+_, _≤_, _<_, zero-le, suc-le-suc}
-use native.Mathlib.Nat.{le-antisymm, le-refl, not-suc-le-zero}
+use native.Mathlib.Nat.{le-refl, not-suc-le-zero}
 use native.Mathlib.Omega.{arith}
 use lib.Dec.{eqb}
-use lib.ListN.{length, getD, length-append}
-use lib.Seq.{getD-append-add}
+use lib.ListN.{length, getD}
 use Rattle.base.proofs.Bools.{never, is-false, cases, and-left, and-right, and-both, or-cases, or-left, or-right, eqb-same}
 use Rattle.zdd.specs.Table.{Node, blank, Family, fork, families, family, eqSet, elem, key, Nodes, _∈_}
 use Rattle.zdd.proofs.Member.{Avoids, avoids-at, from-avoids, family-from, eqSet-same, eqSet-eq}
 use Rattle.zdd.proofs.Grow.{length-families, families-append, family-ind, downward, family-node}
-use Rattle.zdd.proofs.Canon.{family-some, canonical}
+use Rattle.zdd.proofs.Canon.{family-some}
 use Rattle.zdd.specs.Branches.{starting, others, weight, branchesTo, branches, eqFamily, amongb, fresh, missing}
 
 -- nothing stands twice
@@ -133,13 +132,6 @@ module _ (ns : List Node) (new : List Family) (F : Family) (distinct : Distinct 
   pub at-most : length new ≤ missing ns F
   unfolding missing
   at-most = pigeonhole new (fresh (families ns) (branches F)) distinct into
-
-  -- as many, where with the known ones they are all
-  pub exactly : ((G : Family) → G ∈ branches F → (G ∈ families ns) ⊎ (G ∈ new)) → length new ≡ missing ns F
-  unfolding missing
-  exactly all =
-      le-antisymm at-most (pigeonhole (fresh (families ns) (branches F)) new (fresh-distinct (branches F) (families ns)) (λ G m.
-      let s = fresh-sound (branches F) (families ns) G m in ⊎-elim (λ k. absurd (s .1 k)) (λ n. n) (all G (s .0))))
 
   -- fewer, where one more is neither known nor among them
   pub fewer : (G : Family) → G ∈ branches F → (G ∈ families ns → ⊥) → (G ∈ new → ⊥) → length new < missing ns F
@@ -319,47 +311,6 @@ least-growth {K} ns ms n k h =
     member : (j : ℕ) → j < suc (suc (length (ns ++ ms))) → family (ns ++ ms) j ∈ families (ns ++ ms)
     member j l = family-member (ns ++ ms) j l
 
--- a table lacks nothing for a family that it holds
-pub known-missing : {K : List ℕ} (ns : List Node) → Nodes K ns → (k : ℕ) → k < suc (suc (length ns)) → missing ns (family ns k) ≡ 0
-known-missing {K} ns n k h =
-    let e : ns ++ [] ≡ ns = append-nil ns in
-    let g : missing ns (family (ns ++ []) k) ≤ 0 =
-    least-growth ns [] (subst⁻¹ (λ (l : List Node). Nodes K l) e n) k (subst⁻¹ (λ (l : List Node). k < suc (suc (length l))) e h) in
-    ap (λ (l : List Node). missing ns (family l k)) (sym e) ∙ le-antisymm g zero-le
-
--- ---- branch families of branch families
-
-pub hi-under : (p : ℕ) (s : List ℕ) (F G : Family) → G ∈ branches (starting p ((p ∷ s) ∷ F)) → G ∈ branches ((p ∷ s) ∷ F)
-hi-under p s F G m = subst⁻¹ (λ (l : List Family). G ∈ l) (branches-cons p s F) (List·Memᴰ·tail (Memᴰ·append-left _ m))
-
-pub lo-under : (p : ℕ) (s : List ℕ) (F G : Family) → G ∈ branches (others p ((p ∷ s) ∷ F)) → G ∈ branches ((p ∷ s) ∷ F)
-lo-under p s F G m =
-    subst⁻¹ (λ (l : List Family). G ∈ l) (branches-cons p s F) (List·Memᴰ·tail (Memᴰ·append-right (branches (starting p ((p ∷ s) ∷ F))) m))
-
-pub branches-empty : (F : Family) → branches ([] ∷ F) ≡ []
-unfolding branches branchesTo weight
-branches-empty F = refl
-
-closed-at : (n : ℕ) (F : Family) → weight F ≤ n → (G H : Family) → G ∈ branches F → H ∈ branches G → H ∈ branches F
-unfolding weight
-closed-at zero [] w G H g h = absurd (List·Memᴰ·not-nil (subst (λ (l : List Family). G ∈ l) branches-nil g))
-closed-at zero (s ∷ F) w G H g h = absurd (not-suc-le-zero w)
-closed-at (suc n) [] w G H g h = absurd (List·Memᴰ·not-nil (subst (λ (l : List Family). G ∈ l) branches-nil g))
-closed-at (suc n) ([] ∷ F) w G H g h = absurd (List·Memᴰ·not-nil (subst (λ (l : List Family). G ∈ l) (branches-empty F) g))
-closed-at (suc n) ((p ∷ s) ∷ F) w G H g h =
-    let a = weight-hi p s F in
-    let b = weight-lo p s F in
-    ⊎-elim (λ e. subst (λ (X : Family). H ∈ branches X) e h)
-    (λ m. ⊎-elim
-    (λ x. hi-under p s F H (closed-at n (starting p ((p ∷ s) ∷ F)) (omega arith) G H x h))
-    (λ y. lo-under p s F H (closed-at n (others p ((p ∷ s) ∷ F)) (omega arith) G H y h))
-    (List·Memᴰ·append-cases (branches (starting p ((p ∷ s) ∷ F))) m))
-    (List·Memᴰ·cases-cons (subst (λ (l : List Family). G ∈ l) (branches-cons p s F) g))
-
--- the branch families of a branch family of F are branch families of F
-pub branches-closed : (F G H : Family) → G ∈ branches F → H ∈ branches G → H ∈ branches F
-branches-closed F = closed-at (weight F) F (le-refl (weight F))
-
 -- ---- the growth of a table whose new nodes all serve F
 
 index-of : (l : List Family) (F : Family) → F ∈ l → (k : ℕ) × (k < length l) × (F ≡ getD l k [])
@@ -367,59 +318,6 @@ index-of [] F m = absurd (List·Memᴰ·not-nil m)
 index-of (G ∷ l) F m =
     ⊎-elim {C = (k : ℕ) × (k < length (G ∷ l)) × (F ≡ getD (G ∷ l) k [])}
     (λ e. (0, omega arith, e)) (λ n. let r = index-of l F n in (suc (r .0), omega (arith, r .1), r .2)) (List·Memᴰ·cases-cons m)
-
-distinct-at : (l : List Family) → ((i j : ℕ) → i < length l → j < length l → getD l i [] ≡ getD l j [] → i ≡ j) → Distinct l
-distinct-at [] f = tt
-distinct-at (F ∷ l) f = (
-  λ m. let r = index-of l F m in let z : 0 ≡ suc (r .0) = f 0 (suc (r .0)) (omega arith) (omega (arith, r .1)) (r .2) in omega arith,
-  distinct-at l (λ i j a b e. let z : suc i ≡ suc j = f (suc i) (suc j) (omega arith) (omega arith) e in omega arith),
-)
-
-distinct-right : {A : Type 0} (a b : List A) → Distinct (a ++ b) → Distinct b × ((x : A) → x ∈ b → x ∈ a → ⊥)
-distinct-right [] b d = (d, λ x m n. List·Memᴰ·not-nil n)
-distinct-right (y ∷ a) b d =
-    let r = distinct-right a b (d .1) in
-    (r .0, λ x m n. ⊎-elim (λ e. d .0 (Memᴰ·append-right a (Memᴰ·cast (sym e) m))) (λ k. r .1 x m k) (List·Memᴰ·cases-cons n))
-
-families-distinct : {K : List ℕ} {ns : List Node} → Nodes K ns → Distinct (families ns)
-unfolding family
-families-distinct {K} {ns} n =
-    distinct-at (families ns) (λ i j a b e. canonical n i j (omega (arith, length-families ns)) (omega (arith, length-families ns)) e)
-
-module _ {K : List ℕ} (ns ms : List Node) (n : Nodes K (ns ++ ms)) (F : Family)
-    (serve : (j : ℕ) → suc (suc (length ns)) ≤ j → j < suc (suc (length (ns ++ ms))) → family (ns ++ ms) j ∈ branches F) where
-  news : (l : List Family) × (families (ns ++ ms) ≡ families ns ++ l) × (length l ≡ length ms)
-  news = families-append ns ms
-
-  news-apart : Distinct (news .0) × ((G : Family) → G ∈ news .0 → G ∈ families ns → ⊥)
-  news-apart = distinct-right (families ns) (news .0) (subst Distinct (news .1) (families-distinct n))
-
-  news-serve : (G : Family) → G ∈ news .0 → G ∈ branches F
-  unfolding family
-  news-serve G m =
-      let r = index-of (news .0) G m in
-      let j : ℕ = length (families ns) + r .0 in
-      let e : family (ns ++ ms) j ≡ G =
-      ap (λ (l : List Family). getD l j []) (news .1) ∙ getD-append-add (families ns) (news .0) (r .0) [] ∙ sym (r .2) in
-      subst (λ (X : Family). X ∈ branches F) e
-      (serve j (omega (arith, length-families ns)) (omega (arith, r .1, length-families ns, news .2, length-append ns ms)))
-
-  -- no more are made than are missing
-  pub growth-at-most : length ms ≤ missing ns F
-  growth-at-most =
-      subst (λ (c : ℕ). c ≤ missing ns F) (news .2) (at-most ns (news .0) F (news-apart .0) (news-apart .1) news-serve)
-
-  -- THEOREM: as many, once F has a number
-  pub growth-exactly : (k : ℕ) → k < suc (suc (length (ns ++ ms))) → family (ns ++ ms) k ≡ F → length ms ≡ missing ns F
-  growth-exactly k h e = le-antisymm growth-at-most (subst (λ (X : Family). missing ns X ≤ length ms) e (least-growth ns ms n k h))
-
-  -- THEOREM: fewer, while a branch family of F has none: a table without room is then full
-  pub growth-full : (G : Family) → G ∈ branches F → (G ∈ families (ns ++ ms) → ⊥) → length ms < missing ns F
-  growth-full G g d =
-      subst (λ (c : ℕ). c < missing ns F) (news .2)
-      (fewer ns (news .0) F (news-apart .0) (news-apart .1) news-serve G g
-      (λ m. d (subst⁻¹ (λ (l : List Family). G ∈ l) (news .1) (Memᴰ·append-left (news .0) m)))
-      (λ m. d (subst⁻¹ (λ (l : List Family). G ∈ l) (news .1) (Memᴰ·append-right (families ns) m))))
 
 -- ---- a table that grew by just the missing nodes
 

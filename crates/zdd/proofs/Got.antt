@@ -69,12 +69,6 @@ got-split-lo {K} {c} {p} {h} {l} {k} {ns} {n1} {n0} {ns′} {b} {b1} {b0} {b′}
     parts : b1 ≡ false → fork p (family n1 h) (family n1 l) ≡ fork p R1 R0
     parts e = ap₂ (fork p) (g1 .holds e) (nowaste-keeps (g1 .work .nowaste) l (g0 .known) ∙ g0 .holds (worked-calm (g1 .work) e))
 
--- the number of hi is 0: no node, and the number is lo's
-pub got-none : {K : List ℕ} {c p l : ℕ} {ns n1 n0 : List Node} {b b1 b0 : Bool} {R R1 R0 : Family} → Split K R p R1 R0
-    → Got K c ns b 0 n1 b1 R1 → Got K c n1 b1 l n0 b0 R0 → Got K c ns b l n0 b0 R
-got-none {K} {c} {p} {l} {ns} {n1} {n0} {b} {b1} {b0} s g1 g0 =
-    got-split s g1 g0 (got-eq (ap (λ (F : Family). fork p F (family n0 l)) (sym (family-zero n0))) (got-there c b0 l (g0 .sound) (g0 .known)))
-
 pub got-none-lo : {K : List ℕ} {c p l : ℕ} {ns n1 n0 : List Node} {b b1 b0 : Bool} {R R1 R0 : Family} → Split K R p R1 R0
     → Got K c ns b l n0 b0 R0 → Got K c n0 b0 0 n1 b1 R1 → Got K c ns b l n1 b1 R
 got-none-lo {K} {c} {p} {l} {ns} {n1} {n0} {b} {b1} {b0} s g0 g1 =

@@ -4,7 +4,7 @@
 use mathlib.Core.Path.{_≡_, refl, sym, ap, _∙_, subst, subst⁻¹}
 use mathlib.Core.Logic.{_⊎_, inl, inr, ⊎-elim}
 use mathlib.Core.List.{List, [], _∷_, _++_, append-nil, append-assoc, List·Memᴰ·head, List·Memᴰ·tail, List·Memᴰ·cases-cons, List·Memᴰ·not-nil, List·Memᴰ·append-cases, Memᴰ·append-left, Memᴰ·cast}
-use Prim.Native.Nat.{ℕ, zero, suc, _+_, _-_, _≤_, _<_}
+use Prim.Native.Nat.{ℕ, zero, suc, _+_, _≤_, _<_}
 use native.Mathlib.Nat.{le-antisymm}
 use native.Mathlib.Decide.{decLt}
 use native.Mathlib.Omega.{arith}
@@ -17,8 +17,8 @@ use Rattle.zdd.proofs.Grow.{length-families, family-append, families-ap
 use Rattle.zdd.proofs.Canon.{family-some, canonical}
 use Rattle.zdd.proofs.Extend.{nodes-append}
 use Rattle.zdd.specs.Branches.{branches, fresh, missing}
-use Rattle.zdd.proofs.Counting.{Distinct, fresh-sound, fresh-distinct, at-most, fewer, branches-nil, branches-one, family-member, least-growth}
-use Rattle.zdd.proofs.Under.{under-self, fork-branch, under-hi, under-lo}
+use Rattle.zdd.proofs.Counting.{Distinct, fresh-sound, fresh-distinct, at-most, fewer, family-member, least-growth}
+use Rattle.zdd.proofs.Under.{under-self, fork-branch}
 
 -- ---- no waste: how it goes together
 
@@ -52,22 +52,6 @@ nowaste-then {ns} {ns′} {ns″} {F} w v = record {
     go : (k : ℕ) → suc (suc (length ns)) ≤ k → k < suc (suc (length ns″)) → Dec (k < suc (suc (length ns′))) → family ns″ k ∈ branches F
     go k a b (yes h) = subst⁻¹ (λ (G : Family). G ∈ branches F) (nowaste-keeps v k h) (w .needed k a h)
     go k a b (no h) = v .needed k (omega arith) b
-
--- for a family that has no branch family nothing is made
-pub nowaste-none : {ns ns′ : List Node} {F : Family} → Nowaste ns ns′ F → branches F ≡ [] → ns′ ≡ ns
-nowaste-none {ns} {ns′} {F} w e = go (w .new) (w .grown)
-  where
-    go : (l : List Node) → ns′ ≡ ns ++ l → ns′ ≡ ns
-    go [] g = g ∙ append-nil ns
-    go (x ∷ l) g =
-        absurd (List·Memᴰ·not-nil (subst (λ (b : List Family). family ns′ (suc (suc (length ns))) ∈ b) e
-        (w .needed (suc (suc (length ns))) (omega arith) (omega (arith, ap length g, length-append ns (x ∷ l))))))
-
-pub nowaste-nil : {ns ns′ : List Node} → Nowaste ns ns′ [] → ns′ ≡ ns
-nowaste-nil w = nowaste-none w branches-nil
-
-pub nowaste-one : {ns ns′ : List Node} → Nowaste ns ns′ ([] ∷ []) → ns′ ≡ ns
-nowaste-one w = nowaste-none w branches-one
 
 -- a node that may stand behind ns: its parts
 module _ {K : List ℕ} {ns : List Node} (n : Nodes K ns) (x : Node) (f : Fine K ns (length ns) x) where
@@ -104,12 +88,6 @@ module _ {K : List ℕ} {ns : List Node} (n : Nodes K ns) (x : Node) (f : Fine K
 
   pub short-made : ((i : ℕ) → i < length ns → getD ns i blank ≡ x → ⊥) → Short ns (fork (x .label) (family ns (x .hi)) (family ns (x .lo)))
   short-made fresh = record { lacking = fork (x .label) (family ns (x .hi)) (family ns (x .lo)); branch = fine-branch; absent = absent-family fresh }
-
--- a step: for F1, then for F0, then the node itself
-pub nowaste-step : (p : ℕ) (F1 F0 : Family) {ns n1 n0 ns′ : List Node} → Avoids p F0
-    → Nowaste ns n1 F1 → Nowaste n1 n0 F0 → Nowaste n0 ns′ (fork p F1 F0) → Nowaste ns ns′ (fork p F1 F0)
-nowaste-step p F1 F0 a w1 w0 w =
-    nowaste-then (nowaste-under w1 (under-hi p F1 F0 a)) (nowaste-then (nowaste-under w0 (under-lo p F1 F0 a)) w)
 
 -- ---- short: how it is kept
 
@@ -249,10 +227,3 @@ module _ {K : List ℕ} {ns ns′ : List Node} {F : Family} (n : Nodes K ns′) 
   -- THEOREM: fewer, where the table is still short of F
   pub made-fewer : Short ns′ F → length (w .new) < missing ns F
   made-fewer s = omega (arith, still (under-self F), short-missing s)
-
-  -- with room for c nodes: F is full where they are all taken and the table is short of F, and it is not where F has a number
-  pub full-short : (c : ℕ) → c ≤ length ns′ → Short ns′ F → c - length ns < missing ns F
-  full-short c h s = omega (arith, made-fewer s, nowaste-length w)
-
-  pub full-not : (c a : ℕ) → length ns′ ≤ c → a < suc (suc (length ns′)) → family ns′ a ≡ F → missing ns F ≤ c - length ns
-  full-not c a h b e = omega (arith, made-exactly a b e, nowaste-length w)
