@@ -49,11 +49,6 @@ module _ {A : Type 0} (f : A → Bool) where
 pub filter-same : {A : Type 0} (f g : A → Bool) (l : List A) → ((a : A) → f a ≡ g a) → filter f l ≡ filter g l
 filter-same {A} f g l h = ap (λ (t : A → Bool). filter t l) (fun-ext h)
 
-pub filter-none : {A : Type 0} (l : List A) → filter (λ (a : A). false) l ≡ []
-unfolding filter
-filter-none [] = refl
-filter-none (a ∷ l) = filter-none l
-
 pub filter-map : {A : Type 0} {B : Type 0} (g : A → B) (f : B → Bool) (l : List A) → filter f (map g l) ≡ map g (filter (λ (a : A). f (g a)) l)
 unfolding filter
 filter-map g f [] = refl

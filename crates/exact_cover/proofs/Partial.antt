@@ -3,17 +3,17 @@
 use mathlib.Core.Path.{_≡_, refl, sym, ap, _∙_, subst}
 use mathlib.Core.Bool.{true, false}
 use mathlib.Core.Logic.{_⊎_, inl, inr}
-use mathlib.Core.List.{List, [], _∷_, map, List·Memᴰ, List·Memᴰ·head, List·Memᴰ·tail}
+use mathlib.Core.List.{List, [], _∷_, map}
 use Prim.Native.Nat.{ℕ, zero, suc, _+_, _^_, _≤_, _<_}
 use native.Mathlib.Nat.{lt-of-not-le, le-refl}
 use native.Mathlib.Omega.{arith}
 use lib.ListN.{length}
 use Rattle.itemset.specs.Items.{insideb, without}
-use Rattle.base.proofs.Bools.{and-left, never, or-cases}
+use Rattle.base.proofs.Bools.{and-left, never}
 use Rattle.itemset.proofs.Laws.{without-lt, lowest-inside}
-use Rattle.zdd.specs.Table.{Family, fork, key, filter, elem, eqSet}
+use Rattle.zdd.specs.Table.{Family, fork, key, filter, elem}
 use Rattle.zdd.specs.Work.{From, Split}
-use Rattle.zdd.proofs.Member.{from-of, fork-cases, eqSet-eq}
+use Rattle.zdd.proofs.Member.{elem-in, from-of, fork-cases}
 use Rattle.exact_cover.specs.Cover.{row, covers, covering, fits, down, candidates, keysOf}
 use Rattle.exact_cover.specs.Recursion.{gather}
 use Rattle.exact_cover.proofs.Covers.{covers-cons}
@@ -34,15 +34,6 @@ begun S A p = map (λ (t : List ℕ). p ∷ t) (left S A p)
 pub record Partial (S : List ℕ) (A n : ℕ) (acc : Family) : Type 0 where
   pub rest : gather (begun S A) (filter (fits S A) (down n)) acc ≡ covering S A
   pub begins : (q : ℕ) (t : List ℕ) → elem (q ∷ t) acc ≡ true → (n ≤ q) × (q < length S) × (fits S A q ≡ true)
-
-elem-in : (t : List ℕ) (F : Family) → elem t F ≡ true → List·Memᴰ t F
-unfolding elem
-elem-in t [] e = absurd (never e refl)
-elem-in t (u ∷ F) e = go (or-cases (eqSet t u) (elem t F) e) (elem-in t F)
-  where
-    go : (eqSet t u ≡ true) ⊎ (elem t F ≡ true) → (elem t F ≡ true → List·Memᴰ t F) → List·Memᴰ t (u ∷ F)
-    go (inl x) f = List·Memᴰ·head (eqSet-eq t u x)
-    go (inr x) f = List·Memᴰ·tail (f x)
 
 elem-nil : (t : List ℕ) → elem t [] ≡ false
 unfolding elem

@@ -1,10 +1,9 @@
 -- Union, intersection and difference: the end cases, the parts of two numbers, the recursion, and what is remembered. Assumes nothing.
 use mathlib.Core.Path.{_≡_, refl, sym, ap, ap₂, subst, subst⁻¹, _∙_}
-use mathlib.Core.Logic.{_⊎_, inl, inr}
-use mathlib.Core.Bool.{Bool, true, false, _&&_, _||_}
+use mathlib.Core.Logic.{inl, inr}
+use mathlib.Core.Bool.{Bool, false, and-comm, or-comm}
 use mathlib.Core.List.{List, []}
 use Prim.Native.Nat.{ℕ, zero, suc, _+_, _-_, _*_, _/_, _%_, _<_, _≤_}
-use native.Mathlib.Nat.{eq-or-lt-of-le}
 use native.Mathlib.Omega.{arith}
 use native.Mathlib.Decide.{decLt, ℕ-discrete}
 use lib.ListN.{length, getD, set, length-set}
@@ -21,7 +20,7 @@ use Rattle.zdd.proofs.Parts.{split-same, split-left, split-right}
 use Rattle.family.specs.Gives.{Ready, Gives, Noded, Answers}
 use Rattle.family.specs.Memo.{opOf, combined, Ordered, Packed, Stored, Two, Pair, Ended, Ends, Top, Cut}
 use Rattle.family.proofs.GivesLaws.{gives-there, gives-answers, gives-keeps, gives-more, gives-eq, step-none-hi, step-none-lo, step-child, step-node}
-use Rattle.family.proofs.RestrictLaws.{word-node, word-label, word-fine}
+use Rattle.family.proofs.RestrictLaws.{two-more, word-node, word-label, word-fine}
 
 pub off : (op : ℕ) → opOf op false false ≡ false
 off zero = refl
@@ -30,21 +29,9 @@ off (suc (suc n)) = refl
 
 -- ---- the order of the two
 
-or-turns : (a b : Bool) → (a || b) ≡ (b || a)
-or-turns true true = refl
-or-turns true false = refl
-or-turns false true = refl
-or-turns false false = refl
-
-and-turns : (a b : Bool) → (a && b) ≡ (b && a)
-and-turns true true = refl
-and-turns true false = refl
-and-turns false true = refl
-and-turns false false = refl
-
 op-turns : (op : ℕ) → op < 2 → (a b : Bool) → opOf op a b ≡ opOf op b a
-op-turns zero h = or-turns
-op-turns (suc zero) h = and-turns
+op-turns zero h = or-comm
+op-turns (suc zero) h = and-comm
 op-turns (suc (suc n)) h = absurd (omega arith)
 
 turned : (op : ℕ) → op < 2 → (K : List ℕ) (F G : Family) → combined op K F G ≡ combined op K G F
@@ -232,9 +219,6 @@ module _ {K t : List ℕ} (s : Sound K t) (k : Keys K) (f g : ℕ) (wf : f < cou
             (split-left k (s .nodes) op o (f - 2) g (omega (arith, lenf)) leng
             (over-of-key K (nodesOf t) (suc (key K (getD (nodesOf t) (f - 2) blank .label))) g (λ z. omega (arith, ta .key-of l .0, tb .key-of z .0))))));
       }
-    where
-      two-more : (j : ℕ) → 2 ≤ j → suc (suc (j - 2)) ≡ j
-      two-more j l = omega arith
 
   -- g's is
   pub cut-right : (w : ℕ) → w ≡ 3 * g - 5 → b < a → Cut K (nodesOf t) f g (getD t w 0) 0 (getD t (w + 2) 0) f (getD t (w + 1) 0)
@@ -259,9 +243,6 @@ module _ {K t : List ℕ} (s : Sound K t) (k : Keys K) (f g : ℕ) (wf : f < cou
             (split-right k (s .nodes) op o f (g - 2) lenf (omega (arith, leng))
             (over-of-key K (nodesOf t) (suc (key K (getD (nodesOf t) (g - 2) blank .label))) f (λ z. omega (arith, tb .key-of l .0, ta .key-of z .0))))));
       }
-    where
-      two-more : (j : ℕ) → 2 ≤ j → suc (suc (j - 2)) ≡ j
-      two-more j l = omega arith
 
   -- they have one label
   pub same-left : Two f g → a ≡ b → 2 ≤ f
@@ -305,9 +286,6 @@ module _ {K t : List ℕ} (s : Sound K t) (k : Keys K) (f g : ℕ) (wf : f < cou
             (k .apart (getD (nodesOf t) (f - 2) blank .label) (getD (nodesOf t) (g - 2) blank .label) (s .nodes .each (f - 2) i .label-known) (s .nodes .each (g - 2) j .label-known)
             (sym (ta .key-of lf .0) ∙ e ∙ tb .key-of lg .0))))));
       }
-    where
-      two-more : (j : ℕ) → 2 ≤ j → suc (suc (j - 2)) ≡ j
-      two-more j l = omega arith
 
 -- ---- what is remembered
 
@@ -383,12 +361,8 @@ pub ended-gives : {op : ℕ} {K t heads next memo : List ℕ} {f g r : ℕ} → 
     → Gives K t t heads next r (combined op K (family (nodesOf t) f) (family (nodesOf t) g)) × (r < 65536 → Stored op K (nodesOf t) memo)
 ended-gives {op} {K} {t} {heads} {next} {memo} {f} {g} {r} y m w s d =
     let x = s K (nodesOf t) (pair-of y w) m in
-    let z : r < 65537 = lt (eq-or-lt-of-le (x .small)) in
+    let z : r < 65537 = omega (arith, x .small) in
     (gives-there (y .sound) (y .indexed) (x .answer z .0) (x .answer z .1), λ h. m)
-  where
-    lt : (r ≡ 65537) ⊎ (r < 65537) → r < 65537
-    lt (inl e) = absurd (d e)
-    lt (inr h) = h
 
 pub ends-two : {op : ℕ} {K t heads next memo : List ℕ} {f g r : ℕ} → Ready K t heads next → Stored op K (nodesOf t) memo → (f < count t + 2) × (g < count t + 2) → Ends op memo f g r → r ≡ 65537 → Two f g
 ends-two {op} {K} {t} y m w s e = s K (nodesOf t) (pair-of y w) m .two e

@@ -1,23 +1,20 @@
 -- How the results of functions that make families go together: a node, the two parts of a family and then its node. Assumes nothing.
 use mathlib.Core.Path.{_≡_, refl, sym, ap, subst, subst⁻¹, _∙_}
-use mathlib.Core.Logic.{_⊎_, inl, inr}
 use mathlib.Core.Bool.{Bool, true, false}
-use mathlib.Core.List.{List, [], _∷_, _++_}
-use Prim.Native.Nat.{ℕ, zero, suc, _+_, _-_, _<_, _≤_}
-use native.Mathlib.Nat.{eq-or-lt-of-le}
+use mathlib.Core.List.{List}
+use Prim.Native.Nat.{ℕ, suc, _<_, _≤_}
 use native.Mathlib.Omega.{arith}
-use lib.ListN.{length, getD, length-append, List·getD-append}
-use lib.Seq.{getD-at, ext-getD}
-use Rattle.zdd.specs.Table.{Node, node, blank, Family, fork, count, capacity, nodesOf, family, key, Fine, Sound}
+use lib.ListN.{length}
+use Rattle.zdd.specs.Table.{Node, node, Family, fork, count, capacity, nodesOf, family, key, Sound}
 use Rattle.zdd.proofs.Grow.{family-zero}
 use Rattle.zdd.proofs.Words.{length-nodes}
 use Rattle.zdd.specs.Work.{From, Split, Got}
 use Rattle.zdd.proofs.Nowaste.{nowaste-keeps, nowaste-length}
 use Rattle.zdd.proofs.Room.{same-capacity}
 use Rattle.zdd.proofs.Split.{from-over}
-use Rattle.zdd.proofs.Got.{got-eq, got-there, got-idle, got-made, got-full, got-split, got-known, got-flag, got-made-exactly, got-old}
+use Rattle.zdd.proofs.Got.{got-eq, got-there, got-idle, got-split, got-known, got-flag, got-made-exactly, got-old}
 use Rattle.table.specs.State.{Indexed, May, Made, Unique, Rolled}
-use Rattle.table.proofs.GrownLaws.{grown-node}
+use Rattle.table.proofs.GotLaws.{made-some, made-none}
 use Rattle.family.specs.Gives.{Gives, Child, Noded, Answers, Makes}
 
 -- ---- a number that is there
@@ -38,67 +35,25 @@ abbrev J : List ℕ → Node → Family
 J t x = fork (x .label) (family (nodesOf t) (x .hi)) (family (nodesOf t) (x .lo))
 
 module _ {K t t′ heads′ next′ : List ℕ} {x : Node} {r : ℕ} (y : May K t x) (m : Made K t t′ heads′ next′ x r) where
-  fine-len : Fine K (nodesOf t) (length (nodesOf t)) x
-  fine-len = subst (λ (n : ℕ). Fine K (nodesOf t) n x) (sym (length-nodes t)) (y .fine)
-
-  made-nodes : count t + 2 ≤ r → nodesOf t′ ≡ nodesOf t ++ (x ∷ [])
-  made-nodes h =
-      let n = m .next h in
-      ext-getD blank (nodesOf t′) (nodesOf t ++ (x ∷ []))
-      (omega (arith, length-nodes t, length-nodes t′, length-append (nodesOf t) (x ∷ []), n .1 .0))
-      (λ i l. go i (eq-or-lt-of-le (omega (arith, length-nodes t′, n .1 .0))))
-    where
-      go : (i : ℕ) → (i ≡ count t) ⊎ (i < count t) → getD (nodesOf t′) i blank ≡ getD (nodesOf t ++ (x ∷ [])) i blank
-      go i (inl e) =
-          let z : i ≡ r - 2 = omega (arith, m .next h .0) in
-          ap (λ (j : ℕ). getD (nodesOf t′) j blank) z ∙ m .node (omega arith) .1 ∙ sym (getD-at (nodesOf t) x [] blank i (length-nodes t ∙ sym e))
-      go i (inr l) = grown-node (m .grown) i l ∙ sym (List·getD-append (nodesOf t) (x ∷ []) blank i (omega (arith, length-nodes t)))
-
-  made-got : 0 < r → (r < count t + 2) ⊎ (count t + 2 ≤ r) → Got K (capacity t) (nodesOf t) false r (nodesOf t′) false (J t x)
-  made-got p (inl l) =
-      let e : t′ ≡ t = m .still l in
-      subst⁻¹ (λ (u : List ℕ). Got K (capacity t) (nodesOf t) false r (nodesOf u) false (J t x)) e
-      (got-eq (ap (λ (u : List ℕ). family (nodesOf u) r) (sym e) ∙ m .denotes p)
-      (got-there (capacity t) false r (y .sound .nodes) (omega (arith, length-nodes t))))
-  made-got p (inr h) =
-      let z : suc (suc (length (nodesOf t))) ≡ r = omega (arith, length-nodes t, m .next h .0) in
-      subst⁻¹ (λ (l : List Node). Got K (capacity t) (nodesOf t) false r l false (J t x)) (made-nodes h)
-      (subst (λ (k : ℕ). Got K (capacity t) (nodesOf t) false k (nodesOf t ++ (x ∷ [])) false (J t x)) z
-      (got-made (capacity t) (y .sound .nodes) x fine-len (λ i l. m .next h .1 .1 i (omega (arith, length-nodes t)))))
-
-  below-or : (a b : ℕ) → (a < b) ⊎ (b ≤ a)
-  below-or a zero = inr (omega arith)
-  below-or zero (suc b) = inl (omega arith)
-  below-or (suc a) (suc b) = go (below-or a b)
-    where
-      go : (a < b) ⊎ (b ≤ a) → (suc a < suc b) ⊎ (suc b ≤ suc a)
-      go (inl l) = inl (omega arith)
-      go (inr l) = inr (omega arith)
-
   pub made-gives : 0 < r → Gives K t t′ heads′ next′ r (J t x)
   made-gives p = record {
     long = m .grown .long;
     sound = m .grown .sound;
     indexed = m .indexed;
     small = omega (arith, m .known, m .grown .sound .few);
-    got = λ h. made-got p (below-or r (count t + 2));
+    got = λ h. made-some y m (capacity t) refl p;
     full = λ e. absurd (omega (arith, m .known, m .grown .sound .few));
   }
 
-  pub made-none : r ≡ 0 → Gives K t t′ heads′ next′ 65536 (J t x)
-  made-none z =
-      let f = m .full z in
-      let e : t′ ≡ t = m .still (omega arith) in
-      record {
-        long = m .grown .long;
-        sound = m .grown .sound;
-        indexed = m .indexed;
-        small = omega arith;
-        got = λ h. absurd (omega arith);
-        full = λ q.
-            subst⁻¹ (λ (u : List ℕ). Got K (capacity t) (nodesOf t) false 0 (nodesOf u) true (J t x)) e
-            (got-full (capacity t) (y .sound .nodes) x fine-len (λ i l. f .0 i (omega (arith, length-nodes t))) 0 (omega arith) (omega (arith, f .1, length-nodes t)));
-      }
+  pub made-short : r ≡ 0 → Gives K t t′ heads′ next′ 65536 (J t x)
+  made-short z = record {
+    long = m .grown .long;
+    sound = m .grown .sound;
+    indexed = m .indexed;
+    small = omega arith;
+    got = λ h. absurd (omega arith);
+    full = λ q. subst (λ (k : ℕ). Got K (capacity t) (nodesOf t) false k (nodesOf t′) true (J t x)) z (made-none y m (capacity t) refl z);
+  }
 
 -- what make says
 pub noded-lo : {t heads next : List ℕ} (label lo hi : ℕ) → Indexed t heads next → hi ≡ 0 → Noded t t heads next label lo hi lo
@@ -116,7 +71,7 @@ module _ (t t′ heads′ next′ : List ℕ) (label lo hi : ℕ) where
   noded-made r h p u K c = made-gives (may c h) (u K (may c h)) p
 
   pub noded-none : (r : ℕ) → 0 < hi → r ≡ 0 → Unique t t′ heads′ next′ (node label lo hi) r → Noded t t′ heads′ next′ label lo hi 65536
-  noded-none r h p u K c = made-none (may c h) (u K (may c h)) p
+  noded-none r h p u K c = made-short (may c h) (u K (may c h)) p
 
 -- ---- the parts, then the node
 

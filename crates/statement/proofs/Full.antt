@@ -11,12 +11,9 @@ use Rattle.zdd.proofs.Words.{length-nodes}
 use Rattle.zdd.proofs.Tested.{sound-of, capacity-fits}
 use Rattle.zdd.specs.Branches.{missing}
 use Rattle.zdd.proofs.Counting.{least-growth}
+use Rattle.zdd.proofs.Room.{same-capacity}
 use Rattle.query.specs.Questions.{familyAt}
 use Rattle.statement.specs.Refusals.{full}
-
-same-capacity : (t u : List ℕ) → length t ≡ length u → capacity t ≡ capacity u
-unfolding capacity
-same-capacity t u e = rw e
 
 -- a sound table grows by at least the missing nodes
 pub grows-by : (K t t′ : List ℕ) (a : ℕ) → soundb K t′ ≡ true → take (count t) (nodesOf t′) ≡ nodesOf t → a < count t′ + 2

@@ -5,10 +5,11 @@ use mathlib.Core.Logic.{_⊎_, inl, inr}
 use mathlib.Core.List.{List}
 use Prim.Native.Nat.{ℕ, suc, _+_, _-_, _*_, _<_, _≤_}
 use native.Mathlib.Nat.{eq-or-lt-of-le}
+use native.Mathlib.Decide.{decLt}
 use native.Mathlib.Omega.{arith}
 use lib.Dec.{ltb, eqb}
 use lib.ListN.{length, getD, List·getD-eq-default}
-use borrow.Author.Tests.{ltb-true, ltb-false, lt-ltb, eqb-true, eq-eqb}
+use borrow.Author.Tests.{ltb-true, lt-ltb, eqb-true, eq-eqb}
 use Rattle.base.proofs.Bools.{never, is-false, same-test, cases}
 use Rattle.zdd.specs.Table.{Node, node, blank, count, nodesOf, key, Over, Fine, Sound, soundb}
 use Rattle.zdd.proofs.Tested.{sound-of, sound-test}
@@ -111,18 +112,11 @@ cleared-more {t} {w} {j} c z = record { from = omega (arith, c .from); clear = �
     go k a (inr l) = c .clear k a l
 
 pub cleared-all : {t : List ℕ} {w j : ℕ} → Cleared t w j → length t ≤ j → (k : ℕ) → w ≤ k → getD t k 0 ≡ 0
-cleared-all {t} {w} {j} c h k a = go (eq-or-lt k)
+cleared-all {t} {w} {j} c h k a = go (decLt k j)
   where
-    eq-or-lt : (k : ℕ) → (k < j) ⊎ (j ≤ k)
-    eq-or-lt k = at (cases (ltb k j))
-      where
-        at : (ltb k j ≡ true) ⊎ (ltb k j ≡ false) → (k < j) ⊎ (j ≤ k)
-        at (inl e) = inl (ltb-true k j e)
-        at (inr e) = inr (ltb-false k j e)
-
-    go : (k < j) ⊎ (j ≤ k) → getD t k 0 ≡ 0
-    go (inl l) = c .clear k a l
-    go (inr g) = List·getD-eq-default t 0 (omega arith)
+    go : Dec (k < j) → getD t k 0 ≡ 0
+    go (yes l) = c .clear k a l
+    go (no g) = List·getD-eq-default t 0 (omega arith)
 
 -- ---- a node joins the index
 

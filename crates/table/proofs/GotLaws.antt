@@ -1,10 +1,8 @@
 -- What find-or-make gives is got (`zdd`'s `Got`). Assumes nothing.
 use mathlib.Core.Path.{_≡_, sym, ap, _∙_, subst, subst⁻¹}
 use mathlib.Core.Bool.{Bool, true, false}
-use mathlib.Core.Logic.{⊎-elim}
 use mathlib.Core.List.{List, [], _∷_, _++_}
 use Prim.Native.Nat.{ℕ, suc, _+_, _-_, _<_, _≤_}
-use native.Mathlib.Nat.{eq-zero-or-pos}
 use native.Mathlib.Omega.{arith}
 use native.Mathlib.Decide.{decLt}
 use lib.Dec.{eqb}
@@ -31,8 +29,8 @@ module _ {K t t′ heads′ next′ : List ℕ} {x : Node} {r : ℕ} (y : May K 
   abbrev F : Family
   F = fork (x .label) (family (nodesOf t) (x .hi)) (family (nodesOf t) (x .lo))
 
-  none : r ≡ 0 → Got K c (nodesOf t) false r (nodesOf t′) true F
-  none z =
+  pub made-none : r ≡ 0 → Got K c (nodesOf t) false r (nodesOf t′) true F
+  made-none z =
       let s : t′ ≡ t = m .still (omega arith) in
       let f = m .full z in
       subst⁻¹ (λ (u : List ℕ). Got K c (nodesOf t) false r (nodesOf u) true F) s
@@ -58,16 +56,16 @@ module _ {K t t′ heads′ next′ : List ℕ} {x : Node} {r : ℕ} (y : May K 
       (subst (λ (k : ℕ). Got K c (nodesOf t) false k (nodesOf t ++ (x ∷ [])) false F) z
       (got-made c (y .sound .nodes) x fine (λ j h. q .1 .1 j (omega (arith, length-nodes t)))))
 
-  some : 0 < r → Dec (r < count t + 2) → Got K c (nodesOf t) false r (nodesOf t′) false F
-  some p (yes h) = old p h
-  some p (no h) = new (omega arith)
+  pub made-some : 0 < r → Got K c (nodesOf t) false r (nodesOf t′) false F
+  made-some p = go (decLt r (count t + 2))
+    where
+      go : Dec (r < count t + 2) → Got K c (nodesOf t) false r (nodesOf t′) false F
+      go (yes h) = old p h
+      go (no h) = new (omega arith)
 
   -- THEOREM: what find-or-make gives is got; the flag goes up where it gives 0
   pub made-got : Got K c (nodesOf t) false r (nodesOf t′) (eqb r 0) F
   made-got =
       by-test (eqb r 0)
-      (λ z. subst⁻¹ (λ (b : Bool). Got K c (nodesOf t) false r (nodesOf t′) b F) z (none (eqb-true r 0 z)))
-      (λ z. subst⁻¹ (λ (b : Bool). Got K c (nodesOf t) false r (nodesOf t′) b F) z (some (pos (eqb-false r 0 z)) (decLt r (count t + 2))))
-    where
-      pos : (r ≡ 0 → ⊥) → 0 < r
-      pos f = ⊎-elim (λ (q : r ≡ 0). absurd (f q)) (λ (q : 0 < r). q) (eq-zero-or-pos r)
+      (λ z. subst⁻¹ (λ (b : Bool). Got K c (nodesOf t) false r (nodesOf t′) b F) z (made-none (eqb-true r 0 z)))
+      (λ z. subst⁻¹ (λ (b : Bool). Got K c (nodesOf t) false r (nodesOf t′) b F) z (made-some (omega (arith, eqb-false r 0 z))))

@@ -1,9 +1,10 @@
 -- The laws of a table's index: it is empty at first, it takes one more number, and it goes by the nodes that it has alone. Assumes nothing.
-use mathlib.Core.Path.{_≡_, refl, sym, ap, subst, _∙_}
+use mathlib.Core.Path.{_≡_, sym, ap, subst, _∙_}
 use mathlib.Core.List.{List, _++_}
-use Prim.Native.Nat.{ℕ, zero, suc, _+_, _-_, _<_, _≤_}
+use Prim.Native.Nat.{ℕ, zero, _+_, _-_, _<_, _≤_}
 use native.Mathlib.Omega.{arith}
 use lib.ListN.{length, getD, set, length-set, List·getD-append, replicate, length-replicate}
+use Rattle.base.proofs.Wiping.{zeros}
 use Rattle.zdd.specs.Table.{Node, blank}
 use Rattle.buckets.specs.Chain.{Index}
 use Rattle.table.specs.State.{hashOf, bucket, Fresh, IndexedTo}
@@ -42,11 +43,6 @@ behind {ns} {heads} {next} ms m h d = record {
   index = chain.same (bucket ns) (bucket (ns ++ ms)) 2 m heads next
       (λ k a b. sym (ap hashOf (List·getD-append ns ms blank (k - 2) (omega arith)))) (d .index);
 }
-
-zeros : (n h : ℕ) → getD {A = ℕ} (replicate n 0) h 0 ≡ 0
-zeros zero h = refl
-zeros (suc n) zero = refl
-zeros (suc n) (suc h) = zeros n h
 
 -- two new arrays of zeros
 pub fresh : (n : ℕ) → n ≡ 65536 → Fresh (replicate n 0) (replicate n 0)

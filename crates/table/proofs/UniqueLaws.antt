@@ -1,15 +1,13 @@
 -- The three ends of find or make: there is no room, the node is there, the node is appended. Assumes nothing.
 use mathlib.Core.Path.{_≡_, refl, sym, ap, subst, _∙_}
-use mathlib.Core.Bool.{Bool, true, false, cond}
 use mathlib.Core.List.{List, [], _∷_, _++_}
-use Prim.Native.Nat.{ℕ, suc, _+_, _-_, _*_, _/_, _<_, _≤_}
+use Prim.Native.Nat.{ℕ, suc, _+_, _-_, _*_, _<_, _≤_}
 use native.Mathlib.Omega.{arith}
-use lib.Dec.{leb}
 use lib.ListN.{length, getD, set}
 use lib.Seq.{getD-at}
-use borrow.Author.Tests.{leb-true, leb-false}
 use Rattle.zdd.specs.Table.{Node, node, blank, fork, count, capacity, nodesOf, family, Fine, Sound}
 use Rattle.zdd.proofs.Grow.{family-node}
+use Rattle.zdd.proofs.Tested.{capacity-most, capacity-least}
 use Rattle.zdd.proofs.Words.{length-nodes, Appended, appended-nodes, appended-sound, stored}
 use Rattle.zdd.proofs.TableLaws.{appended-new}
 use Rattle.table.specs.State.{hashOf, Room, IndexedTo, Indexed, Found, Absent, Unique}
@@ -17,22 +15,6 @@ use Rattle.table.proofs.IndexLaws as index
 use Rattle.table.proofs.GrownLaws.{grown-refl, grown-append}
 
 -- ---- room
-
-pub capacity-most : (t : List ℕ) → (capacity t ≤ 65534) × (capacity t ≤ (length t - 1) / 3)
-unfolding capacity
-capacity-most t = go (leb ((length t - 1) / 3) 65534) refl
-  where
-    go : (b : Bool) → leb ((length t - 1) / 3) 65534 ≡ b → (cond b ((length t - 1) / 3) 65534 ≤ 65534) × (cond b ((length t - 1) / 3) 65534 ≤ (length t - 1) / 3)
-    go true q = let z : (length t - 1) / 3 ≤ 65534 = leb-true ((length t - 1) / 3) 65534 q in (z, omega arith)
-    go false q = let z : 65534 < (length t - 1) / 3 = leb-false ((length t - 1) / 3) 65534 q in (omega arith, omega arith)
-
-pub capacity-least : (t : List ℕ) (n : ℕ) → n ≤ 65534 → n ≤ (length t - 1) / 3 → n ≤ capacity t
-unfolding capacity
-capacity-least t n a b = go (leb ((length t - 1) / 3) 65534)
-  where
-    go : (c : Bool) → n ≤ cond c ((length t - 1) / 3) 65534
-    go true = b
-    go false = a
 
 pub full-few : {t : List ℕ} → Room t → 65534 ≤ count t → count t ≡ capacity t
 full-few {t} r h = omega (arith, r .fit, r .few, capacity-most t, capacity-least t (count t) (r .few) (omega (arith, r .fit)))

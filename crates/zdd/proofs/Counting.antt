@@ -9,9 +9,9 @@ use native.Mathlib.Nat.{le-refl, not-suc-le-zero}
 use native.Mathlib.Omega.{arith}
 use lib.Dec.{eqb}
 use lib.ListN.{length, getD}
-use Rattle.base.proofs.Bools.{never, is-false, cases, and-left, and-right, and-both, or-cases, or-left, or-right, eqb-same}
-use Rattle.zdd.specs.Table.{Node, blank, Family, fork, families, family, eqSet, elem, key, Nodes, _∈_}
-use Rattle.zdd.proofs.Member.{Avoids, avoids-at, from-avoids, family-from, eqSet-same, eqSet-eq}
+use Rattle.base.proofs.Bools.{never, cases, and-left, and-right, and-both, or-cases, or-left, or-right, eqb-same}
+use Rattle.zdd.specs.Table.{Node, blank, Family, fork, families, family, eqSet, key, Nodes, _∈_}
+use Rattle.zdd.proofs.Member.{Avoids, avoids-rest, avoids-first, from-avoids, family-from, eqSet-same, eqSet-eq}
 use Rattle.zdd.proofs.Grow.{length-families, families-append, family-ind, downward, family-node}
 use Rattle.zdd.proofs.Canon.{family-some}
 use Rattle.zdd.specs.Branches.{starting, others, weight, branchesTo, branches, eqFamily, amongb, fresh, missing}
@@ -77,6 +77,17 @@ pigeonhole (x ∷ xs) ys d s =
     let m : x ∈ ys = s x (List·Memᴰ·head refl) in
     subst (λ (n : ℕ). suc (length xs) ≤ n) (drop-length m)
     (suc-le-suc (pigeonhole xs (drop-one m) (d .1) (λ F k. drop-keeps m F (s F (List·Memᴰ·tail k)) (λ e. d .0 (Memᴰ·cast (sym e) k)))))
+
+-- a list without repeats that is as long as one that has all of its elements has all of that one's
+pub pigeonhole-back : (xs ys : List Family) → Distinct xs → ((F : Family) → F ∈ xs → F ∈ ys) → length ys ≤ length xs → (F : Family) → F ∈ ys → F ∈ xs
+pigeonhole-back xs ys d s l F m = go (cases (amongb F xs))
+  where
+    go : (amongb F xs ≡ true) ⊎ (amongb F xs ≡ false) → F ∈ xs
+    go (inl e) = among-of F xs e
+    go (inr e) =
+        let less : length xs ≤ length (drop-one m) =
+        pigeonhole xs (drop-one m) d (λ G g. drop-keeps m G (s G g) (λ q. never (among-test F xs (Memᴰ·cast (sym q) g)) e)) in
+        absurd (omega (arith, drop-length m))
 
 -- ---- `fresh`: those of the list that are not known, each once
 
@@ -210,38 +221,27 @@ branches-cons p s F =
 
 -- ---- a node's branch families are its own and those of its children
 
-starting-none : (p : ℕ) (F : Family) → ((t : List ℕ) → elem (p ∷ t) F ≡ false) → starting p F ≡ []
-unfolding starting elem eqSet
+starting-none : (p : ℕ) (F : Family) → Avoids p F → starting p F ≡ []
+unfolding starting
 starting-none p [] h = refl
-starting-none p ([] ∷ F) h = starting-none p F h
-starting-none p ((q ∷ t) ∷ F) h = go (eqb p q) refl (starting-none p F (λ u. rest u))
-  where
-    rest : (u : List ℕ) → elem (p ∷ u) F ≡ false
-    rest u = is-false (elem (p ∷ u) F) (λ e. never (or-right (eqSet (p ∷ u) (q ∷ t)) (elem (p ∷ u) F) e) (h u))
+starting-none p ([] ∷ F) h = starting-none p F (avoids-rest p [] F h)
+starting-none p ((q ∷ t) ∷ F) h =
+    ap (λ (b : Bool). cond b (t ∷ starting p F) (starting p F)) (avoids-first p q t F h) ∙ starting-none p F (avoids-rest p (q ∷ t) F h)
 
-    go : (b : Bool) → eqb p q ≡ b → starting p F ≡ [] → cond b (t ∷ starting p F) (starting p F) ≡ []
-    go true e ih = absurd (never (or-left (eqSet (p ∷ t) (q ∷ t)) (elem (p ∷ t) F) (and-both (eqb p q) (eqSet t t) e (eqSet-same t))) (h t))
-    go false e ih = ih
-
-others-all : (p : ℕ) (F : Family) → ((t : List ℕ) → elem (p ∷ t) F ≡ false) → others p F ≡ F
-unfolding others elem eqSet
+others-all : (p : ℕ) (F : Family) → Avoids p F → others p F ≡ F
+unfolding others
 others-all p [] h = refl
-others-all p ([] ∷ F) h = ap (λ (G : Family). [] ∷ G) (others-all p F h)
-others-all p ((q ∷ t) ∷ F) h = go (eqb p q) refl (others-all p F (λ u. rest u))
-  where
-    rest : (u : List ℕ) → elem (p ∷ u) F ≡ false
-    rest u = is-false (elem (p ∷ u) F) (λ e. never (or-right (eqSet (p ∷ u) (q ∷ t)) (elem (p ∷ u) F) e) (h u))
-
-    go : (b : Bool) → eqb p q ≡ b → others p F ≡ F → cond b (others p F) ((q ∷ t) ∷ others p F) ≡ (q ∷ t) ∷ F
-    go true e ih = absurd (never (or-left (eqSet (p ∷ t) (q ∷ t)) (elem (p ∷ t) F) (and-both (eqb p q) (eqSet t t) e (eqSet-same t))) (h t))
-    go false e ih = ap (λ (G : Family). (q ∷ t) ∷ G) ih
+others-all p ([] ∷ F) h = ap (λ (G : Family). [] ∷ G) (others-all p F (avoids-rest p [] F h))
+others-all p ((q ∷ t) ∷ F) h =
+    ap (λ (b : Bool). cond b (others p F) ((q ∷ t) ∷ others p F)) (avoids-first p q t F h)
+    ∙ ap (λ (G : Family). (q ∷ t) ∷ G) (others-all p F (avoids-rest p (q ∷ t) F h))
 
 starting-fork : (p : ℕ) (F1 F0 : Family) → Avoids p F0 → starting p (fork p F1 F0) ≡ F1
-starting-fork p [] F0 a = starting-none p F0 (avoids-at p F0 a)
+starting-fork p [] F0 a = starting-none p F0 a
 starting-fork p (s ∷ F1) F0 a = starting-first p s (fork p F1 F0) ∙ ap (λ (G : Family). s ∷ G) (starting-fork p F1 F0 a)
 
 others-fork : (p : ℕ) (F1 F0 : Family) → Avoids p F0 → others p (fork p F1 F0) ≡ F0
-others-fork p [] F0 a = others-all p F0 (avoids-at p F0 a)
+others-fork p [] F0 a = others-all p F0 a
 others-fork p (s ∷ F1) F0 a = others-first p s (fork p F1 F0) ∙ others-fork p F1 F0 a
 
 pub branches-fork : (p : ℕ) (F1 F0 : Family) → (F1 ≡ [] → ⊥) → Avoids p F0 → branches (fork p F1 F0) ≡ fork p F1 F0 ∷ (branches F1 ++ branches F0)
@@ -285,79 +285,49 @@ nth-member [] k h = absurd (not-suc-le-zero h)
 nth-member (F ∷ l) zero h = List·Memᴰ·head refl
 nth-member (F ∷ l) (suc k) h = List·Memᴰ·tail (nth-member l k (omega arith))
 
-pub family-member : (xs : List Node) (j : ℕ) → j < suc (suc (length xs)) → family xs j ∈ families xs
+member-nth : (l : List Family) (G : Family) → G ∈ l → (k : ℕ) × (k < length l) × (G ≡ getD l k [])
+member-nth [] G m = absurd (List·Memᴰ·not-nil m)
+member-nth (F ∷ l) G m =
+    ⊎-elim {C = (k : ℕ) × (k < length (F ∷ l)) × (G ≡ getD (F ∷ l) k [])}
+    (λ e. (0, omega arith, e)) (λ n. let r = member-nth l G n in (suc (r .0), omega (arith, r .1), r .2)) (List·Memᴰ·cases-cons m)
+
+-- the families of a table are those of its numbers
+pub number-in : (ns : List Node) (k : ℕ) → k < suc (suc (length ns)) → family ns k ∈ families ns
 unfolding family families
-family-member xs j l = nth-member (families xs) j (omega (arith, length-families xs))
-
--- THEOREM: nodes ms behind the nodes ns of a sound table that then has the number k are at least as many as ns lacks for k's family
-pub least-growth : {K : List ℕ} (ns ms : List Node) → Nodes K (ns ++ ms) → (k : ℕ) → k < suc (suc (length (ns ++ ms)))
-    → missing ns (family (ns ++ ms) k) ≤ length ms
-unfolding missing
-least-growth {K} ns ms n k h =
-    subst (λ (c : ℕ). length new ≤ c) (rest .2)
-    (pigeonhole new (rest .0) (fresh-distinct (branches (family (ns ++ ms) k)) (families ns)) (λ G m.
-    let s = fresh-sound (branches (family (ns ++ ms) k)) (families ns) G m in
-    let j = branch-known n k h G (s .0) in
-    let i : G ∈ families ns ++ rest .0 =
-    subst (λ (l : List Family). G ∈ l) (rest .1) (Memᴰ·cast (j .2) (member (j .0) (j .1))) in
-    ⊎-elim (λ c. absurd (s .1 c)) (λ c. c) (List·Memᴰ·append-cases (families ns) i)))
-  where
-    new : List Family
-    new = fresh (families ns) (branches (family (ns ++ ms) k))
-
-    rest : (l : List Family) × (families (ns ++ ms) ≡ families ns ++ l) × (length l ≡ length ms)
-    rest = families-append ns ms
-
-    member : (j : ℕ) → j < suc (suc (length (ns ++ ms))) → family (ns ++ ms) j ∈ families (ns ++ ms)
-    member j l = family-member (ns ++ ms) j l
-
--- ---- the growth of a table whose new nodes all serve F
-
-index-of : (l : List Family) (F : Family) → F ∈ l → (k : ℕ) × (k < length l) × (F ≡ getD l k [])
-index-of [] F m = absurd (List·Memᴰ·not-nil m)
-index-of (G ∷ l) F m =
-    ⊎-elim {C = (k : ℕ) × (k < length (G ∷ l)) × (F ≡ getD (G ∷ l) k [])}
-    (λ e. (0, omega arith, e)) (λ n. let r = index-of l F n in (suc (r .0), omega (arith, r .1), r .2)) (List·Memᴰ·cases-cons m)
-
--- ---- a table that grew by just the missing nodes
-
--- a list without repeats that is as long as one that has all of its elements has all of that one's
-pub pigeonhole-back : (xs ys : List Family) → Distinct xs → ((F : Family) → F ∈ xs → F ∈ ys) → length ys ≤ length xs → (F : Family) → F ∈ ys → F ∈ xs
-pigeonhole-back xs ys d s l F m = go (cases (amongb F xs))
-  where
-    go : (amongb F xs ≡ true) ⊎ (amongb F xs ≡ false) → F ∈ xs
-    go (inl e) = among-of F xs e
-    go (inr e) =
-        let less : length xs ≤ length (drop-one m) =
-        pigeonhole xs (drop-one m) d (λ G g. drop-keeps m G (s G g) (λ q. never (among-test F xs (Memᴰ·cast (sym q) g)) e)) in
-        absurd (omega (arith, drop-length m))
-
--- THEOREM: nodes ms behind ns, as many as ns lacks for the family of k: what a number denotes was denoted before, or is a branch family of k's
-pub growth-serves : {K : List ℕ} (ns ms : List Node) → Nodes K (ns ++ ms) → (k : ℕ) → k < suc (suc (length (ns ++ ms)))
-    → length ms ≡ missing ns (family (ns ++ ms) k) → (G : Family) → G ∈ families (ns ++ ms) → (G ∈ families ns) ⊎ (G ∈ branches (family (ns ++ ms) k))
-unfolding missing
-growth-serves {K} ns ms n k h e G g =
-    ⊎-elim (λ a. inl a)
-    (λ b. inr (fresh-sound (branches F) (families ns) G
-    (pigeonhole-back (fresh (families ns) (branches F)) (l .0) (fresh-distinct (branches F) (families ns)) into-new (omega (arith, l .2)) G b) .0))
-    (List·Memᴰ·append-cases (families ns) (subst (λ (q : List Family). G ∈ q) (l .1) g))
-  where
-    F : Family
-    F = family (ns ++ ms) k
-
-    l : (l : List Family) × (families (ns ++ ms) ≡ families ns ++ l) × (length l ≡ length ms)
-    l = families-append ns ms
-
-    into-new : (H : Family) → H ∈ fresh (families ns) (branches F) → H ∈ l .0
-    into-new H m =
-        let s = fresh-sound (branches F) (families ns) H m in
-        let j = branch-known n k h H (s .0) in
-        ⊎-elim (λ c. absurd (s .1 c)) (λ c. c)
-        (List·Memᴰ·append-cases (families ns) (subst (λ (q : List Family). H ∈ q) (l .1) (Memᴰ·cast (j .2) (family-member (ns ++ ms) (j .0) (j .1)))))
+number-in ns k h = nth-member (families ns) k (omega (arith, length-families ns))
 
 pub number-of : (ns : List Node) (G : Family) → G ∈ families ns → (k : ℕ) × (k < suc (suc (length ns))) × (G ≡ family ns k)
 unfolding family
-number-of ns G m = let r = index-of (families ns) G m in (r .0, omega (arith, r .1, length-families ns), r .2)
+number-of ns G m = let r = member-nth (families ns) G m in (r .0, omega (arith, r .1, length-families ns), r .2)
 
-pub number-in : (ns : List Node) (k : ℕ) → k < suc (suc (length ns)) → family ns k ∈ families ns
-number-in ns k h = family-member ns k h
+-- nodes ms behind the nodes ns of a sound table that then has the number k
+module _ {K : List ℕ} (ns ms : List Node) (n : Nodes K (ns ++ ms)) (k : ℕ) (h : k < suc (suc (length (ns ++ ms)))) where
+  lacked : List Family
+  lacked = fresh (families ns) (branches (family (ns ++ ms) k))
+
+  added : (l : List Family) × (families (ns ++ ms) ≡ families ns ++ l) × (length l ≡ length ms)
+  added = families-append ns ms
+
+  lacked-added : (G : Family) → G ∈ lacked → G ∈ added .0
+  unfolding lacked
+  lacked-added G m =
+      let s = fresh-sound (branches (family (ns ++ ms) k)) (families ns) G m in
+      let j = branch-known n k h G (s .0) in
+      ⊎-elim (λ c. absurd (s .1 c)) (λ c. c)
+      (List·Memᴰ·append-cases (families ns) (subst (λ (l : List Family). G ∈ l) (added .1) (Memᴰ·cast (j .2) (number-in (ns ++ ms) (j .0) (j .1)))))
+
+  -- THEOREM: they are at least as many as ns lacks for k's family
+  pub least-growth : missing ns (family (ns ++ ms) k) ≤ length ms
+  unfolding missing lacked
+  least-growth =
+      subst (λ (c : ℕ). length lacked ≤ c) (added .2)
+      (pigeonhole lacked (added .0) (fresh-distinct (branches (family (ns ++ ms) k)) (families ns)) lacked-added)
+
+  -- THEOREM: where they are just as many, what a number denotes was denoted before, or is a branch family of k's
+  pub growth-serves : length ms ≡ missing ns (family (ns ++ ms) k) → (G : Family) → G ∈ families (ns ++ ms) → (G ∈ families ns) ⊎ (G ∈ branches (family (ns ++ ms) k))
+  unfolding missing lacked
+  growth-serves e G g =
+      ⊎-elim (λ a. inl a)
+      (λ b. inr (fresh-sound (branches (family (ns ++ ms) k)) (families ns) G
+      (pigeonhole-back lacked (added .0) (fresh-distinct (branches (family (ns ++ ms) k)) (families ns)) lacked-added (omega (arith, added .2)) G b) .0))
+      (List·Memᴰ·append-cases (families ns) (subst (λ (l : List Family). G ∈ l) (added .1) g))

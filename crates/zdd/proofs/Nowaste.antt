@@ -13,11 +13,11 @@ use lib.Seq.{take-append-seam}
 use Rattle.zdd.specs.Table.{Node, blank, Family, fork, families, family, key, Fine, Nodes, _∈_}
 use Rattle.zdd.proofs.Member.{Avoids, from-avoids, family-from}
 use Rattle.zdd.specs.Work.{Under, Nowaste, Short}
-use Rattle.zdd.proofs.Grow.{length-families, family-append, families-append, family-new}
+use Rattle.zdd.proofs.Grow.{family-append, families-append, family-new}
 use Rattle.zdd.proofs.Canon.{family-some, canonical}
 use Rattle.zdd.proofs.Extend.{nodes-append}
 use Rattle.zdd.specs.Branches.{branches, fresh, missing}
-use Rattle.zdd.proofs.Counting.{Distinct, fresh-sound, fresh-distinct, at-most, fewer, family-member, least-growth}
+use Rattle.zdd.proofs.Counting.{Distinct, fresh-sound, fresh-distinct, at-most, fewer, number-in, number-of, least-growth}
 use Rattle.zdd.proofs.Under.{under-self, fork-branch}
 
 -- ---- no waste: how it goes together
@@ -133,24 +133,11 @@ distinct-append (x ∷ xs) ys d e f = (
   distinct-append xs ys (d .1) e (λ a m. f a (List·Memᴰ·tail m)),
 )
 
-member-nth : (l : List Family) (G : Family) → G ∈ l → (k : ℕ) × (k < length l) × (G ≡ getD l k [])
-member-nth [] G m = absurd (List·Memᴰ·not-nil m)
-member-nth (F ∷ l) G m = go (member-nth l G) (List·Memᴰ·cases-cons m)
-  where
-    go : (G ∈ l → (k : ℕ) × (k < length l) × (G ≡ getD l k [])) → (G ≡ F) ⊎ (G ∈ l) → (k : ℕ) × (k < length (F ∷ l)) × (G ≡ getD (F ∷ l) k [])
-    go ih (inl e) = (0, omega arith, e)
-    go ih (inr c) = let t = ih c in (suc (t .0), omega (arith, t .1), t .2)
-
--- a family of the table has a number
-pub member-number : (ns : List Node) (G : Family) → G ∈ families ns → (k : ℕ) × (k < suc (suc (length ns))) × (G ≡ family ns k)
-unfolding family
-member-number ns G m = let t = member-nth (families ns) G m in (t .0, omega (arith, t .1, length-families ns), t .2)
-
 -- a table that is short of F lacks something for F
 pub short-missing : {ns : List Node} {F : Family} → Short ns F → 0 < missing ns F
 short-missing {ns} {F} s =
     fewer ns [] F tt (λ G m. absurd (List·Memᴰ·not-nil m)) (λ G m. absurd (List·Memᴰ·not-nil m)) (s .lacking) (s .branch)
-    (λ m. let t = member-number ns (s .lacking) m in s .absent (t .0) (t .1) (sym (t .2)))
+    (λ m. let t = number-of ns (s .lacking) m in s .absent (t .0) (t .1) (sym (t .2)))
     (λ m. List·Memᴰ·not-nil m)
 
 module _ {K : List ℕ} {ns ns′ : List Node} {F : Family} (n : Nodes K ns′) (w : Nowaste ns ns′ F) where
@@ -179,7 +166,7 @@ module _ {K : List ℕ} {ns ns′ : List Node} {F : Family} (n : Nodes K ns′) 
   added-new : (G : Family) → G ∈ added → G ∈ families ns → ⊥
   added-new G m c =
       let t = added-in G m in
-      let u = member-number ns G c in
+      let u = number-of ns G c in
       let l : length ns′ ≡ length ns + length (w .new) = nowaste-length w in
       let q : t .0 ≡ u .0 = canonical n (t .0) (u .0) (t .2) (omega (arith, u .1)) (sym (t .3) ∙ u .2 ∙ sym (nowaste-keeps w (u .0) (u .1))) in
       omega (arith, t .1, u .1)
@@ -201,7 +188,7 @@ module _ {K : List ℕ} {ns ns′ : List Node} {F : Family} (n : Nodes K ns′) 
       (at-most ns (added ++ rest) F
       (distinct-append added rest added-distinct (fresh-distinct (branches G) (families ns′)) (λ H a r.
       let t = added-in H a in
-      s H r .1 (Memᴰ·cast (t .3) (family-member ns′ (t .0) (t .2)))))
+      s H r .1 (Memᴰ·cast (t .3) (number-in ns′ (t .0) (t .2)))))
       (λ H m. ⊎-elim (added-new H) (λ r c. s H r .1 (known-more H c)) (List·Memᴰ·append-cases added m))
       (λ H m. ⊎-elim (added-under H) (λ r. u .each H (s H r .0)) (List·Memᴰ·append-cases added m)))
     where

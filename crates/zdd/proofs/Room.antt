@@ -3,11 +3,11 @@
 use mathlib.Core.Path.{_≡_, refl, sym, ap, _∙_, subst, subst⁻¹}
 use mathlib.Core.Bool.{Bool, true, false, cond}
 use mathlib.Core.List.{List, [], _∷_, _++_}
-use Prim.Native.Nat.{ℕ, _+_, _-_, _*_, _/_, _≤_, _<_}
+use Prim.Native.Nat.{ℕ, _+_, _-_, _/_, _≤_, _<_}
 use native.Mathlib.Omega.{arith}
 use lib.Dec.{leb, ltb}
 use lib.ListN.{length, getD}
-use borrow.Author.Tests.{leb-true, leb-false, lt-ltb, le-ltb}
+use borrow.Author.Tests.{lt-ltb, le-ltb}
 use Rattle.base.proofs.Bools.{never, is-false}
 use Rattle.zdd.specs.Table.{Node, blank, Family, fork, count, capacity, nodesOf, family, Fine, Nodes, Sound}
 use Rattle.zdd.proofs.Words.{length-nodes}
@@ -79,15 +79,6 @@ worked-when {c} {ns} {ns′} {b} {b′} {F} {G} f w = go b refl
 pub same-capacity : (t u : List ℕ) → length t ≡ length u → capacity t ≡ capacity u
 unfolding capacity
 same-capacity t u e = ap (λ (n : ℕ). cond (leb ((n - 1) / 3) 65534) ((n - 1) / 3) 65534) e
-
--- below capacity three words are free, as `Words.appended-sound` asks
-pub room : (t : List ℕ) → count t < capacity t → (3 + 3 * count t < length t) × (count t < 65534)
-unfolding capacity
-room t h = go (leb ((length t - 1) / 3) 65534) refl h
-  where
-    go : (b : Bool) → leb ((length t - 1) / 3) 65534 ≡ b → count t < cond b ((length t - 1) / 3) 65534 → (3 + 3 * count t < length t) × (count t < 65534)
-    go true q h = let z : (length t - 1) / 3 ≤ 65534 = leb-true ((length t - 1) / 3) 65534 q in (omega arith, omega arith)
-    go false q h = let z : 65534 < (length t - 1) / 3 = leb-false ((length t - 1) / 3) 65534 q in (omega arith, h)
 
 -- ---- the counts, over words: t before, t′ after
 

@@ -22,14 +22,9 @@ module _ {K : List ℕ} {R : Family} {p : ℕ} {R1 R0 : Family} (s : Split K R p
   pub split-lo : Under R0 R
   split-lo = under-trans (after-lo K p R1 R0 (s .lo-from)) (under-eq (sym (s .is)))
 
-  pub worked-split : {c : ℕ} {ns n1 n0 ns′ : List Node} {b b1 b0 b′ : Bool}
-      → Worked c ns b n1 b1 R1 → Worked c n1 b1 n0 b0 R0 → Worked c n0 b0 ns′ b′ (fork p R1 R0) → Worked c ns b ns′ b′ R
-  worked-split w1 w0 w = worked-then (worked-under w1 split-hi) (worked-then (worked-under w0 split-lo) (worked-under w (under-eq (sym (s .is)))))
-
-  -- lo first
-  pub worked-split-lo : {c : ℕ} {ns n0 n1 ns′ : List Node} {b b0 b1 b′ : Bool}
-      → Worked c ns b n0 b0 R0 → Worked c n0 b0 n1 b1 R1 → Worked c n1 b1 ns′ b′ (fork p R1 R0) → Worked c ns b ns′ b′ R
-  worked-split-lo w0 w1 w = worked-then (worked-under w0 split-lo) (worked-then (worked-under w1 split-hi) (worked-under w (under-eq (sym (s .is)))))
+  -- work on the parts and then on the node is work on the whole
+  pub worked-split : {c : ℕ} {ns n0 ns′ : List Node} {b b0 b′ : Bool} → Worked c ns b n0 b0 R → Worked c n0 b0 ns′ b′ (fork p R1 R0) → Worked c ns b ns′ b′ R
+  worked-split w v = worked-then w (worked-under v (under-eq (sym (s .is))))
 
 -- ---- the other way of `family-from`: a number whose sets begin late has a late label
 

@@ -31,18 +31,15 @@ under-nil G = under-none branches-nil G
 pub fork-branch : (p : ℕ) (F1 F0 : Family) → (F1 ≡ [] → ⊥) → Avoids p F0 → fork p F1 F0 ∈ branches (fork p F1 F0)
 fork-branch p F1 F0 n a = subst⁻¹ (λ (l : List Family). fork p F1 F0 ∈ l) (branches-fork p F1 F0 n a) (List·Memᴰ·head refl)
 
-some : (s : List ℕ) (F : Family) → (s ∷ F ≡ [] → ⊥)
-some s F e = cons≢nil e
-
 pub under-hi : (p : ℕ) (F1 F0 : Family) → Avoids p F0 → Under F1 (fork p F1 F0)
 under-hi p [] F0 a = under-nil F0
 under-hi p (s ∷ F1) F0 a =
-    record { each = λ H m. subst⁻¹ (λ (l : List Family). H ∈ l) (branches-fork p (s ∷ F1) F0 (some s F1) a) (List·Memᴰ·tail (Memᴰ·append-left _ m)) }
+    record { each = λ H m. subst⁻¹ (λ (l : List Family). H ∈ l) (branches-fork p (s ∷ F1) F0 (λ e. cons≢nil e) a) (List·Memᴰ·tail (Memᴰ·append-left _ m)) }
 
 pub under-lo : (p : ℕ) (F1 F0 : Family) → Avoids p F0 → Under F0 (fork p F1 F0)
 under-lo p [] F0 a = under-self F0
 under-lo p (s ∷ F1) F0 a =
-    record { each = λ H m. subst⁻¹ (λ (l : List Family). H ∈ l) (branches-fork p (s ∷ F1) F0 (some s F1) a) (List·Memᴰ·tail (Memᴰ·append-right (branches (s ∷ F1)) m)) }
+    record { each = λ H m. subst⁻¹ (λ (l : List Family). H ∈ l) (branches-fork p (s ∷ F1) F0 (λ e. cons≢nil e) a) (List·Memᴰ·tail (Memᴰ·append-right (branches (s ∷ F1)) m)) }
 
 -- the same where the sets of F0 begin after p
 pub after-hi : (K : List ℕ) (p : ℕ) (F1 F0 : Family) → From K (suc (key K p)) F0 → Under F1 (fork p F1 F0)

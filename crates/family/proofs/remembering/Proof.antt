@@ -4,7 +4,7 @@ use native.Mathlib.Omega.{arith}
 use Prim.Native.Nat.{ℕ}
 use lib.ListN.{length-replicate}
 use Rattle.family.proofs.CombineLaws.{stored-fresh}
-use Rattle.family.proofs.RestrictLaws.{zeros}
+use Rattle.base.proofs.Wiping.{zeros}
 use borrow.Author.Needs.{needs}
 use Rattle.family.proofs.remembering.Statement.{statement}
 use Rattle.family.proofs.remembering.Tie as tie

@@ -2,7 +2,8 @@ use Prim.Native.Nat.{ℕ}
 use mathlib.Core.Path.{refl}
 use native.Mathlib.Omega.{arith}
 use lib.ListN.{length-replicate}
-use Rattle.family.proofs.RestrictLaws.{zeros, kept-fresh}
+use Rattle.base.proofs.Wiping.{zeros}
+use Rattle.family.proofs.RestrictLaws.{kept-fresh}
 use Rattle.family.proofs.GivesLaws.{makes-done, makes-full}
 use borrow.Author.Needs.{needs}
 use Rattle.family.proofs.restriction.Statement.{statement}
