@@ -12,15 +12,15 @@ use Rattle.exact_cover.specs.Recursion.{rank}
 use Rattle.exact_cover.proofs.Order.{length-keys, rank-is}
 
 -- the keys of the packages below k are there
-pub record Filled (S : List ℕ) (k : ℕ) (keys : List ℕ) : Type 0 where
+pub record KeyedTo (S : List ℕ) (k : ℕ) (keys : List ℕ) : Type 0 where
   pub long : length keys ≡ 512
   pub each : (j : ℕ) → j < k → j < length S → getD keys j 0 ≡ rank S j
 
-pub filled-start : (S : List ℕ) {keys : List ℕ} → length keys ≡ 512 → Filled S 0 keys
-filled-start S e = record { long = e; each = λ j l. absurd (omega arith) }
+pub keyed-start : (S : List ℕ) {keys : List ℕ} → length keys ≡ 512 → KeyedTo S 0 keys
+keyed-start S e = record { long = e; each = λ j l. absurd (omega arith) }
 
-pub filled-more : {S keys : List ℕ} (k v : ℕ) → k < 512 → v ≡ lowest (row S k) * 512 + k → Filled S k keys → Filled S (k + 1) (set keys k v)
-filled-more {S} {keys} k v h e f = record {
+pub keyed-more : {S keys : List ℕ} (k v : ℕ) → k < 512 → v ≡ lowest (row S k) * 512 + k → KeyedTo S k keys → KeyedTo S (k + 1) (set keys k v)
+keyed-more {S} {keys} k v h e f = record {
   long = length-set keys k v ∙ f .long;
   each = λ j l n. at j l n (ℕ-discrete j k);
 }
@@ -29,8 +29,8 @@ filled-more {S} {keys} k v h e f = record {
     at j l n (yes q) = rw q (getD-set-same keys k v 0 (omega (arith, f .long)) ∙ e ∙ sym (rank-is S k (omega arith)))
     at j l n (no q) = getD-set-other keys k j v 0 q ∙ f .each j (omega arith) n
 
-pub filled-all : {S keys : List ℕ} (k : ℕ) → Rows S → length S ≤ k → Filled S k keys → Keyed S keys
-filled-all {S} {keys} k r l f =
+pub keyed-all : {S keys : List ℕ} (k : ℕ) → Rows S → length S ≤ k → KeyedTo S k keys → Keyed S keys
+keyed-all {S} {keys} k r l f =
     let n : length (take (length S) keys) ≡ length S = length-take-le (length S) keys (omega (arith, r .few, f .long)) in
     record {
       long = f .long;

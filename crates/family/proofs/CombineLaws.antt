@@ -17,8 +17,8 @@ use Rattle.zdd.specs.Work.{Split}
 use Rattle.zdd.specs.Operations.{combine}
 use Rattle.zdd.proofs.Operations.{union-nil, nil-union, union-self, inter-nil, nil-inter, inter-self, differ-nil, nil-differ, differ-self}
 use Rattle.zdd.proofs.Parts.{split-same, split-left, split-right}
-use Rattle.family.specs.Gives.{Ready, Gives, Noded, Answers}
-use Rattle.family.specs.Memo.{opOf, combined, Ordered, Packed, Stored, Two, Pair, Ended, Ends, Top, Cut}
+use Rattle.family.specs.Gives.{Operable, Gives, Noded, Answers}
+use Rattle.family.specs.Memo.{opOf, combined, Ordered, Packed, Remembered, Two, Pair, Ended, Ends, Top, Cut}
 use Rattle.family.proofs.GivesLaws.{gives-there, gives-answers, gives-keeps, gives-more, gives-eq, step-none-hi, step-none-lo, step-child, step-node}
 use Rattle.family.proofs.RestrictLaws.{two-more, word-node, word-label, word-fine}
 
@@ -289,12 +289,12 @@ module _ {K t : List ℕ} (s : Sound K t) (k : Keys K) (f g : ℕ) (wf : f < cou
 
 -- ---- what is remembered
 
-pub stored-fresh : (op : ℕ) (K : List ℕ) (ns : List Node) (memo : List ℕ) → 0 < length memo → ((i : ℕ) → getD memo i 0 ≡ 0) → Stored op K ns memo
-stored-fresh op K ns memo l z = record { some = l; each = λ i f g e h w. absurd (omega (arith, z i)) }
+pub remembered-fresh : (op : ℕ) (K : List ℕ) (ns : List Node) (memo : List ℕ) → 0 < length memo → ((i : ℕ) → getD memo i 0 ≡ 0) → Remembered op K ns memo
+remembered-fresh op K ns memo l z = record { some = l; each = λ i f g e h w. absurd (omega (arith, z i)) }
 
-pub stored-grown : {op : ℕ} {K t t′ heads′ next′ memo : List ℕ} {r : ℕ} {F : Family} → Gives K t t′ heads′ next′ r F → r < 65536
-    → Stored op K (nodesOf t) memo → Stored op K (nodesOf t′) memo
-stored-grown {op} {K} {t} {t′} {heads′} {next′} {memo} g h m = record {
+pub remembered-grown : {op : ℕ} {K t t′ heads′ next′ memo : List ℕ} {r : ℕ} {F : Family} → Gives K t t′ heads′ next′ r F → r < 65536
+    → Remembered op K (nodesOf t) memo → Remembered op K (nodesOf t′) memo
+remembered-grown {op} {K} {t} {t′} {heads′} {next′} {memo} g h m = record {
   some = m .some;
   each = λ i x y e z w.
       let a = m .each i x y e z w in (
@@ -311,10 +311,10 @@ stored-grown {op} {K} {t} {t′} {heads′} {next′} {memo} g h m = record {
       );
 }
 
-pub stored-stored : {op : ℕ} {K memo : List ℕ} {ns : List Node} (at f g r v : ℕ) → at < length memo → v ≡ (f * 65536 + g) * 65536 + r → r < 65536 → g < 65536
+pub remembered-stored : {op : ℕ} {K memo : List ℕ} {ns : List Node} (at f g r v : ℕ) → at < length memo → v ≡ (f * 65536 + g) * 65536 + r → r < 65536 → g < 65536
     → f < suc (suc (length ns)) → g < suc (suc (length ns))
-    → Answers ns r (combined op K (family ns f) (family ns g)) → Stored op K ns memo → Stored op K ns (set memo at v)
-stored-stored {op} {K} {memo} {ns} at f g r v la ev lr lg wf wg a m = record {
+    → Answers ns r (combined op K (family ns f) (family ns g)) → Remembered op K ns memo → Remembered op K ns (set memo at v)
+remembered-stored {op} {K} {memo} {ns} at f g r v la ev lr lg wf wg a m = record {
   some = omega (arith, length-set memo at v);
   each = λ i x y e z w. each i (ℕ-discrete i at) x y e z w;
 }
@@ -348,7 +348,7 @@ stored-stored {op} {K} {memo} {ns} at f g r v la ev lr lg wf wg a m = record {
 
 -- ---- the recursion
 
-pub pair-of : {K t heads next : List ℕ} {f g : ℕ} → Ready K t heads next → (f < count t + 2) × (g < count t + 2) → Pair K (nodesOf t) f g
+pub pair-of : {K t heads next : List ℕ} {f g : ℕ} → Operable K t heads next → (f < count t + 2) × (g < count t + 2) → Pair K (nodesOf t) f g
 pair-of {K} {t} y w = record {
   keys = y .keys;
   nodes = y .sound .nodes;
@@ -357,28 +357,28 @@ pair-of {K} {t} y w = record {
   right = omega (arith, w .1, length-nodes t);
 }
 
-pub ended-gives : {op : ℕ} {K t heads next memo : List ℕ} {f g r : ℕ} → Ready K t heads next → Stored op K (nodesOf t) memo → (f < count t + 2) × (g < count t + 2) → Ends op memo f g r → (r ≡ 65537 → ⊥)
-    → Gives K t t heads next r (combined op K (family (nodesOf t) f) (family (nodesOf t) g)) × (r < 65536 → Stored op K (nodesOf t) memo)
+pub ended-gives : {op : ℕ} {K t heads next memo : List ℕ} {f g r : ℕ} → Operable K t heads next → Remembered op K (nodesOf t) memo → (f < count t + 2) × (g < count t + 2) → Ends op memo f g r → (r ≡ 65537 → ⊥)
+    → Gives K t t heads next r (combined op K (family (nodesOf t) f) (family (nodesOf t) g)) × (r < 65536 → Remembered op K (nodesOf t) memo)
 ended-gives {op} {K} {t} {heads} {next} {memo} {f} {g} {r} y m w s d =
     let x = s K (nodesOf t) (pair-of y w) m in
     let z : r < 65537 = omega (arith, x .small) in
     (gives-there (y .sound) (y .indexed) (x .answer z .0) (x .answer z .1), λ h. m)
 
-pub ends-two : {op : ℕ} {K t heads next memo : List ℕ} {f g r : ℕ} → Ready K t heads next → Stored op K (nodesOf t) memo → (f < count t + 2) × (g < count t + 2) → Ends op memo f g r → r ≡ 65537 → Two f g
+pub ends-two : {op : ℕ} {K t heads next memo : List ℕ} {f g r : ℕ} → Operable K t heads next → Remembered op K (nodesOf t) memo → (f < count t + 2) × (g < count t + 2) → Ends op memo f g r → r ≡ 65537 → Two f g
 ends-two {op} {K} {t} y m w s e = s K (nodesOf t) (pair-of y w) m .two e
 
-pub hi-known : {K t heads next : List ℕ} {f g p f1 g1 f0 g0 : ℕ} → Ready K t heads next → Cut K (nodesOf t) f g p f1 g1 f0 g0 → (f1 < count t + 2) × (g1 < count t + 2)
+pub hi-known : {K t heads next : List ℕ} {f g p f1 g1 f0 g0 : ℕ} → Operable K t heads next → Cut K (nodesOf t) f g p f1 g1 f0 g0 → (f1 < count t + 2) × (g1 < count t + 2)
 hi-known {K} {t} y c = (omega (arith, c .f1-known, length-nodes t), omega (arith, c .g1-known, length-nodes t))
 
-module _ (op : ℕ) {K t heads next : List ℕ} {f g : ℕ} (y : Ready K t heads next) (w : (f < count t + 2) × (g < count t + 2)) {p f1 g1 f0 g0 : ℕ} (c : Cut K (nodesOf t) f g p f1 g1 f0 g0)
+module _ (op : ℕ) {K t heads next : List ℕ} {f g : ℕ} (y : Operable K t heads next) (w : (f < count t + 2) × (g < count t + 2)) {p f1 g1 f0 g0 : ℕ} (c : Cut K (nodesOf t) f g p f1 g1 f0 g0)
     {t1 heads1 next1 : List ℕ} {h : ℕ} (q1 : Gives K t t1 heads1 next1 h (combined op K (family (nodesOf t) f1) (family (nodesOf t) g1))) where
   split-o : Split K (combined op K (family (nodesOf t) f) (family (nodesOf t) g)) p (combined op K (family (nodesOf t) f1) (family (nodesOf t) g1)) (combined op K (family (nodesOf t) f0) (family (nodesOf t) g0))
   split-o = c .split (opOf op) (off op)
 
-  pub hi-none : {memo1 : List ℕ} → h ≡ 65536 → Gives K t t1 heads1 next1 65536 (combined op K (family (nodesOf t) f) (family (nodesOf t) g)) × (65536 < 65536 → Stored op K (nodesOf t1) memo1)
+  pub hi-none : {memo1 : List ℕ} → h ≡ 65536 → Gives K t t1 heads1 next1 65536 (combined op K (family (nodesOf t) f) (family (nodesOf t) g)) × (65536 < 65536 → Remembered op K (nodesOf t1) memo1)
   hi-none e = (step-none-hi split-o q1 e, λ z. absurd (omega arith))
 
-  pub hi-ready : Ready K t1 heads1 next1
+  pub hi-ready : Operable K t1 heads1 next1
   hi-ready = record { keys = y .keys; sound = q1 .sound; indexed = q1 .indexed }
 
   module _ (w1 : h < 65536) where
@@ -389,29 +389,29 @@ module _ (op : ℕ) {K t heads next : List ℕ} {f g : ℕ} (y : Ready K t heads
       p0 : Gives K t1 t0 heads0 next0 l (combined op K (family (nodesOf t) f0) (family (nodesOf t) g0))
       p0 = gives-eq (ap₂ (combined op K) (gives-keeps q1 w1 f0 (c .f0-known)) (gives-keeps q1 w1 g0 (c .g0-known))) q0
 
-      pub lo-none : {memo0 : List ℕ} → l ≡ 65536 → Gives K t t0 heads0 next0 65536 (combined op K (family (nodesOf t) f) (family (nodesOf t) g)) × (65536 < 65536 → Stored op K (nodesOf t0) memo0)
+      pub lo-none : {memo0 : List ℕ} → l ≡ 65536 → Gives K t t0 heads0 next0 65536 (combined op K (family (nodesOf t) f) (family (nodesOf t) g)) × (65536 < 65536 → Remembered op K (nodesOf t0) memo0)
       lo-none e = (step-none-lo split-o q1 w1 p0 e, λ z. absurd (omega arith))
 
       module _ (w0 : l < 65536) {t′ heads′ next′ : List ℕ} {r : ℕ} (n : Noded t0 t′ heads′ next′ p l h r) where
         whole : Gives K t t′ heads′ next′ r (combined op K (family (nodesOf t) f) (family (nodesOf t) g))
         whole = step-node split-o q1 w1 p0 (c .label-known) w0 n
 
-        pub last-none : {memo0 : List ℕ} → r ≡ 65536 → Gives K t t′ heads′ next′ 65536 (combined op K (family (nodesOf t) f) (family (nodesOf t) g)) × (65536 < 65536 → Stored op K (nodesOf t′) memo0)
+        pub last-none : {memo0 : List ℕ} → r ≡ 65536 → Gives K t t′ heads′ next′ 65536 (combined op K (family (nodesOf t) f) (family (nodesOf t) g)) × (65536 < 65536 → Remembered op K (nodesOf t′) memo0)
         last-none e = (subst (λ (x : ℕ). Gives K t t′ heads′ next′ x (combined op K (family (nodesOf t) f) (family (nodesOf t) g))) e whole, λ z. absurd (omega arith))
 
-        pub last-stored : {memo0 : List ℕ} (at v : ℕ) {k : ℕ} (e : Packed op f g k) → at < length memo0 → v ≡ k * 65536 + r → Stored op K (nodesOf t0) memo0
-            → Gives K t t′ heads′ next′ r (combined op K (family (nodesOf t) f) (family (nodesOf t) g)) × (r < 65536 → Stored op K (nodesOf t′) (set memo0 at v))
+        pub last-stored : {memo0 : List ℕ} (at v : ℕ) {k : ℕ} (e : Packed op f g k) → at < length memo0 → v ≡ k * 65536 + r → Remembered op K (nodesOf t0) memo0
+            → Gives K t t′ heads′ next′ r (combined op K (family (nodesOf t) f) (family (nodesOf t) g)) × (r < 65536 → Remembered op K (nodesOf t′) (set memo0 at v))
         last-stored {memo0} at v {k} e la ev m = (whole, λ z. kept z)
           where
-            kept : r < 65536 → Stored op K (nodesOf t′) (set memo0 at v)
+            kept : r < 65536 → Remembered op K (nodesOf t′) (set memo0 at v)
             kept z =
                 let wf : f < suc (suc (length (nodesOf t))) = omega (arith, w .0, length-nodes t) in
                 let wg : g < suc (suc (length (nodesOf t))) = omega (arith, w .1, length-nodes t) in
                 let x = packed-known e (suc (suc (length (nodesOf t)))) wf wg in
                 let a : Answers (nodesOf t′) r (combined op K (family (nodesOf t) (e .first)) (family (nodesOf t) (e .second))) =
                 subst⁻¹ (λ (F : Family). Answers (nodesOf t′) r F) (packed-same e (family (nodesOf t)) K) (gives-answers whole z) in
-                let m′ : Stored op K (nodesOf t′) memo0 = stored-grown (n K (step-child split-o q1 w1 p0 (c .label-known) w0)) z m in
-                stored-stored at (e .first) (e .second) r v la (omega (arith, e .is)) z (omega (arith, x .1, y .sound .few, length-nodes t))
+                let m′ : Remembered op K (nodesOf t′) memo0 = remembered-grown (n K (step-child split-o q1 w1 p0 (c .label-known) w0)) z m in
+                remembered-stored at (e .first) (e .second) r v la (omega (arith, e .is)) z (omega (arith, x .1, y .sound .few, length-nodes t))
                 (omega (arith, x .0, gives-more whole z)) (omega (arith, x .1, gives-more whole z))
                 (subst⁻¹ (λ (F : Family). Answers (nodesOf t′) r (combined op K F (family (nodesOf t′) (e .second)))) (gives-keeps whole z (e .first) (x .0))
                 (subst⁻¹ (λ (F : Family). Answers (nodesOf t′) r (combined op K (family (nodesOf t) (e .first)) F)) (gives-keeps whole z (e .second) (x .1)) a)) m′

@@ -15,7 +15,7 @@ use Rattle.zdd.proofs.Split.{from-over}
 use Rattle.zdd.proofs.Got.{got-eq, got-there, got-idle, got-split, got-known, got-flag, got-made-exactly, got-old}
 use Rattle.table.specs.State.{Indexed, May, Made, Unique, Rolled}
 use Rattle.table.proofs.GotLaws.{made-some, made-none}
-use Rattle.family.specs.Gives.{Gives, Child, Noded, Answers, Makes}
+use Rattle.family.specs.Gives.{Gives, Child, Noded, Answers, Produced}
 
 -- ---- a number that is there
 
@@ -157,8 +157,8 @@ module _ {K t : List ℕ} {R R1 R0 : Family} {p : ℕ} (s : Split K R p R1 R0) {
 -- ---- a call: what was made is taken back where there was no room
 
 module _ {K t t′ heads′ next′ : List ℕ} {r : ℕ} {F : Family} (g : Gives K t t′ heads′ next′ r F) where
-  pub makes-done : (r ≡ 65536 → ⊥) → Makes K t t′ heads′ next′ r F
-  makes-done d = record {
+  pub produced-done : (r ≡ 65536 → ⊥) → Produced K t t′ heads′ next′ r F
+  produced-done d = record {
     small = g .small;
     full = λ e. absurd (d e);
     same = λ e. absurd (d e);
@@ -174,8 +174,8 @@ module _ {K t t′ heads′ next′ : List ℕ} {r : ℕ} {F : Family} (g : Give
         };
   }
 
-  pub makes-full : {n : ℕ} {u heads next : List ℕ} → r ≡ 65536 → Sound K t → n ≡ count t → Rolled t′ n u → Makes K t u heads next 65536 F
-  makes-full {n} {u} e s c back = record {
+  pub produced-full : {n : ℕ} {u heads next : List ℕ} → r ≡ 65536 → Sound K t → n ≡ count t → Rolled t′ n u → Produced K t u heads next 65536 F
+  produced-full {n} {u} e s c back = record {
     small = omega arith;
     full = λ z. got-flag t (g .sound) (g .long) (g .full e);
     same = λ z. back K t s (record { long = g .long; sound = g .sound; old = got-old t (g .sound) (g .long) (g .full e) }) c;

@@ -16,7 +16,7 @@ use Rattle.zdd.proofs.TableLaws.{over-of-key, fine-at}
 use Rattle.zdd.specs.Work.{Split}
 use Rattle.zdd.specs.Operations.{excluding}
 use Rattle.zdd.proofs.Parts.{with-after, without-after, with-other, without-other, with-same, without-same}
-use Rattle.family.specs.Gives.{Ready, Gives, Noded, Answers}
+use Rattle.family.specs.Gives.{Operable, Gives, Noded, Answers}
 use Rattle.family.specs.Memo.{restricted, Kept, Soon}
 use Rattle.family.proofs.GivesLaws.{gives-there, gives-answers, gives-keeps, gives-more, gives-eq, step-none-hi, step-none-lo, step-child, step-node}
 
@@ -182,7 +182,7 @@ kept-stored {b} {K} {memo} {ns} {p} f r v ev l w a m = record {
 -- ---- the recursion: f is a node whose three words begin at a, and its restriction is to be made
 
 pub record Open (b : Bool) (K : List ℕ) (p : ℕ) (t heads next memo : List ℕ) (f a : ℕ) : Type 0 where
-  pub ready : Ready K t heads next
+  pub ready : Operable K t heads next
   pub kept : Kept b K p (nodesOf t) memo
   pub low : 2 ≤ f
   pub below : f < count t + 2
@@ -190,7 +190,7 @@ pub record Open (b : Bool) (K : List ℕ) (p : ℕ) (t heads next memo : List �
   pub p-known : p < length K
   pub own : getD t a 0 ≡ p → b ≡ true
 
-pub open-of : {b : Bool} {K t heads next memo : List ℕ} {p f : ℕ} {r : ℕ} (a : ℕ) → Ready K t heads next → Kept b K p (nodesOf t) memo → (f < count t + 2) × (p < length K)
+pub open-of : {b : Bool} {K t heads next memo : List ℕ} {p f : ℕ} {r : ℕ} (a : ℕ) → Operable K t heads next → Kept b K p (nodesOf t) memo → (f < count t + 2) × (p < length K)
     → Soon b K p (nodesOf t) f r → r ≡ 65537 → a ≡ 3 * f - 5 → Open b K p t heads next memo f a
 open-of {b} {K} {t} {heads} {next} {memo} {p} {f} {r} a y m w s e q =
     let l : 2 ≤ f = s .branch e in
@@ -205,7 +205,7 @@ open-of {b} {K} {t} {heads} {next} {memo} {p} {f} {r} a y m w s e q =
     }
 
 -- the answer at once
-pub soon-gives : {b : Bool} {K t heads next memo : List ℕ} {p f r : ℕ} → Ready K t heads next → Kept b K p (nodesOf t) memo → Soon b K p (nodesOf t) f r → (r ≡ 65537 → ⊥)
+pub soon-gives : {b : Bool} {K t heads next memo : List ℕ} {p f r : ℕ} → Operable K t heads next → Kept b K p (nodesOf t) memo → Soon b K p (nodesOf t) f r → (r ≡ 65537 → ⊥)
     → Gives K t t heads next r (restricted b K p (family (nodesOf t) f)) × (r < 65536 → Kept b K p (nodesOf t) memo)
 soon-gives {b} {K} {t} {heads} {next} {memo} {p} {f} {r} y m s d =
     let z : r < 65537 = omega (arith, s .small) in
@@ -248,7 +248,7 @@ module _ {b : Bool} {K : List ℕ} {p : ℕ} {t heads next memo : List ℕ} {f a
     pub hi-none : {memo1 : List ℕ} → h ≡ 65536 → Gives K t t1 heads1 next1 65536 (restricted b K p (family (nodesOf t) f)) × (65536 < 65536 → Kept b K p (nodesOf t1) memo1)
     hi-none e = (step-none-hi split-o g1 e, λ z. absurd (omega arith))
 
-    pub hi-ready : Ready K t1 heads1 next1
+    pub hi-ready : Operable K t1 heads1 next1
     hi-ready = record { keys = o .ready .keys; sound = g1 .sound; indexed = g1 .indexed }
 
     module _ (w1 : h < 65536) where

@@ -12,7 +12,7 @@ use Rattle.family.proofs.combine.Kinds as combine-kinds
 use Rattle.family.proofs.+combine.Lts-combine as combine-lts
 use Rattle.family.proofs.cut.Reads as cut-reads
 use Rattle.family.proofs.ended.Reads as ended-reads
-use Rattle.family.proofs.full.Reads as full-reads
+use Rattle.base.proofs.widened.Reads as widened-reads
 use Rattle.family.proofs.make.Reads as make-reads
 use Rattle.family.proofs.pack.Reads as pack-reads
 use Rattle.family.proofs.place.Reads as place-reads
@@ -43,8 +43,8 @@ combine-claims t = (
   combine.Post,
   make-reads.Asked,
   make-reads.Learnt,
-  full-reads.Asked,
-  full-reads.Learnt,
+  widened-reads.Asked,
+  widened-reads.Learnt,
 )
 
 combine-place-requires : (t : ℕ) → combine-lts.Need-place-requires (combine-claims t) (combine-at t) combine.Post
@@ -135,7 +135,7 @@ combine-add-memo t c =
     let pack′ = here .pack in let pre = here .before .before .before .before .pre in
     omega (
       arith,
-      c .full .ensures,
+      c .widened .ensures,
       packed-small (pack′ .ensures) (omega (arith, (pre .1 .1 .1) .0, (pre .1 .1 .1) .1, (pre .1 .0) .sound .few))
           (omega (arith, (pre .1 .1 .1) .0, (pre .1 .1 .1) .1, (pre .1 .0) .sound .few)),
     )
@@ -170,7 +170,7 @@ combine-returns-5 t c =
     let pre = here .before .before .before .before .before .before .before .before .before .before .before .before .before .before .before .before .before .before .before .before .before .before .before .before .before .before .before .before .before .before .pre in
     last-stored (args .op) (pre .1 .0) (pre .1 .1 .1) (cut′ .ensures) (combine′ .ensures .0) (omega (arith, combine′ .ensures .0 .small, if2 .left)) (combine2 .ensures .0)
     (omega (arith, combine2 .ensures .0 .small, if3 .left)) (c .before .before .before .before .make .ensures) _ _ (pack′ .ensures)
-    (omega (arith, place′ .ensures, memo .given, c .before .before .before .before .before .before .before .before .before .before .memo2 .given)) (omega (arith, c .full .ensures .0))
+    (omega (arith, place′ .ensures, memo .given, c .before .before .before .before .before .before .before .before .before .before .memo2 .given)) (omega (arith, c .widened .ensures .0))
     (combine2 .ensures .1 (omega (arith, combine2 .ensures .0 .small, if3 .left)))
 
 pub +combine-spec : {M : Type 1} → statement M
@@ -187,8 +187,8 @@ pub +combine-spec : {M : Type 1} → statement M
   combine.Post,
   make-reads.Asked,
   make-reads.Learnt,
-  full-reads.Asked,
-  full-reads.Learnt,
+  widened-reads.Asked,
+  widened-reads.Learnt,
 )
     (combine-at t)
     combine.Post
