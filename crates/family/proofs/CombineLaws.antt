@@ -177,13 +177,25 @@ module _ {K : List ℕ} {ns : List Node} where
 pub top-end : (K : List ℕ) (ns : List Node) (f : ℕ) → f < 2 → Top K ns f 4294967296
 top-end K ns f h = record { end = λ z. refl; key-of = λ z. absurd (omega arith) }
 
-pub top-of : {K t : List ℕ} → Sound K t → (f a : ℕ) → 2 ≤ f → f < count t + 2 → a ≡ 3 * f - 5 → (r : ℕ) → r ≡ getD K (getD t a 0) 0 → r < 4294967296 → Top K (nodesOf t) f r
+pub top-of : {K t : List ℕ} → Sound K t → (f a : ℕ) → 2 ≤ f → f < count t + 2 → a ≡ 3 * f - 5
+    → (r : ℕ) → r ≡ getD K (getD t a 0) 0 → r < 4294967296 → Top K (nodesOf t) f r
 top-of {K} {t} s f a l w e r q z = record {
   end = λ h. absurd (omega arith);
   key-of = λ h. (q ∙ ap (λ (x : ℕ). getD K x 0) (sym (word-label s f a l w e)), z);
 }
 
 module _ {K t : List ℕ} (s : Sound K t) (k : Keys K) (f g : ℕ) (wf : f < count t + 2) (wg : g < count t + 2) {a b : ℕ} (ta : Top K (nodesOf t) f a) (tb : Top K (nodesOf t) g b) where
+  abbrev at : ℕ → Family
+  at j = family (nodesOf t) j
+
+  -- the node of a number
+  abbrev nodeOf : ℕ → Node
+  nodeOf j = getD (nodesOf t) (j - 2) blank
+
+  -- the combination of x and y is split by p
+  abbrev Splits : (Bool → Bool → Bool) → ℕ → ℕ → ℕ → Family → Family → Family → Family → Type 0
+  Splits op x y p F1 G1 F0 G0 = Split K (combine op K (at x) (at y)) p (combine op K F1 G1) (combine op K F0 G0)
+
   lenf : f < suc (suc (length (nodesOf t)))
   lenf = omega (arith, length-nodes t)
 
@@ -210,14 +222,11 @@ module _ {K t : List ℕ} (s : Sound K t) (k : Keys K) (f g : ℕ) (wf : f < cou
         falls1 = omega (arith, x .hi-below);
         falls0 = omega (arith, x .lo-below);
         split = λ op o.
-            subst (λ (y : Node). Split K (combine op K (family (nodesOf t) f) (family (nodesOf t) g)) (y .label) (combine op K (family (nodesOf t) (y .hi)) (family (nodesOf t) 0)) (combine op K (family (nodesOf t) (y .lo)) (family (nodesOf t) g)))
-            (word-node s f v l wf e)
-            (subst⁻¹ (λ (F : Family). Split K (combine op K (family (nodesOf t) f) (family (nodesOf t) g)) (getD (nodesOf t) (f - 2) blank .label) (combine op K (family (nodesOf t) (getD (nodesOf t) (f - 2) blank .hi)) F) (combine op K (family (nodesOf t) (getD (nodesOf t) (f - 2) blank .lo)) (family (nodesOf t) g)))
-            (family-zero (nodesOf t))
-            (subst (λ (j : ℕ). Split K (combine op K (family (nodesOf t) j) (family (nodesOf t) g)) (getD (nodesOf t) (f - 2) blank .label) (combine op K (family (nodesOf t) (getD (nodesOf t) (f - 2) blank .hi)) []) (combine op K (family (nodesOf t) (getD (nodesOf t) (f - 2) blank .lo)) (family (nodesOf t) g)))
-            (two-more f l)
+            subst (λ (y : Node). Splits op f g (y .label) (at (y .hi)) (at 0) (at (y .lo)) (at g)) (word-node s f v l wf e)
+            (subst⁻¹ (λ (F : Family). Splits op f g (nodeOf f .label) (at (nodeOf f .hi)) F (at (nodeOf f .lo)) (at g)) (family-zero (nodesOf t))
+            (subst (λ (j : ℕ). Splits op j g (nodeOf f .label) (at (nodeOf f .hi)) [] (at (nodeOf f .lo)) (at g)) (two-more f l)
             (split-left k (s .nodes) op o (f - 2) g (omega (arith, lenf)) leng
-            (over-of-key K (nodesOf t) (suc (key K (getD (nodesOf t) (f - 2) blank .label))) g (λ z. omega (arith, ta .key-of l .0, tb .key-of z .0))))));
+            (over-of-key K (nodesOf t) (suc (key K (nodeOf f .label))) g (λ z. omega (arith, ta .key-of l .0, tb .key-of z .0))))));
       }
 
   -- g's is
@@ -234,14 +243,11 @@ module _ {K t : List ℕ} (s : Sound K t) (k : Keys K) (f g : ℕ) (wf : f < cou
         falls1 = omega (arith, x .hi-below);
         falls0 = omega (arith, x .lo-below);
         split = λ op o.
-            subst (λ (y : Node). Split K (combine op K (family (nodesOf t) f) (family (nodesOf t) g)) (y .label) (combine op K (family (nodesOf t) 0) (family (nodesOf t) (y .hi))) (combine op K (family (nodesOf t) f) (family (nodesOf t) (y .lo))))
-            (word-node s g w l wg e)
-            (subst⁻¹ (λ (F : Family). Split K (combine op K (family (nodesOf t) f) (family (nodesOf t) g)) (getD (nodesOf t) (g - 2) blank .label) (combine op K F (family (nodesOf t) (getD (nodesOf t) (g - 2) blank .hi))) (combine op K (family (nodesOf t) f) (family (nodesOf t) (getD (nodesOf t) (g - 2) blank .lo))))
-            (family-zero (nodesOf t))
-            (subst (λ (j : ℕ). Split K (combine op K (family (nodesOf t) f) (family (nodesOf t) j)) (getD (nodesOf t) (g - 2) blank .label) (combine op K [] (family (nodesOf t) (getD (nodesOf t) (g - 2) blank .hi))) (combine op K (family (nodesOf t) f) (family (nodesOf t) (getD (nodesOf t) (g - 2) blank .lo))))
-            (two-more g l)
+            subst (λ (y : Node). Splits op f g (y .label) (at 0) (at (y .hi)) (at f) (at (y .lo))) (word-node s g w l wg e)
+            (subst⁻¹ (λ (F : Family). Splits op f g (nodeOf g .label) F (at (nodeOf g .hi)) (at f) (at (nodeOf g .lo))) (family-zero (nodesOf t))
+            (subst (λ (j : ℕ). Splits op f j (nodeOf g .label) [] (at (nodeOf g .hi)) (at f) (at (nodeOf g .lo))) (two-more g l)
             (split-right k (s .nodes) op o f (g - 2) lenf (omega (arith, leng))
-            (over-of-key K (nodesOf t) (suc (key K (getD (nodesOf t) (g - 2) blank .label))) f (λ z. omega (arith, tb .key-of l .0, ta .key-of z .0))))));
+            (over-of-key K (nodesOf t) (suc (key K (nodeOf g .label))) f (λ z. omega (arith, tb .key-of l .0, ta .key-of z .0))))));
       }
 
   -- they have one label
@@ -274,16 +280,12 @@ module _ {K t : List ℕ} (s : Sound K t) (k : Keys K) (f g : ℕ) (wf : f < cou
         falls1 = omega (arith, x .hi-below, y .hi-below);
         falls0 = omega (arith, x .lo-below, y .lo-below);
         split = λ op o.
-            subst (λ (z : Node). Split K (combine op K (family (nodesOf t) f) (family (nodesOf t) g)) (z .label) (combine op K (family (nodesOf t) (z .hi)) (family (nodesOf t) (getD t (w + 2) 0))) (combine op K (family (nodesOf t) (z .lo)) (family (nodesOf t) (getD t (w + 1) 0))))
-            (word-node s f v lf wf ev)
-            (subst (λ (z : Node). Split K (combine op K (family (nodesOf t) f) (family (nodesOf t) g)) (getD (nodesOf t) (f - 2) blank .label) (combine op K (family (nodesOf t) (getD (nodesOf t) (f - 2) blank .hi)) (family (nodesOf t) (z .hi))) (combine op K (family (nodesOf t) (getD (nodesOf t) (f - 2) blank .lo)) (family (nodesOf t) (z .lo))))
-            (word-node s g w lg wg ew)
-            (subst (λ (m : ℕ). Split K (combine op K (family (nodesOf t) f) (family (nodesOf t) m)) (getD (nodesOf t) (f - 2) blank .label) (combine op K (family (nodesOf t) (getD (nodesOf t) (f - 2) blank .hi)) (family (nodesOf t) (getD (nodesOf t) (g - 2) blank .hi))) (combine op K (family (nodesOf t) (getD (nodesOf t) (f - 2) blank .lo)) (family (nodesOf t) (getD (nodesOf t) (g - 2) blank .lo))))
-            (two-more g lg)
-            (subst (λ (m : ℕ). Split K (combine op K (family (nodesOf t) m) (family (nodesOf t) (suc (suc (g - 2))))) (getD (nodesOf t) (f - 2) blank .label) (combine op K (family (nodesOf t) (getD (nodesOf t) (f - 2) blank .hi)) (family (nodesOf t) (getD (nodesOf t) (g - 2) blank .hi))) (combine op K (family (nodesOf t) (getD (nodesOf t) (f - 2) blank .lo)) (family (nodesOf t) (getD (nodesOf t) (g - 2) blank .lo))))
-            (two-more f lf)
+            subst (λ (z : Node). Splits op f g (z .label) (at (z .hi)) (at (getD t (w + 2) 0)) (at (z .lo)) (at (getD t (w + 1) 0))) (word-node s f v lf wf ev)
+            (subst (λ (z : Node). Splits op f g (nodeOf f .label) (at (nodeOf f .hi)) (at (z .hi)) (at (nodeOf f .lo)) (at (z .lo))) (word-node s g w lg wg ew)
+            (subst (λ (m : ℕ). Splits op f m (nodeOf f .label) (at (nodeOf f .hi)) (at (nodeOf g .hi)) (at (nodeOf f .lo)) (at (nodeOf g .lo))) (two-more g lg)
+            (subst (λ (m : ℕ). Splits op m (suc (suc (g - 2))) (nodeOf f .label) (at (nodeOf f .hi)) (at (nodeOf g .hi)) (at (nodeOf f .lo)) (at (nodeOf g .lo))) (two-more f lf)
             (split-same k (s .nodes) op o (f - 2) (g - 2) i j
-            (k .apart (getD (nodesOf t) (f - 2) blank .label) (getD (nodesOf t) (g - 2) blank .label) (s .nodes .each (f - 2) i .label-known) (s .nodes .each (g - 2) j .label-known)
+            (k .apart (nodeOf f .label) (nodeOf g .label) (s .nodes .each (f - 2) i .label-known) (s .nodes .each (g - 2) j .label-known)
             (sym (ta .key-of lf .0) ∙ e ∙ tb .key-of lg .0))))));
       }
 
@@ -348,6 +350,10 @@ remembered-stored {op} {K} {memo} {ns} at f g r v la ev lr lg wf wg a m = record
 
 -- ---- the recursion
 
+-- the combination of the numbers f and g of t
+abbrev pub joint : ℕ → List ℕ → List ℕ → ℕ → ℕ → Family
+joint op K t f g = combined op K (family (nodesOf t) f) (family (nodesOf t) g)
+
 pub pair-of : {K t heads next : List ℕ} {f g : ℕ} → Operable K t heads next → (f < count t + 2) × (g < count t + 2) → Pair K (nodesOf t) f g
 pair-of {K} {t} y w = record {
   keys = y .keys;
@@ -357,25 +363,27 @@ pair-of {K} {t} y w = record {
   right = omega (arith, w .1, length-nodes t);
 }
 
-pub ended-gives : {op : ℕ} {K t heads next memo : List ℕ} {f g r : ℕ} → Operable K t heads next → Remembered op K (nodesOf t) memo → (f < count t + 2) × (g < count t + 2) → Ends op memo f g r → (r ≡ 65537 → ⊥)
-    → Gives K t t heads next r (combined op K (family (nodesOf t) f) (family (nodesOf t) g)) × (r < 65536 → Remembered op K (nodesOf t) memo)
+pub ended-gives : {op : ℕ} {K t heads next memo : List ℕ} {f g r : ℕ} → Operable K t heads next → Remembered op K (nodesOf t) memo → (f < count t + 2) × (g < count t + 2)
+    → Ends op memo f g r → (r ≡ 65537 → ⊥)
+    → Gives K t t heads next r (joint op K t f g) × (r < 65536 → Remembered op K (nodesOf t) memo)
 ended-gives {op} {K} {t} {heads} {next} {memo} {f} {g} {r} y m w s d =
     let x = s K (nodesOf t) (pair-of y w) m in
     let z : r < 65537 = omega (arith, x .small) in
     (gives-there (y .sound) (y .indexed) (x .answer z .0) (x .answer z .1), λ h. m)
 
-pub ends-two : {op : ℕ} {K t heads next memo : List ℕ} {f g r : ℕ} → Operable K t heads next → Remembered op K (nodesOf t) memo → (f < count t + 2) × (g < count t + 2) → Ends op memo f g r → r ≡ 65537 → Two f g
+pub ends-two : {op : ℕ} {K t heads next memo : List ℕ} {f g r : ℕ} → Operable K t heads next → Remembered op K (nodesOf t) memo → (f < count t + 2) × (g < count t + 2)
+    → Ends op memo f g r → r ≡ 65537 → Two f g
 ends-two {op} {K} {t} y m w s e = s K (nodesOf t) (pair-of y w) m .two e
 
 pub hi-known : {K t heads next : List ℕ} {f g p f1 g1 f0 g0 : ℕ} → Operable K t heads next → Cut K (nodesOf t) f g p f1 g1 f0 g0 → (f1 < count t + 2) × (g1 < count t + 2)
 hi-known {K} {t} y c = (omega (arith, c .f1-known, length-nodes t), omega (arith, c .g1-known, length-nodes t))
 
 module _ (op : ℕ) {K t heads next : List ℕ} {f g : ℕ} (y : Operable K t heads next) (w : (f < count t + 2) × (g < count t + 2)) {p f1 g1 f0 g0 : ℕ} (c : Cut K (nodesOf t) f g p f1 g1 f0 g0)
-    {t1 heads1 next1 : List ℕ} {h : ℕ} (q1 : Gives K t t1 heads1 next1 h (combined op K (family (nodesOf t) f1) (family (nodesOf t) g1))) where
-  split-o : Split K (combined op K (family (nodesOf t) f) (family (nodesOf t) g)) p (combined op K (family (nodesOf t) f1) (family (nodesOf t) g1)) (combined op K (family (nodesOf t) f0) (family (nodesOf t) g0))
+    {t1 heads1 next1 : List ℕ} {h : ℕ} (q1 : Gives K t t1 heads1 next1 h (joint op K t f1 g1)) where
+  split-o : Split K (joint op K t f g) p (joint op K t f1 g1) (joint op K t f0 g0)
   split-o = c .split (opOf op) (off op)
 
-  pub hi-none : {memo1 : List ℕ} → h ≡ 65536 → Gives K t t1 heads1 next1 65536 (combined op K (family (nodesOf t) f) (family (nodesOf t) g)) × (65536 < 65536 → Remembered op K (nodesOf t1) memo1)
+  pub hi-none : {memo1 : List ℕ} → h ≡ 65536 → Gives K t t1 heads1 next1 65536 (joint op K t f g) × (65536 < 65536 → Remembered op K (nodesOf t1) memo1)
   hi-none e = (step-none-hi split-o q1 e, λ z. absurd (omega arith))
 
   pub hi-ready : Operable K t1 heads1 next1
@@ -385,22 +393,22 @@ module _ (op : ℕ) {K t heads next : List ℕ} {f g : ℕ} (y : Operable K t he
     pub lo-known : (f0 < count t1 + 2) × (g0 < count t1 + 2)
     lo-known = (omega (arith, c .f0-known, gives-more q1 w1, length-nodes t1), omega (arith, c .g0-known, gives-more q1 w1, length-nodes t1))
 
-    module _ {t0 heads0 next0 : List ℕ} {l : ℕ} (q0 : Gives K t1 t0 heads0 next0 l (combined op K (family (nodesOf t1) f0) (family (nodesOf t1) g0))) where
-      p0 : Gives K t1 t0 heads0 next0 l (combined op K (family (nodesOf t) f0) (family (nodesOf t) g0))
+    module _ {t0 heads0 next0 : List ℕ} {l : ℕ} (q0 : Gives K t1 t0 heads0 next0 l (joint op K t1 f0 g0)) where
+      p0 : Gives K t1 t0 heads0 next0 l (joint op K t f0 g0)
       p0 = gives-eq (ap₂ (combined op K) (gives-keeps q1 w1 f0 (c .f0-known)) (gives-keeps q1 w1 g0 (c .g0-known))) q0
 
-      pub lo-none : {memo0 : List ℕ} → l ≡ 65536 → Gives K t t0 heads0 next0 65536 (combined op K (family (nodesOf t) f) (family (nodesOf t) g)) × (65536 < 65536 → Remembered op K (nodesOf t0) memo0)
+      pub lo-none : {memo0 : List ℕ} → l ≡ 65536 → Gives K t t0 heads0 next0 65536 (joint op K t f g) × (65536 < 65536 → Remembered op K (nodesOf t0) memo0)
       lo-none e = (step-none-lo split-o q1 w1 p0 e, λ z. absurd (omega arith))
 
       module _ (w0 : l < 65536) {t′ heads′ next′ : List ℕ} {r : ℕ} (n : Noded t0 t′ heads′ next′ p l h r) where
-        whole : Gives K t t′ heads′ next′ r (combined op K (family (nodesOf t) f) (family (nodesOf t) g))
+        whole : Gives K t t′ heads′ next′ r (joint op K t f g)
         whole = step-node split-o q1 w1 p0 (c .label-known) w0 n
 
-        pub last-none : {memo0 : List ℕ} → r ≡ 65536 → Gives K t t′ heads′ next′ 65536 (combined op K (family (nodesOf t) f) (family (nodesOf t) g)) × (65536 < 65536 → Remembered op K (nodesOf t′) memo0)
-        last-none e = (subst (λ (x : ℕ). Gives K t t′ heads′ next′ x (combined op K (family (nodesOf t) f) (family (nodesOf t) g))) e whole, λ z. absurd (omega arith))
+        pub last-none : {memo0 : List ℕ} → r ≡ 65536 → Gives K t t′ heads′ next′ 65536 (joint op K t f g) × (65536 < 65536 → Remembered op K (nodesOf t′) memo0)
+        last-none e = (subst (λ (x : ℕ). Gives K t t′ heads′ next′ x (joint op K t f g)) e whole, λ z. absurd (omega arith))
 
         pub last-stored : {memo0 : List ℕ} (at v : ℕ) {k : ℕ} (e : Packed op f g k) → at < length memo0 → v ≡ k * 65536 + r → Remembered op K (nodesOf t0) memo0
-            → Gives K t t′ heads′ next′ r (combined op K (family (nodesOf t) f) (family (nodesOf t) g)) × (r < 65536 → Remembered op K (nodesOf t′) (set memo0 at v))
+            → Gives K t t′ heads′ next′ r (joint op K t f g) × (r < 65536 → Remembered op K (nodesOf t′) (set memo0 at v))
         last-stored {memo0} at v {k} e la ev m = (whole, λ z. kept z)
           where
             kept : r < 65536 → Remembered op K (nodesOf t′) (set memo0 at v)
@@ -408,7 +416,7 @@ module _ (op : ℕ) {K t heads next : List ℕ} {f g : ℕ} (y : Operable K t he
                 let wf : f < suc (suc (length (nodesOf t))) = omega (arith, w .0, length-nodes t) in
                 let wg : g < suc (suc (length (nodesOf t))) = omega (arith, w .1, length-nodes t) in
                 let x = packed-known e (suc (suc (length (nodesOf t)))) wf wg in
-                let a : Answers (nodesOf t′) r (combined op K (family (nodesOf t) (e .first)) (family (nodesOf t) (e .second))) =
+                let a : Answers (nodesOf t′) r (joint op K t (e .first) (e .second)) =
                 subst⁻¹ (λ (F : Family). Answers (nodesOf t′) r F) (packed-same e (family (nodesOf t)) K) (gives-answers whole z) in
                 let m′ : Remembered op K (nodesOf t′) memo0 = remembered-grown (n K (step-child split-o q1 w1 p0 (c .label-known) w0)) z m in
                 remembered-stored at (e .first) (e .second) r v la (omega (arith, e .is)) z (omega (arith, x .1, y .sound .few, length-nodes t))

@@ -89,7 +89,8 @@ pub gives-eq : {K t t′ heads′ next′ : List ℕ} {r : ℕ} {F G : Family} �
 gives-eq {K} {t} {t′} {heads′} {next′} {r} e g = subst (λ (H : Family). Gives K t t′ heads′ next′ r H) e g
 
 -- the room is the same
-move : (t u u′ : List ℕ) {K : List ℕ} {b b′ : Bool} {k : ℕ} {F : Family} → length u ≡ length t → Got K (capacity u) (nodesOf u) b k (nodesOf u′) b′ F → Got K (capacity t) (nodesOf u) b k (nodesOf u′) b′ F
+move : (t u u′ : List ℕ) {K : List ℕ} {b b′ : Bool} {k : ℕ} {F : Family} → length u ≡ length t
+    → Got K (capacity u) (nodesOf u) b k (nodesOf u′) b′ F → Got K (capacity t) (nodesOf u) b k (nodesOf u′) b′ F
 move t u u′ {K} {b} {b′} {k} {F} e g = subst (λ (c : ℕ). Got K c (nodesOf u) b k (nodesOf u′) b′ F) (same-capacity u t e) g
 
 module _ {K t : List ℕ} {R R1 R0 : Family} {p : ℕ} (s : Split K R p R1 R0) {t1 heads1 next1 : List ℕ} {h : ℕ} (g1 : Gives K t t1 heads1 next1 h R1) where

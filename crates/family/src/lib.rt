@@ -81,7 +81,8 @@ fn restrict(
     requires { ⌜ Operable (now keys) (now t) (now heads) (now next) ⌝ }
     requires { ⌜ Kept holding (now keys) p (nodesOf (now t)) (now memo) ⌝ }
     requires { ⌜ (f < count (now t) + 2) × (p < length (now keys)) ⌝ }
-    ensures { λ r. ⌜ Gives (now (keys .entry)) (now (t .entry)) (now (t .exit)) (now (heads .exit)) (now (next .exit)) r (restricted holding (now (keys .entry)) p (family (nodesOf (now (t .entry))) f)) ⌝ }
+    ensures { λ r. ⌜ Gives (now (keys .entry)) (now (t .entry)) (now (t .exit)) (now (heads .exit)) (now (next .exit)) r
+        (restricted holding (now (keys .entry)) p (family (nodesOf (now (t .entry))) f)) ⌝ }
     ensures { λ r. ⌜ (r < 65536 → Kept holding (now (keys .entry)) p (nodesOf (now (t .exit))) (now (memo .exit))) ⌝ }
 {
     let known = soon(t, keys, memo, p, holding, f);
@@ -242,7 +243,8 @@ fn combine(
     requires { ⌜ Operable (now keys) (now t) (now heads) (now next) ⌝ }
     requires { ⌜ Remembered op (now keys) (nodesOf (now t)) (now memo) ⌝ }
     requires { ⌜ (f < count (now t) + 2) × (g < count (now t) + 2) ⌝ }
-    ensures { λ r. ⌜ Gives (now (keys .entry)) (now (t .entry)) (now (t .exit)) (now (heads .exit)) (now (next .exit)) r (combined op (now (keys .entry)) (family (nodesOf (now (t .entry))) f) (family (nodesOf (now (t .entry))) g)) ⌝ }
+    ensures { λ r. ⌜ Gives (now (keys .entry)) (now (t .entry)) (now (t .exit)) (now (heads .exit)) (now (next .exit)) r
+        (combined op (now (keys .entry)) (family (nodesOf (now (t .entry))) f) (family (nodesOf (now (t .entry))) g)) ⌝ }
     ensures { λ r. ⌜ (r < 65536 → Remembered op (now (keys .entry)) (nodesOf (now (t .exit))) (now (memo .exit))) ⌝ }
 {
     let pair = pack(op, f, g);
@@ -280,7 +282,8 @@ pub fn restriction(
 ) -> u32
     requires { ⌜ Operable (now keys) (now t) (now heads) (now next) ⌝ }
     requires { ⌜ (f < count (now t) + 2) × (p < length (now keys)) ⌝ }
-    ensures { λ r. ⌜ Produced (now (keys .entry)) (now (t .entry)) (now (t .exit)) (now (heads .exit)) (now (next .exit)) r (restricted holding (now (keys .entry)) p (family (nodesOf (now (t .entry))) f)) ⌝ }
+    ensures { λ r. ⌜ Produced (now (keys .entry)) (now (t .entry)) (now (t .exit)) (now (heads .exit)) (now (next .exit)) r
+        (restricted holding (now (keys .entry)) p (family (nodesOf (now (t .entry))) f)) ⌝ }
 {
     let n = t[0];
     let mut memo = [0u32; 65536];
@@ -318,7 +321,8 @@ fn afresh(
     requires { ⌜ Operable (now keys) (now t) (now heads) (now next) ⌝ }
     requires { ⌜ 0 < length (now memo) ⌝ }
     requires { ⌜ (f < count (now t) + 2) × (g < count (now t) + 2) ⌝ }
-    ensures { λ r. ⌜ Gives (now (keys .entry)) (now (t .entry)) (now (t .exit)) (now (heads .exit)) (now (next .exit)) r (combined op (now (keys .entry)) (family (nodesOf (now (t .entry))) f) (family (nodesOf (now (t .entry))) g)) ⌝ }
+    ensures { λ r. ⌜ Gives (now (keys .entry)) (now (t .entry)) (now (t .exit)) (now (heads .exit)) (now (next .exit)) r
+        (combined op (now (keys .entry)) (family (nodesOf (now (t .entry))) f) (family (nodesOf (now (t .entry))) g)) ⌝ }
 {
     base::clear(memo);
     combine(t, keys, heads, next, memo, op, f, g)
@@ -337,7 +341,8 @@ fn remembering(
 ) -> u32
     requires { ⌜ Operable (now keys) (now t) (now heads) (now next) ⌝ }
     requires { ⌜ (f < count (now t) + 2) × (g < count (now t) + 2) ⌝ }
-    ensures { λ r. ⌜ Gives (now (keys .entry)) (now (t .entry)) (now (t .exit)) (now (heads .exit)) (now (next .exit)) r (combined op (now (keys .entry)) (family (nodesOf (now (t .entry))) f) (family (nodesOf (now (t .entry))) g)) ⌝ }
+    ensures { λ r. ⌜ Gives (now (keys .entry)) (now (t .entry)) (now (t .exit)) (now (heads .exit)) (now (next .exit)) r
+        (combined op (now (keys .entry)) (family (nodesOf (now (t .entry))) f) (family (nodesOf (now (t .entry))) g)) ⌝ }
 {
     if work.len() < 65536 {
         let mut memo = [0u64; 65536];
@@ -360,7 +365,8 @@ pub fn combination(
 ) -> u32
     requires { ⌜ Operable (now keys) (now t) (now heads) (now next) ⌝ }
     requires { ⌜ (f < count (now t) + 2) × (g < count (now t) + 2) ⌝ }
-    ensures { λ r. ⌜ Produced (now (keys .entry)) (now (t .entry)) (now (t .exit)) (now (heads .exit)) (now (next .exit)) r (combined op (now (keys .entry)) (family (nodesOf (now (t .entry))) f) (family (nodesOf (now (t .entry))) g)) ⌝ }
+    ensures { λ r. ⌜ Produced (now (keys .entry)) (now (t .entry)) (now (t .exit)) (now (heads .exit)) (now (next .exit)) r
+        (combined op (now (keys .entry)) (family (nodesOf (now (t .entry))) f) (family (nodesOf (now (t .entry))) g)) ⌝ }
 {
     let n = t[0];
     let r = remembering(t, keys, heads, next, work, op, f, g);

@@ -354,7 +354,8 @@ pub fn cheapest(costs: &[u16], t: &[u32], a: usize, work: &mut [u64], page: &mut
     requires { ⌜ Priceable (now t) (now costs) ⌝ }
     requires { ⌜ (0 < a) × (a < nodes (now t) + 2) ⌝ }
     requires { ⌜ a < length (now work) ⌝ }
-    ensures { λ r. ⌜ Bought (cheapestOf (now (costs .entry)) (familyAt (now (t .entry)) a)) (cost (now (costs .entry)) (cheapestOf (now (costs .entry)) (familyAt (now (t .entry)) a))) (now (page .entry)) (now (page .exit)) r ⌝ }
+    ensures { λ r. ⌜ Bought (cheapestOf (now (costs .entry)) (familyAt (now (t .entry)) a))
+        (cost (now (costs .entry)) (cheapestOf (now (costs .entry)) (familyAt (now (t .entry)) a))) (now (page .entry)) (now (page .exit)) r ⌝ }
 {
     prices(costs, t, a, work);
     let n = measure_cheapest(costs, t, a, work);

@@ -21,7 +21,8 @@ pub none : (ns : List Node) {heads next : List ℕ} → Fresh heads next → Ind
 none ns {heads} {next} f = record { heads-long = f .heads-long; next-long = f .next-long; index = chain.empty (bucket ns) 2 heads next (omega arith) (omega (arith, f .next-long)) (f .zero) }
 
 -- the node at index i joins
-pub more : {ns : List Node} {heads next : List ℕ} (i h m : ℕ) (x : Node) → IndexedTo ns (i + 2) heads next → m ≡ i + 2 → i < 65534 → h < 65536 → h ≡ hashOf x → getD ns i blank ≡ x
+pub more : {ns : List Node} {heads next : List ℕ} (i h m : ℕ) (x : Node) → IndexedTo ns (i + 2) heads next → m ≡ i + 2
+    → i < 65534 → h < 65536 → h ≡ hashOf x → getD ns i blank ≡ x
     → IndexedTo ns (i + 1 + 2) (set heads h m) (set next m (getD heads h 0))
 more {ns} {heads} {next} i h m x d e few lt q n =
     let z : m + 1 ≡ i + 1 + 2 = omega arith in

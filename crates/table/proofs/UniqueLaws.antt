@@ -67,7 +67,8 @@ made-old {t} {heads} {next} {x} {r} d f p K m =
 -- ---- the node is appended
 
 -- the index of the longer table
-pub indexed-more : {t t′ heads next : List ℕ} {x : Node} (h m : ℕ) → Appended t x t′ → Indexed t heads next → count t < 65534 → 3 * count t + 3 < length t → h < 65536 → h ≡ hashOf x → m ≡ count t + 2
+pub indexed-more : {t t′ heads next : List ℕ} {x : Node} (h m : ℕ) → Appended t x t′ → Indexed t heads next
+    → count t < 65534 → 3 * count t + 3 < length t → h < 65536 → h ≡ hashOf x → m ≡ count t + 2
     → Indexed t′ (set heads h m) (set next m (getD heads h 0))
 indexed-more {t} {t′} {heads} {next} {x} h m p d few fit lt q e =
     let z : count t + 1 ≡ count t′ = omega (arith, p .counted) in
@@ -79,7 +80,8 @@ indexed-more {t} {t′} {heads} {next} {x} h m p d few fit lt q e =
           (getD-at (nodesOf t) x [] blank (count t) (length-nodes t))));
     }
 
-pub made-new : {t t′ heads′ next′ : List ℕ} {x : Node} (r : ℕ) → Appended t x t′ → count t < 65534 → 3 * count t + 3 < length t → Absent t x → Indexed t′ heads′ next′ → r ≡ count t + 2
+pub made-new : {t t′ heads′ next′ : List ℕ} {x : Node} (r : ℕ) → Appended t x t′ → count t < 65534 → 3 * count t + 3 < length t
+    → Absent t x → Indexed t′ heads′ next′ → r ≡ count t + 2
     → Unique t t′ heads′ next′ x r
 made-new {t} {t′} {heads′} {next′} {x} r p few room a d e K m =
     let s : Sound K t′ = appended-sound (m .sound) p (omega arith) few (m .fine) a in

@@ -135,7 +135,8 @@ fresh-distinct (x ∷ xs) known = go (amongb x known) (fresh-distinct xs known) 
 
 -- ---- the counts: `new` are different families, unknown to the table, and branch families of F
 
-module _ (ns : List Node) (new : List Family) (F : Family) (distinct : Distinct new) (unknown : (G : Family) → G ∈ new → G ∈ families ns → ⊥) (below : (G : Family) → G ∈ new → G ∈ branches F) where
+module _ (ns : List Node) (new : List Family) (F : Family) (distinct : Distinct new)
+    (unknown : (G : Family) → G ∈ new → G ∈ families ns → ⊥) (below : (G : Family) → G ∈ new → G ∈ branches F) where
   into : (G : Family) → G ∈ new → G ∈ fresh (families ns) (branches F)
   into G m = ⊎-elim (λ k. absurd (unknown G m k)) (λ n. n) (fresh-all (branches F) (families ns) G (below G m))
 
