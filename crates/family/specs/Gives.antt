@@ -6,7 +6,7 @@ use Prim.Native.Nat.{ℕ, suc, _+_, _-_, _<_, _≤_}
 use lib.Dec.{ltb}
 use lib.ListN.{length}
 use Rattle.zdd.specs.Table.{Node, node, Family, fork, count, capacity, nodesOf, family, Fine, Sound, Keys}
-use Rattle.zdd.specs.Work.{Got}
+use Rattle.zdd.specs.Work.{Gained}
 use Rattle.zdd.specs.Branches.{missing}
 use Rattle.table.specs.State.{Indexed, Grown}
 
@@ -22,8 +22,7 @@ pub record Gives (K t t′ heads′ next′ : List ℕ) (r : ℕ) (F : Family) :
   pub sound : Sound K t′
   pub indexed : Indexed t′ heads′ next′
   pub small : r ≤ 65536
-  pub got : r < 65536 → Got K (capacity t) (nodesOf t) false r (nodesOf t′) false F
-  pub full : r ≡ 65536 → Got K (capacity t) (nodesOf t) false 0 (nodesOf t′) true F
+  pub gained : Gained 65536 K (capacity t) (nodesOf t) r (nodesOf t′) F
 
 -- the node of three words may be made where hi is not 0
 pub record Child (K t : List ℕ) (label lo hi : ℕ) : Type 0 where

@@ -71,9 +71,6 @@ module _ (K t : List ℕ) (i w : ℕ) (h : i < count t) (e : w ≡ 1 + 3 * i) wh
   abbrev ChildFits : ℕ → Type 0
   ChildFits c = (c < suc (suc i)) × Over K (nodesOf t) (suc (key K (getD t w 0))) c
 
-  at : Node
-  at = at-word t w
-
   to-words : NodeFits → Fine K (nodesOf t) i (at-word t w)
   to-words f = subst (λ (x : Node). Fine K (nodesOf t) i x) (node-at t i w h e) f
 

@@ -1,12 +1,12 @@
 -- What code that reads and writes the words of a sound table needs, by the numbers k of the nodes. Assumes nothing.
-use mathlib.Core.Path.{_≡_, ap, ap₂, _∙_, subst}
+use mathlib.Core.Path.{_≡_, ap, _∙_, subst}
 use mathlib.Core.List.{List}
 use Prim.Native.Nat.{ℕ, zero, suc, _+_, _-_, _*_, _≤_, _<_}
 use native.Mathlib.Omega.{arith}
 use lib.ListN.{length, getD}
 use Rattle.zdd.specs.Table.{Node, blank, fork, count, nodesOf, family, key, Over, Fine, Sound, Keys}
-use Rattle.zdd.proofs.Grow.{family-node, family-new}
-use Rattle.zdd.proofs.Words.{at-word, node-at, length-nodes, Appended, appended-nodes}
+use Rattle.zdd.proofs.Grow.{family-node}
+use Rattle.zdd.proofs.Words.{at-word, node-at, length-nodes}
 use Rattle.zdd.proofs.Listing.{Listed, family-listed}
 
 -- a child's condition, by the child's number
@@ -39,12 +39,6 @@ family-at {K} {ws} s k a l h e =
     ap (family (nodesOf ws)) z
     ∙ family-node (nodesOf ws) i w (f .lo-below) (f .hi-below)
     ∙ ap (λ (x : Node). fork (x .label) (family (nodesOf ws) (x .hi)) (family (nodesOf ws) (x .lo))) (node-at ws i a (omega arith) e)
-
-pub appended-new : {ws vs : List ℕ} {x : Node} → Appended ws x vs
-    → family (nodesOf vs) (count ws + 2) ≡ fork (x .label) (family (nodesOf ws) (x .hi)) (family (nodesOf ws) (x .lo))
-appended-new {ws} {vs} {x} p =
-    let z : count ws + 2 ≡ suc (suc (length (nodesOf ws))) = omega (arith, length-nodes ws) in
-    ap₂ family (appended-nodes p) z ∙ family-new (nodesOf ws) x
 
 pub sound-listed : {K ws : List ℕ} → Keys K → Sound K ws → (k : ℕ) → k < count ws + 2 → Listed K (family (nodesOf ws) k)
 sound-listed {K} {ws} a s k h = family-listed a (s .nodes) k (omega (arith, length-nodes ws))
