@@ -8,6 +8,7 @@ use native.Mathlib.Decide.{ℕ-discrete}
 use lib.ListN.{getD, set, length-set}
 use lib.Seq.{getD-set-same, getD-set-other}
 use Rattle.zdd.specs.Table.{count, nodesOf, family}
+use Rattle.exact_cover.specs.Problem.{Problem}
 use Rattle.exact_cover.specs.Cover.{covering}
 use Rattle.table.specs.State.{Grown}
 use Rattle.table.proofs.GrownLaws.{grown-more, grown-family}
@@ -15,17 +16,17 @@ use Rattle.compile.specs.State.{Held}
 
 -- ---- the memo
 
-pub held-grown : {S K t t′ memo : List ℕ} {P : ℕ} {b b′ : Bool} → Grown K t t′ → (b′ ≡ false → b ≡ false) → Held S P t memo b → Held S P t′ memo b′
-held-grown {S} {K} {t} {t′} {memo} {P} g f h = record {
+pub held-grown : {Q : Problem} {K t t′ memo : List ℕ} {P : ℕ} {b b′ : Bool} → Grown K t t′ → (b′ ≡ false → b ≡ false) → Held Q P t memo b → Held Q P t′ memo b′
+held-grown {Q} {K} {t} {t′} {memo} {P} g f h = record {
   some = h .some;
   long = h .long;
   values = λ j l. omega (arith, h .values j l, grown-more g);
   right = λ e j l k. grown-family g (getD memo (2 * j + 1) 0) (h .values j l) ∙ h .right (f e) j l k;
 }
 
-pub held-store : {S t memo : List ℕ} {P : ℕ} {b : Bool} (A a j : ℕ) → j < P → a < count t + 2 → (b ≡ false → family (nodesOf t) a ≡ covering S A)
-    → Held S P t memo b → Held S P t (set (set memo (2 * j) A) (2 * j + 1) a) b
-held-store {S} {t} {memo} {P} {b} A a j lt known ex h = record {
+pub held-store : {Q : Problem} {t memo : List ℕ} {P : ℕ} {b : Bool} (A a j : ℕ) → j < P → a < count t + 2 → (b ≡ false → family (nodesOf t) a ≡ covering Q A)
+    → Held Q P t memo b → Held Q P t (set (set memo (2 * j) A) (2 * j + 1) a) b
+held-store {Q} {t} {memo} {P} {b} A a j lt known ex h = record {
   some = h .some;
   long = omega (arith, length-set (set memo (2 * j) A) (2 * j + 1) a, length-set memo (2 * j) A, h .long);
   values = λ i l. value i l (ℕ-discrete i j);
@@ -56,6 +57,6 @@ held-store {S} {t} {memo} {P} {b} A a j lt known ex h = record {
     value i l (yes e) = omega (arith, value-same i e)
     value i l (no f) = omega (arith, value-other i f, h .values i l)
 
-    right : b ≡ false → (i : ℕ) → i < P → 0 < getD new (2 * i) 0 → Dec (i ≡ j) → family (nodesOf t) (getD new (2 * i + 1) 0) ≡ covering S (getD new (2 * i) 0)
-    right z i l k (yes e) = ap (family (nodesOf t)) (value-same i e) ∙ ex z ∙ ap (covering S) (sym (key-same i e))
-    right z i l k (no f) = ap (family (nodesOf t)) (value-other i f) ∙ h .right z i l (omega (arith, key-other i f)) ∙ ap (covering S) (sym (key-other i f))
+    right : b ≡ false → (i : ℕ) → i < P → 0 < getD new (2 * i) 0 → Dec (i ≡ j) → family (nodesOf t) (getD new (2 * i + 1) 0) ≡ covering Q (getD new (2 * i) 0)
+    right z i l k (yes e) = ap (family (nodesOf t)) (value-same i e) ∙ ex z ∙ ap (covering Q) (sym (key-same i e))
+    right z i l k (no f) = ap (family (nodesOf t)) (value-other i f) ∙ h .right z i l (omega (arith, key-other i f)) ∙ ap (covering Q) (sym (key-other i f))

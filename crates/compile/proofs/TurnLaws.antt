@@ -7,9 +7,9 @@ use native.Mathlib.Nat.{mod-lt}
 use native.Mathlib.Omega.{arith}
 use lib.Dec.{eqb}
 use lib.ListN.{length, getD, set, length-set}
-use Rattle.itemset.specs.Items.{insideb, without, lowest, holds}
+use Rattle.itemset.specs.Items.{insideb, without, holds}
 use Rattle.base.proofs.Bools.{by-test, never, is-false, and-both}
-use Rattle.itemset.proofs.Laws.{lowest-inside, lowest-holds, lowest-lt}
+use Rattle.exact_cover.proofs.Lead.{open-pos, lead-holds, lead-lt, part-lead}
 use Rattle.zdd.specs.Table.{node, Family, fork, key, count, capacity, nodesOf, family}
 use Rattle.zdd.proofs.Words.{length-nodes}
 use Rattle.zdd.proofs.Grow.{family-one}
@@ -18,42 +18,43 @@ use Rattle.zdd.proofs.Nowaste.{nowaste-keeps}
 use Rattle.zdd.proofs.Room.{worked-calm, same-capacity}
 use Rattle.zdd.proofs.Split.{from-over}
 use Rattle.zdd.proofs.Got.{got-eq, got-there, got-idle}
-use Rattle.exact_cover.specs.Cover.{row, keysOf, covering, fits}
+use Rattle.exact_cover.specs.Problem.{Problem, row, lead, done}
+use Rattle.exact_cover.specs.Cover.{keysOf, covering, fits}
 use Rattle.exact_cover.specs.Steps.{Walk, enter, store, known, search}
 use Rattle.exact_cover.proofs.First.{fits-holds, fits-inside}
 use Rattle.exact_cover.proofs.Order.{length-keys}
-use Rattle.exact_cover.proofs.Listing.{covering-zero}
+use Rattle.exact_cover.proofs.Listing.{covering-done}
 use Rattle.exact_cover.proofs.Fuel.{search-known, search-new}
 use Rattle.exact_cover.proofs.Partial.{left, left-from, partial-from}
 use Rattle.exact_cover.proofs.Trial.{Trial, trial-start, trial-skip, trial-take, trial-none, trial-end}
 use Rattle.buckets.specs.Chain.{Last}
 use Rattle.table.specs.State.{Grown, Indexed, May, Made, Unique}
 use Rattle.table.proofs.GrownLaws.{grown-refl, grown-trans, grown-more}
-use Rattle.compile.specs.State.{lowOf, Packs, Held, Ready, Is, tried, Done}
-use Rattle.compile.proofs.WalkLaws.{sub, search-enters, onward, onward-skip, onward-take, onward-more, onward-end, onward-all, is-enter, is-known, is-new, is-store, known-empty}
+use Rattle.compile.specs.State.{leadOf, Packs, Held, Searchable, Is, tried, Explored}
+use Rattle.compile.proofs.WalkLaws.{sub, search-enters, onward, onward-skip, onward-take, onward-more, onward-end, onward-all, is-enter, is-known, is-new, is-store, known-done}
 use Rattle.table.proofs.GotLaws.{made-got}
 use Rattle.compile.proofs.MemoLaws.{held-grown, held-store}
 
 -- the loop comes to entry p of the index
-pub record At (S : List ℕ) (A p : ℕ) : Type 0 where
-  pub inside : p ≤ length S
-  pub own : 0 < p → lowOf S p ≡ lowest A
+pub record At (Q : Problem) (A p : ℕ) : Type 0 where
+  pub inside : p ≤ length (Q .packages)
+  pub own : 0 < p → leadOf Q p ≡ lead Q A
 
 -- the packages from m on are tried, and l is the number so far
-pub record Turn (S : List ℕ) (P A limit : ℕ) (t₀ memo₀ : List ℕ) (n₀ : ℕ) (b₀ : Bool) (t heads next memo : List ℕ) (m l n : ℕ) (b : Bool) : Type 0 where
-  pub grown : Grown (keysOf S) t₀ t
+pub record Turn (Q : Problem) (P A limit : ℕ) (t₀ memo₀ : List ℕ) (n₀ : ℕ) (b₀ : Bool) (t heads next memo : List ℕ) (m l n : ℕ) (b : Bool) : Type 0 where
+  pub grown : Grown (keysOf Q) t₀ t
   pub indexed : Indexed t heads next
   pub same : length memo ≡ length memo₀
-  pub held : Held S P t memo b
+  pub held : Held Q P t memo b
   pub within : n ≤ limit
-  pub trial : Trial S A (capacity t₀) (nodesOf t₀) b₀ m l (nodesOf t) b
-  pub walk : (w : Walk) → Is P w n₀ memo₀ → (v : Walk) × (Is P v n memo × (onward S P A (length S) w ≡ onward S P A m v))
+  pub trial : Trial Q A (capacity t₀) (nodesOf t₀) b₀ m l (nodesOf t) b
+  pub walk : (w : Walk) → Is P w n₀ memo₀ → (v : Walk) × (Is P v n memo × (onward Q P A (length (Q .packages)) w ≡ onward Q P A m v))
 
 -- ---- search
 
-module _ {S first after : List ℕ} (ps : Packs S first after) {P limit : ℕ} {t heads next memo : List ℕ} {n : ℕ} {b : Bool} (r : Ready S P t heads next memo b) (A : ℕ) where
+module _ {Q : Problem} {first after : List ℕ} (ps : Packs Q first after) {P limit : ℕ} {t heads next memo : List ℕ} {n : ℕ} {b : Bool} (r : Searchable Q P t heads next memo b) (A : ℕ) where
   -- the limit is met
-  pub search-over : limit ≤ n → (a n′ : ℕ) → Done (search S P A) S P A limit t memo n b t heads next memo a n′ b true
+  pub search-over : limit ≤ n → (a n′ : ℕ) → Explored (search Q P A) Q P A limit t memo n b t heads next memo a n′ b true
   search-over h a n′ = record {
     grown = grown-refl (r .sound);
     indexed = r .indexed;
@@ -62,40 +63,40 @@ module _ {S first after : List ℕ} (ps : Packs S first after) {P limit : ℕ} {
     got = λ e. absurd (never refl e);
     within = λ e. absurd (never refl e);
     walk = λ e. absurd (never refl e);
-    spent = λ e w s. omega (arith, search-enters S P A w, s .entries);
+    spent = λ e w s. omega (arith, search-enters Q P A w, s .entries);
   }
 
   -- nothing is left, or the memo has the answer
-  here : (a n′ : ℕ) → n < limit → n′ ≡ n + 1 → a < count t + 2 → (b ≡ false → family (nodesOf t) a ≡ covering S A)
-      → ((w : Walk) → Is P w n memo → known P A w ≡ true) → Done (search S P A) S P A limit t memo n b t heads next memo a n′ b false
+  here : (a n′ : ℕ) → n < limit → n′ ≡ n + 1 → a < count t + 2 → (b ≡ false → family (nodesOf t) a ≡ covering Q A)
+      → ((w : Walk) → Is P w n memo → known Q P A w ≡ true) → Explored (search Q P A) Q P A limit t memo n b t heads next memo a n′ b false
   here a n′ h e k f g = record {
     grown = grown-refl (r .sound);
     indexed = r .indexed;
     same = refl;
     held = λ z. r .held;
     got = λ z. by-test b
-        (λ q. subst⁻¹ (λ (d : Bool). Got (keysOf S) (capacity t) (nodesOf t) d a (nodesOf t) d (covering S A)) q
-        (got-idle (capacity t) a (covering S A) (r .sound .nodes) (omega (arith, length-nodes t))))
+        (λ q. subst⁻¹ (λ (d : Bool). Got (keysOf Q) (capacity t) (nodesOf t) d a (nodesOf t) d (covering Q A)) q
+        (got-idle (capacity t) a (covering Q A) (r .sound .nodes) (omega (arith, length-nodes t))))
         (λ q. got-eq (f q) (got-there (capacity t) b a (r .sound .nodes) (omega (arith, length-nodes t))));
     within = λ z. omega arith;
-    walk = λ z w s. subst⁻¹ (λ (v : Walk). Is P v n′ memo) (search-known S P A w (g w s)) (is-enter s n′ e);
+    walk = λ z w s. subst⁻¹ (λ (v : Walk). Is P v n′ memo) (search-known Q P A w (g w s)) (is-enter s n′ e);
     spent = λ z. absurd (never z refl);
   }
 
-  pub search-empty : (n′ : ℕ) → n < limit → n′ ≡ n + 1 → A ≡ 0 → Done (search S P A) S P A limit t memo n b t heads next memo 1 n′ b false
-  search-empty n′ h e z =
-      here 1 n′ h e (omega arith) (λ q. family-one (nodesOf t) ∙ sym (covering-zero S (ps .few) (ps .some)) ∙ ap (covering S) (sym z)) (λ w s. known-empty P A w z)
+  pub search-empty : (n′ : ℕ) → n < limit → n′ ≡ n + 1 → A < 2 ^ 64 → done Q A ≡ true → Explored (search Q P A) Q P A limit t memo n b t heads next memo 1 n′ b false
+  search-empty n′ h e w64 z =
+      here 1 n′ h e (omega arith) (λ q. family-one (nodesOf t) ∙ sym (covering-done Q (ps .rows) A w64 z)) (λ w s. known-done Q P A w z)
 
-  pub search-hit : (j a n′ : ℕ) → n < limit → n′ ≡ n + 1 → 0 < A → j ≡ A % P → getD memo (2 * j) 0 ≡ A → a ≡ getD memo (2 * j + 1) 0
-      → Done (search S P A) S P A limit t memo n b t heads next memo a n′ b false
+  pub search-hit : (j a n′ : ℕ) → n < limit → n′ ≡ n + 1 → done Q A ≡ false → j ≡ A % P → getD memo (2 * j) 0 ≡ A → a ≡ getD memo (2 * j + 1) 0
+      → Explored (search Q P A) Q P A limit t memo n b t heads next memo a n′ b false
   search-hit j a n′ h e p q k z =
       let lt : j < P = omega (arith, mod-lt A (r .held .some)) in
-      here a n′ h e (omega (arith, r .held .values j lt)) (λ y. ap (family (nodesOf t)) z ∙ r .held .right y j lt (omega arith) ∙ ap (covering S) k)
-      (λ w s. is-known s (r .held .some) A (ap (λ (i : ℕ). getD memo (2 * i) 0) (sym q) ∙ k))
+      here a n′ h e (omega (arith, r .held .values j lt)) (λ y. ap (family (nodesOf t)) z ∙ r .held .right y j lt (omega (arith, open-pos Q A p)) ∙ ap (covering Q) k)
+      (λ w s. is-known s (r .held .some) Q A (ap (λ (i : ℕ). getD memo (2 * i) 0) (sym q) ∙ k))
 
   -- trial's answer is search's
-  pub search-tried : (j n′ : ℕ) {t′ heads′ next′ memo′ : List ℕ} {a n″ : ℕ} {b′ over : Bool} → n′ ≡ n + 1 → 0 < A → j ≡ A % P → (getD memo (2 * j) 0 ≡ A → ⊥)
-      → Done (tried S P A) S P A limit t memo n′ b t′ heads′ next′ memo′ a n″ b′ over → Done (search S P A) S P A limit t memo n b t′ heads′ next′ memo′ a n″ b′ over
+  pub search-tried : (j n′ : ℕ) {t′ heads′ next′ memo′ : List ℕ} {a n″ : ℕ} {b′ over : Bool} → n′ ≡ n + 1 → done Q A ≡ false → j ≡ A % P → (getD memo (2 * j) 0 ≡ A → ⊥)
+      → Explored (tried Q P A) Q P A limit t memo n′ b t′ heads′ next′ memo′ a n″ b′ over → Explored (search Q P A) Q P A limit t memo n b t′ heads′ next′ memo′ a n″ b′ over
   search-tried j n′ {t′} {heads′} {next′} {memo′} {a} {n″} {b′} {over} e p q k d = record {
     grown = d .grown;
     indexed = d .indexed;
@@ -107,83 +108,83 @@ module _ {S first after : List ℕ} (ps : Packs S first after) {P limit : ℕ} {
     spent = λ z w s. subst⁻¹ (λ (v : Walk). limit < v .entered) (new w s) (d .spent z (enter w) (is-enter s n′ e));
   }
     where
-      new : (w : Walk) → Is P w n memo → search S P A w ≡ tried S P A (enter w)
-      new w s = search-new S P A w (is-new s (r .held .some) A p (λ y. k (ap (λ (i : ℕ). getD memo (2 * i) 0) q ∙ y)))
+      new : (w : Walk) → Is P w n memo → search Q P A w ≡ tried Q P A (enter w)
+      new w s = search-new Q P A w (is-new s (r .held .some) Q A p (λ y. k (ap (λ (i : ℕ). getD memo (2 * i) 0) q ∙ y)))
 
 -- ---- trial
 
-module _ {S first after : List ℕ} (ps : Packs S first after) (A : ℕ) (w64 : A < 2 ^ 64) (some : 0 < A) where
-  -- a package with another lowest item is no candidate
-  other : (q k : ℕ) → k ≡ q + 1 → (lowOf S k ≡ lowest A → ⊥) → fits S A q ≡ false
-  unfolding lowOf
+module _ {Q : Problem} {first after : List ℕ} (ps : Packs Q first after) (A : ℕ) (w64 : A < 2 ^ 64) (some : done Q A ≡ false) where
+  -- a package with another lead is no candidate
+  other : (q k : ℕ) → k ≡ q + 1 → (leadOf Q k ≡ lead Q A → ⊥) → fits Q A q ≡ false
+  unfolding leadOf
   other q k z f =
       let y : k - 1 ≡ q = omega arith in
-      is-false (fits S A q) (λ e. f (ap (λ (i : ℕ). lowest (row S i)) y ∙ lowest-inside (row S q) A (fits-inside S A q e) (fits-holds S A q e)))
+      is-false (fits Q A q) (λ e. f (ap (λ (i : ℕ). lead Q (row Q i)) y ∙ part-lead Q (row Q q) A (fits-inside Q A q e) some (fits-holds Q A q e)))
 
-  -- one inside A with its lowest item is a candidate
-  fit : (q k : ℕ) → k ≡ q + 1 → q < length S → lowOf S k ≡ lowest A → insideb (row S q) A ≡ true → fits S A q ≡ true
-  unfolding lowOf fits
+  -- one inside A with its lead is a candidate
+  fit : (q k : ℕ) → k ≡ q + 1 → q < length (Q .packages) → leadOf Q k ≡ lead Q A → insideb (row Q q) A ≡ true → fits Q A q ≡ true
+  unfolding leadOf fits
   fit q k z l e i =
       let y : k - 1 ≡ q = omega arith in
-      let h : lowest (row S q) ≡ lowest A = ap (λ (j : ℕ). lowest (row S j)) (sym y) ∙ e in
-      and-both (holds (lowest A) (row S q)) (insideb (row S q) A) (ap (λ (j : ℕ). holds j (row S q)) (sym h) ∙ lowest-holds (row S q) (ps .some q l)) i
+      let h : lead Q (row Q q) ≡ lead Q A = ap (λ (j : ℕ). lead Q (row Q j)) (sym y) ∙ e in
+      and-both (holds (lead Q A) (row Q q)) (insideb (row Q q) A) (ap (λ (j : ℕ). holds j (row Q q)) (sym h) ∙ lead-holds Q (row Q q) (ps .rows .some q l)) i
 
-  unfit : (q : ℕ) → insideb (row S q) A ≡ false → fits S A q ≡ false
-  unfit q i = is-false (fits S A q) (λ e. never (fits-inside S A q e) i)
+  unfit : (q : ℕ) → insideb (row Q q) A ≡ false → fits Q A q ≡ false
+  unfit q i = is-false (fits Q A q) (λ e. never (fits-inside Q A q e) i)
 
-  head : Last (lowOf S) 1 (lowest A) (length S + 1) (getD first (lowest A) 0)
-  head = ps .index .at-heads (lowest A) (omega (arith, ps .first-long, lowest-lt 64 A some w64))
+  head : Last (leadOf Q) 1 (lead Q A) (length (Q .packages) + 1) (getD first (lead Q A) 0)
+  head = ps .index .at-heads (lead Q A) (omega (arith, ps .first-long, lead-lt Q A some w64))
 
-  pub at-first : At S A (getD first (lowest A) 0)
+  pub at-first : At Q A (getD first (lead Q A) 0)
   at-first = record { inside = omega (arith, head .below); own = λ h. head .own h .1 }
 
-  module _ (p k : ℕ) (e : p ≡ k + 1) (a : At S A p) where
-    next-last : Last (lowOf S) 1 (lowest A) p (getD after (k + 1) 0)
+  module _ (p k : ℕ) (e : p ≡ k + 1) (a : At Q A p) where
+    next-last : Last (leadOf Q) 1 (lead Q A) p (getD after (k + 1) 0)
     next-last =
-        subst (λ (i : ℕ). Last (lowOf S) 1 (lowest A) p (getD after i 0)) e
-        (subst (λ (h : ℕ). Last (lowOf S) 1 h p (getD after p 0)) (a .own (omega arith)) (ps .index .at-next p (omega arith) (omega (arith, a .inside))))
+        subst (λ (i : ℕ). Last (leadOf Q) 1 (lead Q A) p (getD after i 0)) e
+        (subst (λ (h : ℕ). Last (leadOf Q) 1 h p (getD after p 0)) (a .own (omega arith)) (ps .index .at-next p (omega arith) (omega (arith, a .inside))))
 
     pub at-falls : getD after (k + 1) 0 < p
     at-falls = next-last .below
 
-    pub at-later : At S A (getD after (k + 1) 0)
+    pub at-later : At Q A (getD after (k + 1) 0)
     at-later = record { inside = omega (arith, at-falls, a .inside); own = λ h. next-last .own h .1 }
 
-    pub at-fits : insideb (row S k) A ≡ true → fits S A k ≡ true
+    pub at-fits : insideb (row Q k) A ≡ true → fits Q A k ≡ true
     at-fits i = fit k p e (omega (arith, a .inside)) (a .own (omega arith)) i
 
   module _ {P limit : ℕ} {t₀ memo₀ : List ℕ} {n₀ : ℕ} {b₀ : Bool} where
     module _ {t heads next memo : List ℕ} {l n : ℕ} {b : Bool} where
       -- the numbers from m to k are no candidates
-      turn-skip : (d m k : ℕ) → k ≡ d + m → ((q : ℕ) → m ≤ q → q < k → fits S A q ≡ false)
-          → Turn S P A limit t₀ memo₀ n₀ b₀ t heads next memo k l n b → Turn S P A limit t₀ memo₀ n₀ b₀ t heads next memo m l n b
+      turn-skip : (d m k : ℕ) → k ≡ d + m → ((q : ℕ) → m ≤ q → q < k → fits Q A q ≡ false)
+          → Turn Q P A limit t₀ memo₀ n₀ b₀ t heads next memo k l n b → Turn Q P A limit t₀ memo₀ n₀ b₀ t heads next memo m l n b
       turn-skip d m k e f u = record {
         grown = u .grown;
         indexed = u .indexed;
         same = u .same;
         held = u .held;
         within = u .within;
-        trial = trial-skip S (ps .few) (ps .some) A w64 d m k l e f (u .trial);
-        walk = λ w s. let x = u .walk w s in (x .0, (x .1 .0, x .1 .1 ∙ onward-skip S P A d m k (x .0) e f));
+        trial = trial-skip Q (ps .rows) A w64 some d m k l e f (u .trial);
+        walk = λ w s. let x = u .walk w s in (x .0, (x .1 .0, x .1 .1 ∙ onward-skip Q P A d m k (x .0) e f));
       }
 
       -- on to the next entry
-      pub turn-later : (p k : ℕ) → p ≡ k + 1 → At S A p → Turn S P A limit t₀ memo₀ n₀ b₀ t heads next memo k l n b
-          → Turn S P A limit t₀ memo₀ n₀ b₀ t heads next memo (getD after (k + 1) 0) l n b
+      pub turn-later : (p k : ℕ) → p ≡ k + 1 → At Q A p → Turn Q P A limit t₀ memo₀ n₀ b₀ t heads next memo k l n b
+          → Turn Q P A limit t₀ memo₀ n₀ b₀ t heads next memo (getD after (k + 1) 0) l n b
       turn-later p k e a u =
           turn-skip (k - getD after (k + 1) 0) (getD after (k + 1) 0) k (omega (arith, at-falls p k e a))
           (λ q x y. other q (q + 1) refl (λ z. next-last p k e a .gap (q + 1) (omega arith) (omega arith) (omega arith) z)) u
 
       -- k does not lie inside A
-      pub turn-pass : (p k : ℕ) → p ≡ k + 1 → At S A p → insideb (row S k) A ≡ false
-          → Turn S P A limit t₀ memo₀ n₀ b₀ t heads next memo p l n b → Turn S P A limit t₀ memo₀ n₀ b₀ t heads next memo (getD after (k + 1) 0) l n b
+      pub turn-pass : (p k : ℕ) → p ≡ k + 1 → At Q A p → insideb (row Q k) A ≡ false
+          → Turn Q P A limit t₀ memo₀ n₀ b₀ t heads next memo p l n b → Turn Q P A limit t₀ memo₀ n₀ b₀ t heads next memo (getD after (k + 1) 0) l n b
       turn-pass p k e a i u =
-          turn-later p k e a (turn-skip 1 k p (omega arith) (λ q x y. let z : q ≡ k = omega arith in ap (fits S A) z ∙ unfit k i) u)
+          turn-later p k e a (turn-skip 1 k p (omega arith) (λ q x y. let z : q ≡ k = omega arith in ap (fits Q A) z ∙ unfit k i) u)
 
       -- search met the limit
-      pub turn-over : (p k B : ℕ) {t′ heads′ next′ memo′ : List ℕ} {h n′ : ℕ} {b′ over : Bool} → p ≡ k + 1 → At S A p → insideb (row S k) A ≡ true → B ≡ without A (row S k) → over ≡ true
-          → Turn S P A limit t₀ memo₀ n₀ b₀ t heads next memo p l n b → Done (search S P B) S P B limit t memo n b t′ heads′ next′ memo′ h n′ b′ over
-          → Done (tried S P A) S P A limit t₀ memo₀ n₀ b₀ t′ heads′ next′ memo′ h n′ b′ over
+      pub turn-over : (p k B : ℕ) {t′ heads′ next′ memo′ : List ℕ} {h n′ : ℕ} {b′ over : Bool} → p ≡ k + 1 → At Q A p → insideb (row Q k) A ≡ true → B ≡ without A (row Q k) → over ≡ true
+          → Turn Q P A limit t₀ memo₀ n₀ b₀ t heads next memo p l n b → Explored (search Q P B) Q P B limit t memo n b t′ heads′ next′ memo′ h n′ b′ over
+          → Explored (tried Q P A) Q P A limit t₀ memo₀ n₀ b₀ t′ heads′ next′ memo′ h n′ b′ over
       turn-over p k B e a i z o u d = record {
         grown = grown-trans (u .grown) (d .grown);
         indexed = d .indexed;
@@ -196,44 +197,44 @@ module _ {S first after : List ℕ} (ps : Packs S first after) (A : ℕ) (w64 : 
             let x = u .walk w s in
             let v : Walk = x .0 in
             let q : p ≡ suc k = omega arith in
-            let f : onward S P A (length S) w ≡ onward S P A k (sub S P A k v) =
-            x .1 .1 ∙ ap (λ (j : ℕ). onward S P A j v) q ∙ onward-take S P A k v (at-fits p k e a i) in
-            let g : limit < sub S P A k v .entered = subst (λ (C : ℕ). limit < search S P C v .entered) z (d .spent o v (x .1 .0)) in
-            omega (arith, g, onward-more S P A k (sub S P A k v), ap (λ (y : Walk). y .entered) f, ap (λ (y : Walk). y .entered) (onward-all S P A w));
+            let f : onward Q P A (length (Q .packages)) w ≡ onward Q P A k (sub Q P A k v) =
+            x .1 .1 ∙ ap (λ (j : ℕ). onward Q P A j v) q ∙ onward-take Q P A k v (at-fits p k e a i) in
+            let g : limit < sub Q P A k v .entered = subst (λ (C : ℕ). limit < search Q P C v .entered) z (d .spent o v (x .1 .0)) in
+            omega (arith, g, onward-more Q P A k (sub Q P A k v), ap (λ (y : Walk). y .entered) f, ap (λ (y : Walk). y .entered) (onward-all Q P A w));
       }
 
       -- search gave h
-      module _ (p k B : ℕ) {t′ heads′ next′ memo′ : List ℕ} {h n′ : ℕ} {b′ over : Bool} (e : p ≡ k + 1) (a : At S A p) (i : insideb (row S k) A ≡ true) (z : B ≡ without A (row S k)) (o : over ≡ false)
-          (u : Turn S P A limit t₀ memo₀ n₀ b₀ t heads next memo p l n b) (d : Done (search S P B) S P B limit t memo n b t′ heads′ next′ memo′ h n′ b′ over) where
+      module _ (p k B : ℕ) {t′ heads′ next′ memo′ : List ℕ} {h n′ : ℕ} {b′ over : Bool} (e : p ≡ k + 1) (a : At Q A p) (i : insideb (row Q k) A ≡ true) (z : B ≡ without A (row Q k)) (o : over ≡ false)
+          (u : Turn Q P A limit t₀ memo₀ n₀ b₀ t heads next memo p l n b) (d : Explored (search Q P B) Q P B limit t memo n b t′ heads′ next′ memo′ h n′ b′ over) where
         cap : capacity t ≡ capacity t₀
         cap = same-capacity t t₀ (u .grown .long)
 
-        found : Got (keysOf S) (capacity t₀) (nodesOf t) b h (nodesOf t′) b′ (left S A k)
-        found = subst (λ (c : ℕ). Got (keysOf S) c (nodesOf t) b h (nodesOf t′) b′ (left S A k)) cap (got-eq (ap (covering S) z) (d .got o))
+        found : Got (keysOf Q) (capacity t₀) (nodesOf t) b h (nodesOf t′) b′ (left Q A k)
+        found = subst (λ (c : ℕ). Got (keysOf Q) c (nodesOf t) b h (nodesOf t′) b′ (left Q A k)) cap (got-eq (ap (covering Q) z) (d .got o))
 
-        before : Trial S A (capacity t₀) (nodesOf t₀) b₀ (suc k) l (nodesOf t) b
-        before = let q : p ≡ suc k = omega arith in subst (λ (m : ℕ). Trial S A (capacity t₀) (nodesOf t₀) b₀ m l (nodesOf t) b) q (u .trial)
+        before : Trial Q A (capacity t₀) (nodesOf t₀) b₀ (suc k) l (nodesOf t) b
+        before = let q : p ≡ suc k = omega arith in subst (λ (m : ℕ). Trial Q A (capacity t₀) (nodesOf t₀) b₀ m l (nodesOf t) b) q (u .trial)
 
-        low : k < length S
+        low : k < length (Q .packages)
         low = omega (arith, a .inside)
 
-        walked : (w : Walk) → Is P w n₀ memo₀ → (v : Walk) × (Is P v n′ memo′ × (onward S P A (length S) w ≡ onward S P A k v))
+        walked : (w : Walk) → Is P w n₀ memo₀ → (v : Walk) × (Is P v n′ memo′ × (onward Q P A (length (Q .packages)) w ≡ onward Q P A k v))
         walked w s =
             let x = u .walk w s in
             let v : Walk = x .0 in
             let q : p ≡ suc k = omega arith in
-            (sub S P A k v, (subst (λ (C : ℕ). Is P (search S P C v) n′ memo′) z (d .walk o v (x .1 .0)), x .1 .1 ∙ ap (λ (j : ℕ). onward S P A j v) q ∙ onward-take S P A k v (at-fits p k e a i)))
+            (sub Q P A k v, (subst (λ (C : ℕ). Is P (search Q P C v) n′ memo′) z (d .walk o v (x .1 .0)), x .1 .1 ∙ ap (λ (j : ℕ). onward Q P A j v) q ∙ onward-take Q P A k v (at-fits p k e a i)))
 
         -- no cover begins with k
-        pub turn-none : h ≡ 0 → Turn S P A limit t₀ memo₀ n₀ b₀ t′ heads′ next′ memo′ k l n′ b′
+        pub turn-none : h ≡ 0 → Turn Q P A limit t₀ memo₀ n₀ b₀ t′ heads′ next′ memo′ k l n′ b′
         turn-none y = record {
           grown = grown-trans (u .grown) (d .grown);
           indexed = d .indexed;
           same = d .same ∙ u .same;
           held = d .held o;
           within = d .within o;
-          trial = trial-none S (ps .few) (ps .some) A w64 k l low (at-fits p k e a i) before
-              (subst (λ (j : ℕ). Got (keysOf S) (capacity t₀) (nodesOf t) b j (nodesOf t′) b′ (left S A k)) y found);
+          trial = trial-none Q (ps .rows) A w64 some k l low (at-fits p k e a i) before
+              (subst (λ (j : ℕ). Got (keysOf Q) (capacity t₀) (nodesOf t) b j (nodesOf t′) b′ (left Q A k)) y found);
           walk = walked;
         }
 
@@ -241,48 +242,48 @@ module _ {S first after : List ℕ} (ps : Packs S first after) (A : ℕ) (w64 : 
         still-known = omega (arith, u .trial .got .known, length-nodes t, grown-more (d .grown))
 
         -- the flag is up: nothing is made
-        pub turn-idle : b′ ≡ true → Turn S P A limit t₀ memo₀ n₀ b₀ t′ heads′ next′ memo′ k l n′ b′
+        pub turn-idle : b′ ≡ true → Turn Q P A limit t₀ memo₀ n₀ b₀ t′ heads′ next′ memo′ k l n′ b′
         turn-idle y = record {
           grown = grown-trans (u .grown) (d .grown);
           indexed = d .indexed;
           same = d .same ∙ u .same;
           held = d .held o;
           within = d .within o;
-          trial = subst⁻¹ (λ (c : Bool). Trial S A (capacity t₀) (nodesOf t₀) b₀ k l (nodesOf t′) c) y
-              (trial-take S (ps .few) (ps .some) A w64 k l h l low (at-fits p k e a i) before
-              (subst (λ (c : Bool). Got (keysOf S) (capacity t₀) (nodesOf t) b h (nodesOf t′) c (left S A k)) y found)
+          trial = subst⁻¹ (λ (c : Bool). Trial Q A (capacity t₀) (nodesOf t₀) b₀ k l (nodesOf t′) c) y
+              (trial-take Q (ps .rows) A w64 some k l h l low (at-fits p k e a i) before
+              (subst (λ (c : Bool). Got (keysOf Q) (capacity t₀) (nodesOf t) b h (nodesOf t′) c (left Q A k)) y found)
               (got-idle (capacity t₀) l (fork k (family (nodesOf t′) h) (family (nodesOf t′) l)) (d .grown .sound .nodes) (omega (arith, still-known, length-nodes t′))));
           walk = walked;
         }
 
         module _ (y : b′ ≡ false) (pos : 0 < h) where
-          may : May (keysOf S) t′ (node k l h)
+          may : May (keysOf Q) t′ (node k l h)
           may =
               let down : b ≡ false = worked-calm (found .work) y in
               let lo-is : family (nodesOf t′) l ≡ before .acc = nowaste-keeps (found .work .nowaste) l (u .trial .got .known) ∙ before .got .holds down in
               record {
                 sound = d .grown .sound;
                 fine = record {
-                  label-known = omega (arith, length-keys S, low);
+                  label-known = omega (arith, length-keys Q, low);
                   lo-below = omega (arith, still-known);
                   hi-below = omega (arith, found .known, length-nodes t′);
                   hi-some = pos;
-                  lo-after = from-over (d .grown .sound .nodes) l (omega (arith, still-known, length-nodes t′)) (suc (key (keysOf S) k))
-                      (subst⁻¹ (λ (F : Family). From (keysOf S) (suc (key (keysOf S) k)) F) lo-is
-                      (partial-from S (ps .few) (ps .some) A w64 k (before .acc) low (at-fits p k e a i) (before .part)));
-                  hi-after = from-over (d .grown .sound .nodes) h (found .known) (suc (key (keysOf S) k))
-                      (subst⁻¹ (λ (F : Family). From (keysOf S) (suc (key (keysOf S) k)) F) (found .holds y)
-                      (left-from S (ps .few) (ps .some) A w64 k low (at-fits p k e a i)));
+                  lo-after = from-over (d .grown .sound .nodes) l (omega (arith, still-known, length-nodes t′)) (suc (key (keysOf Q) k))
+                      (subst⁻¹ (λ (F : Family). From (keysOf Q) (suc (key (keysOf Q) k)) F) lo-is
+                      (partial-from Q (ps .rows) A w64 some k (before .acc) low (at-fits p k e a i) (before .part)));
+                  hi-after = from-over (d .grown .sound .nodes) h (found .known) (suc (key (keysOf Q) k))
+                      (subst⁻¹ (λ (F : Family). From (keysOf Q) (suc (key (keysOf Q) k)) F) (found .holds y)
+                      (left-from Q (ps .rows) A w64 some k low (at-fits p k e a i)));
                 };
               }
 
           -- the node is found or made, or there is no room
           pub turn-made : (j r : ℕ) {t″ heads″ next″ : List ℕ} → j ≡ k → Unique t′ t″ heads″ next″ (node j l h) r
-              → Turn S P A limit t₀ memo₀ n₀ b₀ t″ heads″ next″ memo′ k r n′ (eqb r 0)
+              → Turn Q P A limit t₀ memo₀ n₀ b₀ t″ heads″ next″ memo′ k r n′ (eqb r 0)
           turn-made j r {t″} {heads″} {next″} x m =
-              let made : Made (keysOf S) t′ t″ heads″ next″ (node k l h) r = subst (λ (i : ℕ). Unique t′ t″ heads″ next″ (node i l h) r) x m (keysOf S) may in
-              let g : Got (keysOf S) (capacity t₀) (nodesOf t′) b′ r (nodesOf t″) (eqb r 0) (fork k (family (nodesOf t′) h) (family (nodesOf t′) l)) =
-              subst⁻¹ (λ (c : Bool). Got (keysOf S) (capacity t₀) (nodesOf t′) c r (nodesOf t″) (eqb r 0) (fork k (family (nodesOf t′) h) (family (nodesOf t′) l))) y
+              let made : Made (keysOf Q) t′ t″ heads″ next″ (node k l h) r = subst (λ (i : ℕ). Unique t′ t″ heads″ next″ (node i l h) r) x m (keysOf Q) may in
+              let g : Got (keysOf Q) (capacity t₀) (nodesOf t′) b′ r (nodesOf t″) (eqb r 0) (fork k (family (nodesOf t′) h) (family (nodesOf t′) l)) =
+              subst⁻¹ (λ (c : Bool). Got (keysOf Q) (capacity t₀) (nodesOf t′) c r (nodesOf t″) (eqb r 0) (fork k (family (nodesOf t′) h) (family (nodesOf t′) l))) y
               (made-got made (capacity t₀) (sym (same-capacity t′ t₀ (d .grown .long ∙ u .grown .long)))) in
               record {
                 grown = grown-trans (u .grown) (grown-trans (d .grown) (made .grown));
@@ -290,16 +291,16 @@ module _ {S first after : List ℕ} (ps : Packs S first after) (A : ℕ) (w64 : 
                 same = d .same ∙ u .same;
                 held = held-grown (made .grown) (λ q. y) (d .held o);
                 within = d .within o;
-                trial = trial-take S (ps .few) (ps .some) A w64 k l h r low (at-fits p k e a i) before found g;
+                trial = trial-take Q (ps .rows) A w64 some k l h r low (at-fits p k e a i) before found g;
                 walk = walked;
               }
 
       -- every package is tried, and the answer is stored
-      pub turn-done : (p j : ℕ) {over : Bool} → over ≡ false → p ≡ 0 → j ≡ A % P → Turn S P A limit t₀ memo₀ n₀ b₀ t heads next memo p l n b
-          → Done (tried S P A) S P A limit t₀ memo₀ n₀ b₀ t heads next (set (set memo (2 * j) A) (2 * j + 1) l) l n b over
+      pub turn-done : (p j : ℕ) {over : Bool} → over ≡ false → p ≡ 0 → j ≡ A % P → Turn Q P A limit t₀ memo₀ n₀ b₀ t heads next memo p l n b
+          → Explored (tried Q P A) Q P A limit t₀ memo₀ n₀ b₀ t heads next (set (set memo (2 * j) A) (2 * j + 1) l) l n b over
       turn-done p j o z q u =
-          let g : Got (keysOf S) (capacity t₀) (nodesOf t₀) b₀ l (nodesOf t) b (covering S A) =
-          trial-end S (ps .few) (ps .some) A w64 l (subst (λ (m : ℕ). Trial S A (capacity t₀) (nodesOf t₀) b₀ m l (nodesOf t) b) z (u .trial)) in
+          let g : Got (keysOf Q) (capacity t₀) (nodesOf t₀) b₀ l (nodesOf t) b (covering Q A) =
+          trial-end Q (ps .rows) A w64 some l (subst (λ (m : ℕ). Trial Q A (capacity t₀) (nodesOf t₀) b₀ m l (nodesOf t) b) z (u .trial)) in
           let lt : j < P = omega (arith, mod-lt A (u .held .some)) in
           record {
             grown = u .grown;
@@ -310,17 +311,17 @@ module _ {S first after : List ℕ} (ps : Packs S first after) (A : ℕ) (w64 : 
             within = λ y. u .within;
             walk = λ y w s.
                 let x = u .walk w s in
-                let f : onward S P A (length S) w ≡ x .0 = x .1 .1 ∙ ap (λ (m : ℕ). onward S P A m (x .0)) z ∙ onward-end S P A (x .0) in
-                subst⁻¹ (λ (v : Walk). Is P v n (set (set memo (2 * j) A) (2 * j + 1) l)) (onward-all S P A w ∙ ap (store P A) f)
-                (is-store (x .1 .0) (u .held .some) A l j (u .held .long) q);
+                let f : onward Q P A (length (Q .packages)) w ≡ x .0 = x .1 .1 ∙ ap (λ (m : ℕ). onward Q P A m (x .0)) z ∙ onward-end Q P A (x .0) in
+                subst⁻¹ (λ (v : Walk). Is P v n (set (set memo (2 * j) A) (2 * j + 1) l)) (onward-all Q P A w ∙ ap (store P A) f)
+                (is-store (x .1 .0) (u .held .some) Q A l j (u .held .long) q);
             spent = λ y. absurd (never y o);
           }
 
     -- nothing is tried yet
-    pub turn-start : {heads next : List ℕ} → Ready S P t₀ heads next memo₀ b₀ → n₀ ≤ limit
-        → Turn S P A limit t₀ memo₀ n₀ b₀ t₀ heads next memo₀ (getD first (lowest A) 0) 0 n₀ b₀
+    pub turn-start : {heads next : List ℕ} → Searchable Q P t₀ heads next memo₀ b₀ → n₀ ≤ limit
+        → Turn Q P A limit t₀ memo₀ n₀ b₀ t₀ heads next memo₀ (getD first (lead Q A) 0) 0 n₀ b₀
     turn-start r h =
-        turn-skip (length S - getD first (lowest A) 0) (getD first (lowest A) 0) (length S) (omega (arith, head .below))
+        turn-skip (length (Q .packages) - getD first (lead Q A) 0) (getD first (lead Q A) 0) (length (Q .packages)) (omega (arith, head .below))
         (λ q x y. other q (q + 1) refl (λ z. head .gap (q + 1) (omega arith) (omega arith) (omega arith) z))
         (record {
           grown = grown-refl (r .sound);
@@ -328,6 +329,6 @@ module _ {S first after : List ℕ} (ps : Packs S first after) (A : ℕ) (w64 : 
           same = refl;
           held = r .held;
           within = h;
-          trial = trial-start S (ps .few) (ps .some) A w64 some (r .sound .nodes);
+          trial = trial-start Q (ps .rows) A w64 some (r .sound .nodes);
           walk = λ w s. (w, (s, refl));
         })

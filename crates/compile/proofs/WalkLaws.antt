@@ -11,21 +11,22 @@ use lib.ListN.{length, getD, set, length-set}
 use lib.Seq.{getD-set-same, getD-set-other}
 use borrow.Author.Tests.{eq-eqb, ne-eqb}
 use Rattle.itemset.specs.Items.{without}
-use Rattle.base.proofs.Bools.{by-test}
+use Rattle.base.proofs.Bools.{by-test, or-left, or-right}
 use Rattle.zdd.specs.Table.{filter}
-use Rattle.exact_cover.specs.Cover.{row, fits, down, candidates}
+use Rattle.exact_cover.specs.Problem.{Problem, row, done}
+use Rattle.exact_cover.specs.Cover.{fits, down, candidates}
 use Rattle.exact_cover.specs.Steps.{Walk, enter, store, known, each, search}
 use Rattle.exact_cover.proofs.Fuel.{search-known, search-new}
 use Rattle.exact_cover.proofs.Walks.{shift, search-shift}
 use Rattle.exact_cover.proofs.Loops.{each-take, each-pass}
 use Rattle.compile.specs.State.{Is, tried}
 
-search-more : (S : List ℕ) (P A : ℕ) (w : Walk) → w .entered ≤ search S P A w .entered
-search-more S P A w =
+search-more : (Q : Problem) (P A : ℕ) (w : Walk) → w .entered ≤ search Q P A w .entered
+search-more Q P A w =
     let z : w .entered ≡ w .entered + 0 = omega arith in
     let w0 : Walk = record { entered = 0; memo = w .memo } in
-    let e : search S P A w ≡ shift (w .entered) (search S P A w0) =
-    ap (search S P A) (λ i. record { entered = z i; memo = w .memo }) ∙ search-shift S P A (w .entered) w0 in
+    let e : search Q P A w ≡ shift (w .entered) (search Q P A w0) =
+    ap (search Q P A) (λ i. record { entered = z i; memo = w .memo }) ∙ search-shift Q P A (w .entered) w0 in
     omega (arith, ap (λ (v : Walk). v .entered) e)
 
 each-more : (f : ℕ → Walk → Walk) → ((p : ℕ) (v : Walk) → v .entered ≤ f p v .entered) → (ps : List ℕ) (w : Walk) → w .entered ≤ each f ps w .entered
@@ -34,44 +35,44 @@ each-more f h [] w = le-refl (w .entered)
 each-more f h (p ∷ ps) w = omega (arith, h p w, each-more f h ps (f p w))
 
 -- Search of what p leaves of A
-abbrev pub sub : List ℕ → ℕ → ℕ → ℕ → Walk → Walk
-sub S P A p = search S P (without A (row S p))
+abbrev pub sub : Problem → ℕ → ℕ → ℕ → Walk → Walk
+sub Q P A p = search Q P (without A (row Q p))
 
-module _ (S : List ℕ) (P A : ℕ) where
-  sub-more : (p : ℕ) (v : Walk) → v .entered ≤ sub S P A p v .entered
-  sub-more p v = search-more S P (without A (row S p)) v
+module _ (Q : Problem) (P A : ℕ) where
+  sub-more : (p : ℕ) (v : Walk) → v .entered ≤ sub Q P A p v .entered
+  sub-more p v = search-more Q P (without A (row Q p)) v
 
   -- Search counts its own entry
-  pub search-enters : (w : Walk) → w .entered < search S P A w .entered
+  pub search-enters : (w : Walk) → w .entered < search Q P A w .entered
   search-enters w =
-      by-test (known P A w)
-      (λ t. omega (arith, ap (λ (v : Walk). v .entered) (search-known S P A w t)))
-      (λ t. omega (arith, ap (λ (v : Walk). v .entered) (search-new S P A w t), each-more (sub S P A) sub-more (candidates S A) (enter w)))
+      by-test (known Q P A w)
+      (λ t. omega (arith, ap (λ (v : Walk). v .entered) (search-known Q P A w t)))
+      (λ t. omega (arith, ap (λ (v : Walk). v .entered) (search-new Q P A w t), each-more (sub Q P A) sub-more (candidates Q A) (enter w)))
 
   -- what the packages below n leave to walk
   abbrev pub onward : ℕ → Walk → Walk
-  onward n w = each (sub S P A) (filter (fits S A) (down n)) w
+  onward n w = each (sub Q P A) (filter (fits Q A) (down n)) w
 
-  pub onward-skip : (d n m : ℕ) (w : Walk) → m ≡ d + n → ((q : ℕ) → n ≤ q → q < m → fits S A q ≡ false) → onward m w ≡ onward n w
+  pub onward-skip : (d n m : ℕ) (w : Walk) → m ≡ d + n → ((q : ℕ) → n ≤ q → q < m → fits Q A q ≡ false) → onward m w ≡ onward n w
   onward-skip zero n m w e h = let z : m ≡ n = omega arith in ap (λ (k : ℕ). onward k w) z
   onward-skip (suc d) n m w e h =
       onward-skip d (suc n) m w (omega arith) (λ q a b. h q (omega arith) b)
-      ∙ each-pass (fits S A) n (sub S P A) w (h n (le-refl n) (omega arith))
+      ∙ each-pass (fits Q A) n (sub Q P A) w (h n (le-refl n) (omega arith))
 
-  pub onward-take : (n : ℕ) (w : Walk) → fits S A n ≡ true → onward (suc n) w ≡ onward n (sub S P A n w)
-  onward-take n w e = each-take (fits S A) n (sub S P A) w e
+  pub onward-take : (n : ℕ) (w : Walk) → fits Q A n ≡ true → onward (suc n) w ≡ onward n (sub Q P A n w)
+  onward-take n w e = each-take (fits Q A) n (sub Q P A) w e
 
-  pub onward-pass : (n : ℕ) (w : Walk) → fits S A n ≡ false → onward (suc n) w ≡ onward n w
-  onward-pass n w e = each-pass (fits S A) n (sub S P A) w e
+  pub onward-pass : (n : ℕ) (w : Walk) → fits Q A n ≡ false → onward (suc n) w ≡ onward n w
+  onward-pass n w e = each-pass (fits Q A) n (sub Q P A) w e
 
   pub onward-more : (n : ℕ) (w : Walk) → w .entered ≤ onward n w .entered
-  onward-more n w = each-more (sub S P A) sub-more (filter (fits S A) (down n)) w
+  onward-more n w = each-more (sub Q P A) sub-more (filter (fits Q A) (down n)) w
 
   pub onward-end : (w : Walk) → onward 0 w ≡ w
   unfolding each filter down
   onward-end w = refl
 
-  pub onward-all : (w : Walk) → tried S P A w ≡ store P A (onward (length S) w)
+  pub onward-all : (w : Walk) → tried Q P A w ≡ store P A (onward (length (Q .packages)) w)
   unfolding candidates
   onward-all w = refl
 
@@ -81,18 +82,15 @@ module _ {P : ℕ} {w : Walk} {n : ℕ} {memo : List ℕ} (s : Is P w n memo) wh
   pub is-enter : (m : ℕ) → m ≡ n + 1 → Is P (enter w) m memo
   is-enter m e = record { entries = omega (arith, s .entries); places = s .places; keys = s .keys }
 
-  module _ (pos : 0 < P) (A : ℕ) where
+  module _ (pos : 0 < P) (Q : Problem) (A : ℕ) where
     -- the memo's answer to A, as the word says
-    pub is-known : getD memo (2 * (A % P)) 0 ≡ A → known P A w ≡ true
-    is-known e = go (eqb A 0) (eq-eqb (getD (w .memo) (A % P) 0) A (s .keys (A % P) (mod-lt A pos) ∙ e))
-      where
-        go : (b : Bool) → eqb (getD (w .memo) (A % P) 0) A ≡ true → b || eqb (getD (w .memo) (A % P) 0) A ≡ true
-        go true h = refl
-        go false h = h
+    pub is-known : getD memo (2 * (A % P)) 0 ≡ A → known Q P A w ≡ true
+    is-known e =
+        or-right (done Q A) (eqb (getD (w .memo) (A % P) 0) A) (eq-eqb (getD (w .memo) (A % P) 0) A (s .keys (A % P) (mod-lt A pos) ∙ e))
 
-    pub is-new : 0 < A → (getD memo (2 * (A % P)) 0 ≡ A → ⊥) → known P A w ≡ false
+    pub is-new : done Q A ≡ false → (getD memo (2 * (A % P)) 0 ≡ A → ⊥) → known Q P A w ≡ false
     is-new h f =
-        ap (λ (b : Bool). b || eqb (getD (w .memo) (A % P) 0) A) (ne-eqb A 0 (λ e. omega arith))
+        ap (λ (b : Bool). b || eqb (getD (w .memo) (A % P) 0) A) h
         ∙ ne-eqb (getD (w .memo) (A % P) 0) A (λ e. f (sym (s .keys (A % P) (mod-lt A pos)) ∙ e))
 
     pub is-store : (a j : ℕ) → 2 * P ≤ length memo → j ≡ A % P → Is P (store P A w) n (set (set memo (2 * j) A) (2 * j + 1) a)
@@ -119,5 +117,5 @@ module _ {P : ℕ} {w : Walk} {n : ℕ} {memo : List ℕ} (s : Is P w n memo) wh
             ∙ sym (getD-set-other memo (2 * j) (2 * i) A 0 (λ y. f (omega arith)))
             ∙ sym (getD-set-other (set memo (2 * j) A) (2 * j + 1) (2 * i) a 0 (λ y. omega arith))
 
-pub known-empty : (P A : ℕ) (w : Walk) → A ≡ 0 → known P A w ≡ true
-known-empty P A w e = ap (λ (b : Bool). b || eqb (getD (w .memo) (A % P) 0) A) (eq-eqb A 0 e)
+pub known-done : (Q : Problem) (P A : ℕ) (w : Walk) → done Q A ≡ true → known Q P A w ≡ true
+known-done Q P A w e = or-left (done Q A) (eqb (getD (w .memo) (A % P) 0) A) e

@@ -10,9 +10,10 @@ ghost use mathlib.Core.Path.{_≡_};
 ghost use mathlib.Core.Bool.{true, false};
 ghost use Prim.Native.Nat.{ℕ, suc, _+_, _-_, _*_, _/_, _%_, _<_, _≤_};
 ghost use lib.ListN.{length, getD, set};
-ghost use Rattle.compile.specs.State.{Packs, Ready, Searched, Tried, Blank, Unkeyed, Covered};
+ghost use Rattle.compile.specs.State.{Packs, Searchable, Searched, Tried, NoPacks, Unkeyed, Covered};
 ghost use Rattle.zdd.specs.Table.{Sound};
-ghost use Rattle.exact_cover.specs.Cover.{Rows, keysOf};
+ghost use Rattle.exact_cover.specs.Problem.{problemOf, done, Rows};
+ghost use Rattle.exact_cover.specs.Cover.{keysOf};
 ghost use Rattle.table.specs.State.{Indexed};
 
 // A search's state: the number of the answer so far, the entries so far, whether the table had no room, whether the limit was met.
@@ -45,10 +46,10 @@ fn search(
     limit: u64,
     start: Run,
 ) -> Run
-    requires { ⌜ Packs (now packs) (now first) (now after) ⌝ }
-    requires { ⌜ Ready (now packs) places (now t) (now heads) (now next) (now memo) (start .full) ⌝ }
+    requires { ⌜ Packs (problemOf (now packs)) (now first) (now after) ⌝ }
+    requires { ⌜ Searchable (problemOf (now packs)) places (now t) (now heads) (now next) (now memo) (start .full) ⌝ }
     requires { ⌜ start .steps ≤ limit ⌝ }
-    ensures { λ r. ⌜ Searched (now (packs .entry)) places items limit (now (t .entry)) (now (memo .entry)) (start .steps) (start .full) (now (t .exit)) (now (heads .exit)) (now (next .exit)) (now (memo .exit)) (r .answer) (r .steps) (r .full) (r .over) ⌝ }
+    ensures { λ r. ⌜ Searched (problemOf (now (packs .entry))) places items limit (now (t .entry)) (now (memo .entry)) (start .steps) (start .full) (now (t .exit)) (now (heads .exit)) (now (next .exit)) (now (memo .exit)) (r .answer) (r .steps) (r .full) (r .over) ⌝ }
 {
     let steps = start.steps;
     let full = start.full;
@@ -115,11 +116,11 @@ fn trial(
     limit: u64,
     start: Run,
 ) -> Run
-    requires { ⌜ Packs (now packs) (now first) (now after) ⌝ }
-    requires { ⌜ Ready (now packs) places (now t) (now heads) (now next) (now memo) (start .full) ⌝ }
+    requires { ⌜ Packs (problemOf (now packs)) (now first) (now after) ⌝ }
+    requires { ⌜ Searchable (problemOf (now packs)) places (now t) (now heads) (now next) (now memo) (start .full) ⌝ }
     requires { ⌜ start .steps ≤ limit ⌝ }
-    requires { ⌜ (0 < items) × (at ≡ items % places) ⌝ }
-    ensures { λ r. ⌜ Tried (now (packs .entry)) places items limit (now (t .entry)) (now (memo .entry)) (start .steps) (start .full) (now (t .exit)) (now (heads .exit)) (now (next .exit)) (now (memo .exit)) (r .answer) (r .steps) (r .full) (r .over) ⌝ }
+    requires { ⌜ (done (problemOf (now packs)) items ≡ false) × (at ≡ items % places) ⌝ }
+    ensures { λ r. ⌜ Tried (problemOf (now (packs .entry))) places items limit (now (t .entry)) (now (memo .entry)) (start .steps) (start .full) (now (t .exit)) (now (heads .exit)) (now (next .exit)) (now (memo .exit)) (r .answer) (r .steps) (r .full) (r .over) ⌝ }
 {
     let low = base::wide(itemset::lowest(items));
     let mut p = first[low];
@@ -176,9 +177,9 @@ fn trial(
 
 // Every package goes into the index by lowest item.
 fn enlist(packs: &[u64], first: &mut [u32; 65], after: &mut [u32; 513])
-    requires { ⌜ Rows (now packs) ⌝ }
-    requires { ⌜ Blank (now first) (now after) ⌝ }
-    ensures { λ _. ⌜ Packs (now (packs .entry)) (now (first .exit)) (now (after .exit)) ⌝ }
+    requires { ⌜ Rows (problemOf (now packs)) ⌝ }
+    requires { ⌜ NoPacks (now first) (now after) ⌝ }
+    ensures { λ _. ⌜ Packs (problemOf (now (packs .entry))) (now (first .exit)) (now (after .exit)) ⌝ }
 {
     let mut k: usize = 0;
     while k < packs.len() {
@@ -201,10 +202,10 @@ fn begin(
     items: u64,
     limit: u64,
 ) -> Run
-    requires { ⌜ Packs (now packs) (now first) (now after) ⌝ }
-    requires { ⌜ Ready (now packs) places (now t) (now heads) (now next) (now memo) false ⌝ }
+    requires { ⌜ Packs (problemOf (now packs)) (now first) (now after) ⌝ }
+    requires { ⌜ Searchable (problemOf (now packs)) places (now t) (now heads) (now next) (now memo) false ⌝ }
     requires { ⌜ Unkeyed places (now memo) ⌝ }
-    ensures { λ r. ⌜ Searched (now (packs .entry)) places items limit (now (t .entry)) (now (memo .entry)) 0 false (now (t .exit)) (now (heads .exit)) (now (next .exit)) (now (memo .exit)) (r .answer) (r .steps) (r .full) (r .over) ⌝ }
+    ensures { λ r. ⌜ Searched (problemOf (now (packs .entry))) places items limit (now (t .entry)) (now (memo .entry)) 0 false (now (t .exit)) (now (heads .exit)) (now (next .exit)) (now (memo .exit)) (r .answer) (r .steps) (r .full) (r .over) ⌝ }
 {
     if limit == 0 {
         return Run {
@@ -264,11 +265,11 @@ pub fn cover(
     items: u64,
     limit: u64,
 ) -> Answer
-    requires { ⌜ Rows (now packs) ⌝ }
-    requires { ⌜ Sound (keysOf (now packs)) (now t) ⌝ }
+    requires { ⌜ Rows (problemOf (now packs)) ⌝ }
+    requires { ⌜ Sound (keysOf (problemOf (now packs))) (now t) ⌝ }
     requires { ⌜ Indexed (now t) (now heads) (now next) ⌝ }
     requires { ⌜ 2 ≤ length (now memo) ⌝ }
-    ensures { λ r. ⌜ Covered (now (packs .entry)) (length (now (memo .entry)) / 2) items limit (now (t .entry)) (now (t .exit)) (now (heads .exit)) (now (next .exit)) (r .answer) (r .steps) (r .made) (r .full) (r .over) ⌝ }
+    ensures { λ r. ⌜ Covered (problemOf (now (packs .entry))) (length (now (memo .entry)) / 2) items limit (now (t .entry)) (now (t .exit)) (now (heads .exit)) (now (next .exit)) (r .answer) (r .steps) (r .made) (r .full) (r .over) ⌝ }
 {
     let places = memo.len() / 2;
     let mut first = [0u32; 65];

@@ -1,28 +1,29 @@
--- The candidates, and what a candidate leaves of the packages: none up to itself. Assumes nothing.
-use mathlib.Core.Path.{_≡_, sym, ap, _∙_}
-use mathlib.Core.Bool.{true, false, not}
+-- The candidates of a set, and the packages before and after them. Assumes nothing.
+use mathlib.Core.Path.{_≡_, ap, _∙_}
+use mathlib.Core.Bool.{true, false}
 use mathlib.Core.Logic.{⊎-elim}
-use mathlib.Core.List.{List, List·Memᴰ, List·Memᴰ·cases-cons, List·Memᴰ·not-nil}
+use mathlib.Core.List.{List·Memᴰ, List·Memᴰ·cases-cons, List·Memᴰ·not-nil}
 use Prim.Native.Nat.{ℕ, zero, suc, _≤_, _<_}
-use native.Mathlib.Nat.{eq-or-lt-of-le, lt-of-lt-of-le}
 use native.Mathlib.Omega.{arith}
 use lib.ListN.{length}
-use Rattle.itemset.specs.Items.{holds, insideb, without, lowest}
-use Rattle.base.proofs.Bools.{by-test, clash, and-left, and-right}
-use Rattle.itemset.proofs.Laws.{holds-without, inside-holds, without-apart, lowest-holds, lowest-least, lowest-le, lowest-inside}
-use Rattle.exact_cover.specs.Cover.{row, fits, down, candidates}
+use Rattle.itemset.specs.Items.{holds, insideb, without, size}
+use Rattle.base.proofs.Bools.{is-false, never, and-left, and-right}
+use Rattle.itemset.proofs.Laws.{falls, holds-pos, inside-holds, inside-trans, without-inside, without-apart}
+use Rattle.exact_cover.specs.Problem.{Problem, row, lead, done, Rows}
+use Rattle.exact_cover.specs.Cover.{fits, down, candidates}
 use Rattle.exact_cover.specs.Recursion.{rank}
 use Rattle.exact_cover.proofs.Lists.{filter-in}
+use Rattle.exact_cover.proofs.Lead.{lead-holds, lead-first, part-later, part-lead}
 use Rattle.exact_cover.proofs.Order.{key-low}
 
-module _ (S : List ℕ) where
-  pub fits-holds : (A p : ℕ) → fits S A p ≡ true → holds (lowest A) (row S p) ≡ true
+module _ (Q : Problem) where
+  pub fits-holds : (A p : ℕ) → fits Q A p ≡ true → holds (lead Q A) (row Q p) ≡ true
   unfolding fits
-  fits-holds A p h = and-left (holds (lowest A) (row S p)) (insideb (row S p) A) h
+  fits-holds A p h = and-left (holds (lead Q A) (row Q p)) (insideb (row Q p) A) h
 
-  pub fits-inside : (A p : ℕ) → fits S A p ≡ true → insideb (row S p) A ≡ true
+  pub fits-inside : (A p : ℕ) → fits Q A p ≡ true → insideb (row Q p) A ≡ true
   unfolding fits
-  fits-inside A p h = and-right (holds (lowest A) (row S p)) (insideb (row S p) A) h
+  fits-inside A p h = and-right (holds (lead Q A) (row Q p)) (insideb (row Q p) A) h
 
   -- ---- the candidates are the packages that fit
 
@@ -32,33 +33,35 @@ module _ (S : List ℕ) where
   down-lt (suc n) {p} d =
       ⊎-elim (λ (e : p ≡ n). omega arith) (λ (c : List·Memᴰ p (down n)). omega (arith, down-lt n c)) (List·Memᴰ·cases-cons d)
 
-  pub candidate-fits : (A : ℕ) {p : ℕ} → List·Memᴰ p (candidates S A) → (p < length S) × (fits S A p ≡ true)
+  pub candidate-fits : (A : ℕ) {p : ℕ} → List·Memᴰ p (candidates Q A) → (p < length (Q .packages)) × (fits Q A p ≡ true)
   unfolding candidates
-  candidate-fits A d = let r = filter-in (fits S A) (down (length S)) d in (down-lt (length S) (r .0), r .1)
+  candidate-fits A d = let r = filter-in (fits Q A) (down (length (Q .packages))) d in (down-lt (length (Q .packages)) (r .0), r .1)
 
-module _ (S : List ℕ) (few : length S ≤ 512) (full : (p : ℕ) → p < length S → 0 < row S p) where
+  -- what a candidate leaves is smaller
+  pub candidate-falls : (A : ℕ) {p : ℕ} → List·Memᴰ p (candidates Q A) → size (without A (row Q p)) < size A
+  candidate-falls A {p} d =
+      let f = candidate-fits A d .1 in
+      falls A (row Q p) (holds-pos (lead Q A) (row Q p) (fits-holds A p f)) (fits-inside A p f)
+
+module _ (Q : Problem) (good : Rows Q) where
   -- of what a candidate p leaves, no package up to p is a part
-  pub apart : (A p q : ℕ) → p < length S → q < length S → rank S q ≤ rank S p → fits S A p ≡ true → insideb (row S q) (without A (row S p)) ≡ false
-  apart A p q lp lq k f =
-      by-test (insideb (row S q) (without A (row S p)))
-      (λ t.
-      let y : holds (lowest (row S q)) (without A (row S p)) ≡ true =
-      inside-holds (row S q) (without A (row S p)) t (lowest (row S q)) (lowest-holds (row S q) (full q lq)) in
-      let z : holds (lowest (row S q)) A ≡ true =
-      and-left (holds (lowest (row S q)) A) (not (holds (lowest (row S q)) (row S p))) (sym (holds-without (lowest (row S q)) A (row S p)) ∙ y) in
-      let e : lowest (row S q) ≡ lowest A =
-      omega (arith, lowest-le A (lowest (row S q)) z, key-low S few q p lq lp k, lowest-inside (row S p) A (fits-inside S A p f) (fits-holds S A p f)) in
-      clash (holds (lowest (row S q)) (without A (row S p))) y
-      (without-apart (lowest (row S q)) A (row S p) (ap (λ (n : ℕ). holds n (row S p)) e ∙ fits-holds S A p f)))
-      (λ t. t)
+  pub apart : (A p q : ℕ) → done Q A ≡ false → p < length (Q .packages) → q < length (Q .packages) → rank Q q ≤ rank Q p → fits Q A p ≡ true
+      → insideb (row Q q) (without A (row Q p)) ≡ false
+  apart A p q o lp lq k f =
+      is-false (insideb (row Q q) (without A (row Q p))) (λ t.
+      let i : insideb (row Q q) A ≡ true = inside-trans (row Q q) (without A (row Q p)) A t (without-inside A (row Q p)) in
+      let e : lead Q (row Q q) ≡ lead Q A =
+      omega (arith, part-later Q (row Q q) A i (good .some q lq), key-low Q (good .few) q p lq lp k, part-lead Q (row Q p) A (fits-inside Q A p f) o (fits-holds Q A p f)) in
+      never
+      (inside-holds (row Q q) (without A (row Q p)) t (lead Q (row Q q)) (lead-holds Q (row Q q) (good .some q lq)))
+      (without-apart (lead Q (row Q q)) A (row Q p) (ap (λ (n : ℕ). holds n (row Q p)) e ∙ fits-holds Q A p f)))
 
-  -- where q is inside A without A's lowest item, no package after q has that item
-  pub past : (A q p : ℕ) → q < length S → p < length S → insideb (row S q) A ≡ true → holds (lowest A) (row S q) ≡ false
-      → rank S q ≤ rank S p → holds (lowest A) (row S p) ≡ false
-  past A q p lq lp t n k =
-      let y : holds (lowest (row S q)) (row S q) ≡ true = lowest-holds (row S q) (full q lq) in
-      lowest-least (row S p) (lowest A)
-      (⊎-elim
-      (λ (e : lowest A ≡ lowest (row S q)). clash (holds (lowest A) (row S q)) (ap (λ (i : ℕ). holds i (row S q)) e ∙ y) n)
-      (λ (l : lowest A < lowest (row S q)). lt-of-lt-of-le l (key-low S few q p lq lp k))
-      (eq-or-lt-of-le (lowest-le A (lowest (row S q)) (inside-holds (row S q) A t (lowest (row S q)) y))))
+  -- where q is inside A without A's lead, no package after q has that item
+  pub past : (A q p : ℕ) → done Q A ≡ false → q < length (Q .packages) → p < length (Q .packages) → insideb (row Q q) A ≡ true
+      → holds (lead Q A) (row Q q) ≡ false → rank Q q ≤ rank Q p → holds (lead Q A) (row Q p) ≡ false
+  past A q p o lq lp t n k =
+      let y : holds (lead Q (row Q q)) (row Q q) ≡ true = lead-holds Q (row Q q) (good .some q lq) in
+      is-false (holds (lead Q A) (row Q p)) (λ h.
+      let e : lead Q A ≡ lead Q (row Q q) =
+      omega (arith, lead-first Q A o (row Q p) h, key-low Q (good .few) q p lq lp k, part-later Q (row Q q) A t (good .some q lq)) in
+      never (ap (λ (i : ℕ). holds i (row Q q)) e ∙ y) n)

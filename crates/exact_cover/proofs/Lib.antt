@@ -1,4 +1,5 @@
 pub mod Lists
+pub mod Lead
 pub mod Covers
 pub mod Order
 pub mod KeyLaws

@@ -8,16 +8,17 @@ use native.Mathlib.Nat.{le-refl}
 use native.Mathlib.Omega.{arith}
 use lib.Dec.{ltb}
 use lib.ListN.{length}
-use lib.Pow.{pow-pos}
 use borrow.Author.Tests.{ltb-true}
-use Rattle.itemset.specs.Items.{holds, insideb, without, lowest}
-use Rattle.base.proofs.Bools.{by-test, clash}
-use Rattle.itemset.proofs.Laws.{inside-holds, holds-none, holds-without, holds-pos, without-lt, lowest-holds, lowest-inside}
+use Rattle.itemset.specs.Items.{holds, insideb, without}
+use Rattle.base.proofs.Bools.{by-test, clash, is-false, never}
+use Rattle.itemset.proofs.Laws.{holds-without, without-lt}
 use Rattle.zdd.specs.Table.{insertBy, orderTo, order, allSets, sets, filter}
-use Rattle.exact_cover.specs.Cover.{row, covers, covering, fits, down, candidates, keysOf}
+use Rattle.exact_cover.specs.Problem.{Problem, row, lead, done, Rows}
+use Rattle.exact_cover.specs.Cover.{covers, covering, fits, down, candidates, keysOf}
 use Rattle.exact_cover.specs.Recursion.{rank, Ascends, gather}
 use Rattle.zdd.proofs.Listing.{filter-none}
 use Rattle.exact_cover.proofs.Lists.{filter-yes, filter-not, filter-nil, filter-append, filter-same, filter-map}
+use Rattle.exact_cover.proofs.Lead.{lead-holds, lead-open, part-open, part-lead}
 use Rattle.exact_cover.proofs.Covers.{covers-cons, covers-nil, nil-not}
 use Rattle.exact_cover.proofs.Order.{key-number, insert-first, insert-later, insert-nil, order-is, order-listed}
 use Rattle.exact_cover.proofs.First.{fits-holds, fits-inside, apart, past}
@@ -26,156 +27,152 @@ abbrev pub with-p : ℕ → List ℕ → List ℕ
 with-p p t = p ∷ t
 
 -- the covers of B among the sets of the packages L
-abbrev pub found : List ℕ → ℕ → List ℕ → List (List ℕ)
-found S B L = filter (covers S B) (allSets L)
+abbrev pub found : Problem → ℕ → List ℕ → List (List ℕ)
+found Q B L = filter (covers Q B) (allSets L)
 
 -- ---- one package more
 
-found-in : (S : List ℕ) (B q : ℕ) (L : List ℕ) → B < 2 ^ 64 → insideb (row S q) B ≡ true
-    → found S B (q ∷ L) ≡ map (with-p q) (found S (without B (row S q)) L) ++ found S B L
+found-in : (Q : Problem) (B q : ℕ) (L : List ℕ) → B < 2 ^ 64 → insideb (row Q q) B ≡ true
+    → found Q B (q ∷ L) ≡ map (with-p q) (found Q (without B (row Q q)) L) ++ found Q B L
 unfolding allSets
-found-in S B q L w e =
-    filter-append (covers S B) (map (with-p q) (allSets L)) (allSets L)
-    ∙ ap (λ (x : List (List ℕ)). x ++ found S B L)
-    (filter-map (with-p q) (covers S B) (allSets L)
+found-in Q B q L w e =
+    filter-append (covers Q B) (map (with-p q) (allSets L)) (allSets L)
+    ∙ ap (λ (x : List (List ℕ)). x ++ found Q B L)
+    (filter-map (with-p q) (covers Q B) (allSets L)
     ∙ ap (map (with-p q))
-    (filter-same (λ (t : List ℕ). covers S B (q ∷ t)) (covers S (without B (row S q))) (allSets L)
-    (λ t. covers-cons S B q t w ∙ ap (λ (b : Bool). b && covers S (without B (row S q)) t) e)))
+    (filter-same (λ (t : List ℕ). covers Q B (q ∷ t)) (covers Q (without B (row Q q))) (allSets L)
+    (λ t. covers-cons Q B q t w ∙ ap (λ (b : Bool). b && covers Q (without B (row Q q)) t) e)))
 
-found-out : (S : List ℕ) (B q : ℕ) (L : List ℕ) → B < 2 ^ 64 → insideb (row S q) B ≡ false → found S B (q ∷ L) ≡ found S B L
+found-out : (Q : Problem) (B q : ℕ) (L : List ℕ) → B < 2 ^ 64 → insideb (row Q q) B ≡ false → found Q B (q ∷ L) ≡ found Q B L
 unfolding allSets
-found-out S B q L w e =
-    filter-append (covers S B) (map (with-p q) (allSets L)) (allSets L)
-    ∙ ap (λ (x : List (List ℕ)). x ++ found S B L)
-    (filter-map (with-p q) (covers S B) (allSets L)
+found-out Q B q L w e =
+    filter-append (covers Q B) (map (with-p q) (allSets L)) (allSets L)
+    ∙ ap (λ (x : List (List ℕ)). x ++ found Q B L)
+    (filter-map (with-p q) (covers Q B) (allSets L)
     ∙ ap (map (with-p q))
-    (filter-same (λ (t : List ℕ). covers S B (q ∷ t)) (λ (t : List ℕ). false) (allSets L)
-    (λ t. covers-cons S B q t w ∙ ap (λ (b : Bool). b && covers S (without B (row S q)) t) e)
+    (filter-same (λ (t : List ℕ). covers Q B (q ∷ t)) (λ (t : List ℕ). false) (allSets L)
+    (λ t. covers-cons Q B q t w ∙ ap (λ (b : Bool). b && covers Q (without B (row Q q)) t) e)
     ∙ filter-none (allSets L)))
 
-found-nil : (S : List ℕ) (B : ℕ) → 0 < B → B < 2 ^ 64 → found S B [] ≡ []
+found-nil : (Q : Problem) (B : ℕ) → done Q B ≡ false → B < 2 ^ 64 → found Q B [] ≡ []
 unfolding allSets
-found-nil S B l w = filter-not (covers S B) [] [] (nil-not S B l w) ∙ filter-nil (covers S B)
+found-nil Q B o w = filter-not (covers Q B) [] [] (nil-not Q B o w) ∙ filter-nil (covers Q B)
 
--- an item that no package from m on has
-none : (S : List ℕ) (i B m : ℕ) (L : List ℕ) → B < 2 ^ 64 → holds i B ≡ true → Ascends S (length S) m L
-    → ((p : ℕ) → p < length S → m ≤ rank S p → holds i (row S p) ≡ false) → found S B L ≡ []
-none S i B m [] w y h n = found-nil S B (holds-pos i B y) w
-none S i B m (q ∷ L) w y h n =
-    by-test (insideb (row S q) B)
-    (λ t. found-in S B q L w t
+-- the lead of A, which no package from m on has
+none : (Q : Problem) (A B m : ℕ) (L : List ℕ) → done Q A ≡ false → B < 2 ^ 64 → holds (lead Q A) B ≡ true → Ascends Q (length (Q .packages)) m L
+    → ((p : ℕ) → p < length (Q .packages) → m ≤ rank Q p → holds (lead Q A) (row Q p) ≡ false) → found Q B L ≡ []
+none Q A B m [] o w y h n = found-nil Q B (lead-open Q A o B y) w
+none Q A B m (q ∷ L) o w y h n =
+    by-test (insideb (row Q q) B)
+    (λ t. found-in Q B q L w t
     ∙ ap₂ (λ (a b : List (List ℕ)). map (with-p q) a ++ b)
-    (none S i (without B (row S q)) (suc (rank S q)) L (without-lt 64 (row S q) w)
-    (holds-without i B (row S q) ∙ ap₂ (λ (a b : Bool). a && not b) y (n q (h .0) (h .1)))
+    (none Q A (without B (row Q q)) (suc (rank Q q)) L o (without-lt 64 (row Q q) w)
+    (holds-without (lead Q A) B (row Q q) ∙ ap₂ (λ (a b : Bool). a && not b) y (n q (h .0) (h .1)))
     (h .2) (λ p l k. n p l (omega arith)))
-    (none S i B (suc (rank S q)) L w y (h .2) (λ p l k. n p l (omega arith))))
-    (λ t. found-out S B q L w t ∙ none S i B (suc (rank S q)) L w y (h .2) (λ p l k. n p l (omega arith)))
+    (none Q A B (suc (rank Q q)) L o w y (h .2) (λ p l k. n p l (omega arith))))
+    (λ t. found-out Q B q L w t ∙ none Q A B (suc (rank Q q)) L o w y (h .2) (λ p l k. n p l (omega arith)))
 
 -- ---- the covers that begin with p, of those among the packages `whole`
 
-abbrev begun : List ℕ → ℕ → List ℕ → ℕ → List (List ℕ)
-begun S A whole p = map (with-p p) (found S (without A (row S p)) whole)
+abbrev begun : Problem → ℕ → List ℕ → ℕ → List (List ℕ)
+begun Q A whole p = map (with-p p) (found Q (without A (row Q p)) whole)
 
-unfit : (S : List ℕ) (A q : ℕ) → insideb (row S q) A ≡ true → fits S A q ≡ false → holds (lowest A) (row S q) ≡ false
+unfit : (Q : Problem) (A q : ℕ) → insideb (row Q q) A ≡ true → fits Q A q ≡ false → holds (lead Q A) (row Q q) ≡ false
 unfolding fits
-unfit S A q t f = by-test (holds (lowest A) (row S q)) (λ y. clash (fits S A q) (ap₂ _&&_ y t) f) (λ y. y)
+unfit Q A q t f = by-test (holds (lead Q A) (row Q q)) (λ y. clash (fits Q A q) (ap₂ _&&_ y t) f) (λ y. y)
 
-module _ (S : List ℕ) (few : length S ≤ 512) (full : (p : ℕ) → p < length S → 0 < row S p) (A : ℕ) (w : A < 2 ^ 64) (pos : 0 < A) (whole : List ℕ) where
+module _ (Q : Problem) (good : Rows Q) (A : ℕ) (w : A < 2 ^ 64) (o : done Q A ≡ false) (whole : List ℕ) where
   -- L is what is left of the whole from key m on, and the packages before it are no part of what a candidate from m on leaves
-  by-candidates : (m : ℕ) (L : List ℕ) → Ascends S (length S) m L
-      → ((p : ℕ) → p < length S → m ≤ rank S p → fits S A p ≡ true → found S (without A (row S p)) L ≡ found S (without A (row S p)) whole)
-      → found S A L ≡ flatMap (begun S A whole) (filter (fits S A) L)
+  by-candidates : (m : ℕ) (L : List ℕ) → Ascends Q (length (Q .packages)) m L
+      → ((p : ℕ) → p < length (Q .packages) → m ≤ rank Q p → fits Q A p ≡ true → found Q (without A (row Q p)) L ≡ found Q (without A (row Q p)) whole)
+      → found Q A L ≡ flatMap (begun Q A whole) (filter (fits Q A) L)
   unfolding flatMap
-  by-candidates m [] h same = found-nil S A pos w ∙ ap (flatMap (begun S A whole)) (sym (filter-nil (fits S A)))
+  by-candidates m [] h same = found-nil Q A o w ∙ ap (flatMap (begun Q A whole)) (sym (filter-nil (fits Q A)))
   by-candidates m (q ∷ L) h same =
-      let drop : (p : ℕ) → p < length S → rank S q ≤ rank S p → fits S A p ≡ true → found S (without A (row S p)) L ≡ found S (without A (row S p)) (q ∷ L) =
-      λ p l k f. sym (found-out S (without A (row S p)) q L (without-lt 64 (row S p) w) (apart S few full A p q l (h .0) k f)) in
-      let rest : found S A L ≡ flatMap (begun S A whole) (filter (fits S A) L) =
-      by-candidates (suc (rank S q)) L (h .2) (λ p l k f. drop p l (omega arith) f ∙ same p l (omega arith) f) in
-      by-test (fits S A q)
-      (λ f. found-in S A q L w (fits-inside S A q f)
-      ∙ ap₂ (λ (a b : List (List ℕ)). map (with-p q) a ++ b) (drop q (h .0) (le-refl (rank S q)) f ∙ same q (h .0) (h .1) f) rest
-      ∙ ap (flatMap (begun S A whole)) (sym (filter-yes (fits S A) q L f)))
-      (λ f. by-test (insideb (row S q) A)
+      let drop : (p : ℕ) → p < length (Q .packages) → rank Q q ≤ rank Q p → fits Q A p ≡ true → found Q (without A (row Q p)) L ≡ found Q (without A (row Q p)) (q ∷ L) =
+      λ p l k f. sym (found-out Q (without A (row Q p)) q L (without-lt 64 (row Q p) w) (apart Q good A p q o l (h .0) k f)) in
+      let rest : found Q A L ≡ flatMap (begun Q A whole) (filter (fits Q A) L) =
+      by-candidates (suc (rank Q q)) L (h .2) (λ p l k f. drop p l (omega arith) f ∙ same p l (omega arith) f) in
+      by-test (fits Q A q)
+      (λ f. found-in Q A q L w (fits-inside Q A q f)
+      ∙ ap₂ (λ (a b : List (List ℕ)). map (with-p q) a ++ b) (drop q (h .0) (le-refl (rank Q q)) f ∙ same q (h .0) (h .1) f) rest
+      ∙ ap (flatMap (begun Q A whole)) (sym (filter-yes (fits Q A) q L f)))
+      (λ f. by-test (insideb (row Q q) A)
       (λ t.
-      let n : holds (lowest A) (row S q) ≡ false = unfit S A q t f in
-      found-in S A q L w t
+      let n : holds (lead Q A) (row Q q) ≡ false = unfit Q A q t f in
+      found-in Q A q L w t
       ∙ ap₂ (λ (a b : List (List ℕ)). map (with-p q) a ++ b)
-      (none S (lowest A) (without A (row S q)) (suc (rank S q)) L (without-lt 64 (row S q) w)
-      (holds-without (lowest A) A (row S q) ∙ ap₂ (λ (a b : Bool). a && not b) (lowest-holds A pos) n)
-      (h .2) (λ p l k. past S few full A q p (h .0) l t n (omega arith)))
+      (none Q A (without A (row Q q)) (suc (rank Q q)) L o (without-lt 64 (row Q q) w)
+      (holds-without (lead Q A) A (row Q q) ∙ ap₂ (λ (a b : Bool). a && not b) (lead-holds Q A o) n)
+      (h .2) (λ p l k. past Q good A q p o (h .0) l t n (omega arith)))
       rest
-      ∙ ap (flatMap (begun S A whole)) (sym (filter-not (fits S A) q L f)))
-      (λ t. found-out S A q L w t ∙ rest ∙ ap (flatMap (begun S A whole)) (sym (filter-not (fits S A) q L f))))
+      ∙ ap (flatMap (begun Q A whole)) (sym (filter-not (fits Q A) q L f)))
+      (λ t. found-out Q A q L w t ∙ rest ∙ ap (flatMap (begun Q A whole)) (sym (filter-not (fits Q A) q L f))))
 
 -- ---- the candidates stand in the order by their numbers
 
-module _ (S : List ℕ) (few : length S ≤ 512) (A : ℕ) where
-  -- packages that fit have one lowest item
-  fits-after : (q p : ℕ) → q < p → p < length S → fits S A q ≡ true → fits S A p ≡ true → rank S q < rank S p
+module _ (Q : Problem) (few : length (Q .packages) ≤ 512) (A : ℕ) (o : done Q A ≡ false) where
+  -- packages that fit have one lead
+  fits-after : (q p : ℕ) → q < p → p < length (Q .packages) → fits Q A q ≡ true → fits Q A p ≡ true → rank Q q < rank Q p
   fits-after q p l h a b =
-      key-number S few q p l h
-      (lowest-inside (row S q) A (fits-inside S A q a) (fits-holds S A q a)
-      ∙ sym (lowest-inside (row S p) A (fits-inside S A p b) (fits-holds S A p b)))
+      key-number Q few q p l h
+      (part-lead Q (row Q q) A (fits-inside Q A q a) o (fits-holds Q A q a)
+      ∙ sym (part-lead Q (row Q p) A (fits-inside Q A p b) o (fits-holds Q A p b)))
 
-  none-after : (n m : ℕ) (t : List ℕ) → n < length S → fits S A n ≡ true → rank S n < m → Ascends S n m t → filter (fits S A) t ≡ []
-  none-after n m [] b f l h = filter-nil (fits S A)
+  none-after : (n m : ℕ) (t : List ℕ) → n < length (Q .packages) → fits Q A n ≡ true → rank Q n < m → Ascends Q n m t → filter (fits Q A) t ≡ []
+  none-after n m [] b f l h = filter-nil (fits Q A)
   none-after n m (q ∷ t) b f l h =
-      by-test (fits S A q)
+      by-test (fits Q A q)
       (λ a. absurd (omega (arith, fits-after q n (h .0) b a f)))
-      (λ a. filter-not (fits S A) q t a ∙ none-after n (suc (rank S q)) t b f (omega arith) (h .2))
+      (λ a. filter-not (fits Q A) q t a ∙ none-after n (suc (rank Q q)) t b f (omega arith) (h .2))
 
-  insert-fits : (n m : ℕ) (t : List ℕ) → n < length S → fits S A n ≡ true → Ascends S n m t → filter (fits S A) (insertBy (keysOf S) n t) ≡ filter (fits S A) t ++ (n ∷ [])
+  insert-fits : (n m : ℕ) (t : List ℕ) → n < length (Q .packages) → fits Q A n ≡ true → Ascends Q n m t → filter (fits Q A) (insertBy (keysOf Q) n t) ≡ filter (fits Q A) t ++ (n ∷ [])
   insert-fits n m [] b f h =
-      ap (filter (fits S A)) (insert-nil S n) ∙ filter-yes (fits S A) n [] f ∙ ap (λ (x : List ℕ). n ∷ x) (filter-nil (fits S A))
-      ∙ ap (λ (x : List ℕ). x ++ (n ∷ [])) (sym (filter-nil (fits S A)))
+      ap (filter (fits Q A)) (insert-nil Q n) ∙ filter-yes (fits Q A) n [] f ∙ ap (λ (x : List ℕ). n ∷ x) (filter-nil (fits Q A))
+      ∙ ap (λ (x : List ℕ). x ++ (n ∷ [])) (sym (filter-nil (fits Q A)))
   insert-fits n m (q ∷ t) b f h =
-      by-test (ltb (rank S n) (rank S q))
+      by-test (ltb (rank Q n) (rank Q q))
       (λ e.
-      let z : filter (fits S A) (q ∷ t) ≡ [] = none-after n (rank S q) (q ∷ t) b f (ltb-true (rank S n) (rank S q) e) (h .0, le-refl (rank S q), h .2) in
-      ap (filter (fits S A)) (insert-first S n q t e) ∙ filter-yes (fits S A) n (q ∷ t) f ∙ ap (λ (x : List ℕ). n ∷ x) z
+      let z : filter (fits Q A) (q ∷ t) ≡ [] = none-after n (rank Q q) (q ∷ t) b f (ltb-true (rank Q n) (rank Q q) e) (h .0, le-refl (rank Q q), h .2) in
+      ap (filter (fits Q A)) (insert-first Q n q t e) ∙ filter-yes (fits Q A) n (q ∷ t) f ∙ ap (λ (x : List ℕ). n ∷ x) z
       ∙ ap (λ (x : List ℕ). x ++ (n ∷ [])) (sym z))
-      (λ e. ap (filter (fits S A)) (insert-later S n q t e)
-      ∙ by-test (fits S A q)
-      (λ a. filter-yes (fits S A) q (insertBy (keysOf S) n t) a ∙ ap (λ (x : List ℕ). q ∷ x) (insert-fits n (suc (rank S q)) t b f (h .2))
-      ∙ ap (λ (x : List ℕ). x ++ (n ∷ [])) (sym (filter-yes (fits S A) q t a)))
-      (λ a. filter-not (fits S A) q (insertBy (keysOf S) n t) a ∙ insert-fits n (suc (rank S q)) t b f (h .2)
-      ∙ ap (λ (x : List ℕ). x ++ (n ∷ [])) (sym (filter-not (fits S A) q t a))))
+      (λ e. ap (filter (fits Q A)) (insert-later Q n q t e)
+      ∙ by-test (fits Q A q)
+      (λ a. filter-yes (fits Q A) q (insertBy (keysOf Q) n t) a ∙ ap (λ (x : List ℕ). q ∷ x) (insert-fits n (suc (rank Q q)) t b f (h .2))
+      ∙ ap (λ (x : List ℕ). x ++ (n ∷ [])) (sym (filter-yes (fits Q A) q t a)))
+      (λ a. filter-not (fits Q A) q (insertBy (keysOf Q) n t) a ∙ insert-fits n (suc (rank Q q)) t b f (h .2)
+      ∙ ap (λ (x : List ℕ). x ++ (n ∷ [])) (sym (filter-not (fits Q A) q t a))))
 
-  insert-unfit : (n : ℕ) (t : List ℕ) → fits S A n ≡ false → filter (fits S A) (insertBy (keysOf S) n t) ≡ filter (fits S A) t
-  insert-unfit n [] f = ap (filter (fits S A)) (insert-nil S n) ∙ filter-not (fits S A) n [] f
+  insert-unfit : (n : ℕ) (t : List ℕ) → fits Q A n ≡ false → filter (fits Q A) (insertBy (keysOf Q) n t) ≡ filter (fits Q A) t
+  insert-unfit n [] f = ap (filter (fits Q A)) (insert-nil Q n) ∙ filter-not (fits Q A) n [] f
   insert-unfit n (q ∷ t) f =
-      by-test (ltb (rank S n) (rank S q))
-      (λ e. ap (filter (fits S A)) (insert-first S n q t e) ∙ filter-not (fits S A) n (q ∷ t) f)
-      (λ e. ap (filter (fits S A)) (insert-later S n q t e)
-      ∙ by-test (fits S A q)
-      (λ a. filter-yes (fits S A) q (insertBy (keysOf S) n t) a ∙ ap (λ (x : List ℕ). q ∷ x) (insert-unfit n t f) ∙ sym (filter-yes (fits S A) q t a))
-      (λ a. filter-not (fits S A) q (insertBy (keysOf S) n t) a ∙ insert-unfit n t f ∙ sym (filter-not (fits S A) q t a)))
+      by-test (ltb (rank Q n) (rank Q q))
+      (λ e. ap (filter (fits Q A)) (insert-first Q n q t e) ∙ filter-not (fits Q A) n (q ∷ t) f)
+      (λ e. ap (filter (fits Q A)) (insert-later Q n q t e)
+      ∙ by-test (fits Q A q)
+      (λ a. filter-yes (fits Q A) q (insertBy (keysOf Q) n t) a ∙ ap (λ (x : List ℕ). q ∷ x) (insert-unfit n t f) ∙ sym (filter-yes (fits Q A) q t a))
+      (λ a. filter-not (fits Q A) q (insertBy (keysOf Q) n t) a ∙ insert-unfit n t f ∙ sym (filter-not (fits Q A) q t a)))
 
   -- those that fit, in precedence, are those that fit, lowest number first
-  order-down : (n : ℕ) → n ≤ length S → filter (fits S A) (orderTo (keysOf S) n) ≡ reverse (filter (fits S A) (down n))
+  order-down : (n : ℕ) → n ≤ length (Q .packages) → filter (fits Q A) (orderTo (keysOf Q) n) ≡ reverse (filter (fits Q A) (down n))
   unfolding orderTo down
-  order-down zero l = filter-nil (fits S A) ∙ ap reverse (sym (filter-nil (fits S A)))
+  order-down zero l = filter-nil (fits Q A) ∙ ap reverse (sym (filter-nil (fits Q A)))
   order-down (suc n) l =
-      by-test (fits S A n)
-      (λ f. insert-fits n 0 (orderTo (keysOf S) n) l f (order-listed S few n (omega arith))
+      by-test (fits Q A n)
+      (λ f. insert-fits n 0 (orderTo (keysOf Q) n) l f (order-listed Q few n (omega arith))
       ∙ ap (λ (x : List ℕ). x ++ (n ∷ [])) (order-down n (omega arith))
-      ∙ sym (reverse-cons n (filter (fits S A) (down n)))
-      ∙ ap reverse (sym (filter-yes (fits S A) n (down n) f)))
-      (λ f. insert-unfit n (orderTo (keysOf S) n) f ∙ order-down n (omega arith) ∙ ap reverse (sym (filter-not (fits S A) n (down n) f)))
+      ∙ sym (reverse-cons n (filter (fits Q A) (down n)))
+      ∙ ap reverse (sym (filter-yes (fits Q A) n (down n) f)))
+      (λ f. insert-unfit n (orderTo (keysOf Q) n) f ∙ order-down n (omega arith) ∙ ap reverse (sym (filter-not (fits Q A) n (down n) f)))
 
--- ---- the sets that cover no item
+-- ---- the sets that cover what is done
 
-nothing-inside : (p : ℕ) → 0 < p → insideb p 0 ≡ false
-nothing-inside p l =
-    by-test (insideb p 0)
-    (λ t. clash (holds (lowest p) 0) (inside-holds p 0 t (lowest p) (lowest-holds p l)) (holds-none (lowest p)))
-    (λ t. t)
-
-only : (S : List ℕ) → ((p : ℕ) → p < length S → 0 < row S p) → (m : ℕ) (L : List ℕ) → Ascends S (length S) m L → found S 0 L ≡ [] ∷ []
+only : (Q : Problem) (A : ℕ) → A < 2 ^ 64 → done Q A ≡ true → Rows Q → (m : ℕ) (L : List ℕ) → Ascends Q (length (Q .packages)) m L → found Q A L ≡ [] ∷ []
 unfolding allSets
-only S full m [] h = filter-yes (covers S 0) [] [] (covers-nil S) ∙ ap (λ (x : List (List ℕ)). [] ∷ x) (filter-nil (covers S 0))
-only S full m (q ∷ L) h = found-out S 0 q L (pow-pos 64) (nothing-inside (row S q) (full q (h .0))) ∙ only S full (suc (rank S q)) L (h .2)
+only Q A w e good m [] h = filter-yes (covers Q A) [] [] (covers-nil Q A e) ∙ ap (λ (x : List (List ℕ)). [] ∷ x) (filter-nil (covers Q A))
+only Q A w e good m (q ∷ L) h =
+    found-out Q A q L w (is-false (insideb (row Q q) A) (λ t. never e (part-open Q (row Q q) A t (good .some q (h .0)))))
+    ∙ only Q A w e good (suc (rank Q q)) L (h .2)
 
 -- ---- the theorem
 
@@ -189,29 +186,29 @@ flat-nil : (f : ℕ → List (List ℕ)) → flatMap f [] ≡ []
 unfolding flatMap
 flat-nil f = refl
 
-module _ (S : List ℕ) (few : length S ≤ 512) (full : (p : ℕ) → p < length S → 0 < row S p) where
+module _ (Q : Problem) (good : Rows Q) where
   -- the listing's packages stand in precedence
-  listed : Ascends S (length S) 0 (order (keysOf S))
-  listed = subst (Ascends S (length S) 0) (sym (order-is S)) (order-listed S few (length S) (le-refl (length S)))
+  listed : Ascends Q (length (Q .packages)) 0 (order (keysOf Q))
+  listed = subst (Ascends Q (length (Q .packages)) 0) (sym (order-is Q)) (order-listed Q (good .few) (length (Q .packages)) (le-refl (length (Q .packages))))
 
-  -- THEOREM 3: of a set that is not empty, over the candidates, lowest number first
-  pub covering-step : (A : ℕ) → A < 2 ^ 64 → 0 < A
-      → covering S A ≡ flatMap (λ (p : ℕ). map (λ (t : List ℕ). p ∷ t) (covering S (without A (row S p)))) (reverse (candidates S A))
+  -- THEOREM: of a set that is not done, over the candidates, lowest number first
+  pub covering-step : (A : ℕ) → A < 2 ^ 64 → done Q A ≡ false
+      → covering Q A ≡ flatMap (λ (p : ℕ). map (λ (t : List ℕ). p ∷ t) (covering Q (without A (row Q p)))) (reverse (candidates Q A))
   unfolding covering sets candidates
-  covering-step A w pos =
-      by-candidates S few full A w pos (order (keysOf S)) 0 (order (keysOf S)) listed (λ p l k f. refl)
-      ∙ ap (flatMap (begun S A (order (keysOf S)))) (ap (filter (fits S A)) (order-is S) ∙ order-down S few A (length S) (le-refl (length S)))
+  covering-step A w o =
+      by-candidates Q good A w o (order (keysOf Q)) 0 (order (keysOf Q)) listed (λ p l k f. refl)
+      ∙ ap (flatMap (begun Q A (order (keysOf Q)))) (ap (filter (fits Q A)) (order-is Q) ∙ order-down Q (good .few) A o (length (Q .packages)) (le-refl (length (Q .packages))))
 
   -- as a loop over the candidates in their own order, highest number first
-  pub covering-gather : (A : ℕ) → A < 2 ^ 64 → 0 < A
-      → covering S A ≡ gather (λ (p : ℕ). map (λ (t : List ℕ). p ∷ t) (covering S (without A (row S p)))) (candidates S A) []
-  covering-gather A w pos =
-      covering-step A w pos
-      ∙ gather-flat (λ (p : ℕ). map (λ (t : List ℕ). p ∷ t) (covering S (without A (row S p)))) (candidates S A) []
-      ∙ ap (gather (λ (p : ℕ). map (λ (t : List ℕ). p ∷ t) (covering S (without A (row S p)))) (candidates S A))
-      (flat-nil (λ (p : ℕ). map (λ (t : List ℕ). p ∷ t) (covering S (without A (row S p)))))
+  pub covering-gather : (A : ℕ) → A < 2 ^ 64 → done Q A ≡ false
+      → covering Q A ≡ gather (λ (p : ℕ). map (λ (t : List ℕ). p ∷ t) (covering Q (without A (row Q p)))) (candidates Q A) []
+  covering-gather A w o =
+      covering-step A w o
+      ∙ gather-flat (λ (p : ℕ). map (λ (t : List ℕ). p ∷ t) (covering Q (without A (row Q p)))) (candidates Q A) []
+      ∙ ap (gather (λ (p : ℕ). map (λ (t : List ℕ). p ∷ t) (covering Q (without A (row Q p)))) (candidates Q A))
+      (flat-nil (λ (p : ℕ). map (λ (t : List ℕ). p ∷ t) (covering Q (without A (row Q p)))))
 
-  -- of no item: the empty set of packages
-  pub covering-zero : covering S 0 ≡ [] ∷ []
+  -- of a set that is done: the empty set of packages
+  pub covering-done : (A : ℕ) → A < 2 ^ 64 → done Q A ≡ true → covering Q A ≡ [] ∷ []
   unfolding covering sets
-  covering-zero = only S full 0 (order (keysOf S)) listed
+  covering-done A w e = only Q A w e good 0 (order (keysOf Q)) listed

@@ -10,43 +10,44 @@ use Rattle.zdd.specs.Table.{Node, Family, fork, family, Nodes}
 use Rattle.zdd.proofs.Grow.{family-zero}
 use Rattle.zdd.specs.Work.{Got}
 use Rattle.zdd.proofs.Got.{got-eq, got-there, got-split-lo, got-none-lo}
-use Rattle.exact_cover.specs.Cover.{row, covering, fits, keysOf}
+use Rattle.exact_cover.specs.Problem.{Problem, done, Rows}
+use Rattle.exact_cover.specs.Cover.{covering, fits, keysOf}
 use Rattle.exact_cover.proofs.Partial.{Partial, left, partial-start, partial-skip, partial-take, partial-split, partial-end}
 
-pub record Trial (S : List ℕ) (A c : ℕ) (ns : List Node) (b : Bool) (n l : ℕ) (ns′ : List Node) (b′ : Bool) : Type 0 where
+pub record Trial (Q : Problem) (A c : ℕ) (ns : List Node) (b : Bool) (n l : ℕ) (ns′ : List Node) (b′ : Bool) : Type 0 where
   pub acc : Family
-  pub part : Partial S A n acc
-  pub got : Got (keysOf S) c ns b l ns′ b′ acc
+  pub part : Partial Q A n acc
+  pub got : Got (keysOf Q) c ns b l ns′ b′ acc
 
-module _ (S : List ℕ) (few : length S ≤ 512) (full : (p : ℕ) → p < length S → 0 < row S p) (A : ℕ) (w : A < 2 ^ 64) {c : ℕ} {ns : List Node} {b : Bool} where
+module _ (Q : Problem) (good : Rows Q) (A : ℕ) (w : A < 2 ^ 64) (o : done Q A ≡ false) {c : ℕ} {ns : List Node} {b : Bool} where
   -- nothing is tried: the number 0
-  pub trial-start : 0 < A → Nodes (keysOf S) ns → Trial S A c ns b (length S) 0 ns b
-  trial-start pos n = record { acc = []; part = partial-start S few full A w pos; got = got-eq (family-zero ns) (got-there c b 0 n (omega arith)) }
+  pub trial-start : Nodes (keysOf Q) ns → Trial Q A c ns b (length (Q .packages)) 0 ns b
+  trial-start n = record { acc = []; part = partial-start Q good A w o; got = got-eq (family-zero ns) (got-there c b 0 n (omega arith)) }
 
   -- the numbers from n to m are no candidates
-  pub trial-skip : (d n m l : ℕ) {ns′ : List Node} {b′ : Bool} → m ≡ d + n → ((q : ℕ) → n ≤ q → q < m → fits S A q ≡ false)
-      → Trial S A c ns b m l ns′ b′ → Trial S A c ns b n l ns′ b′
-  trial-skip d n m l e f t = record { acc = t .acc; part = partial-skip S few full A w d n m (t .acc) e f (t .part); got = t .got }
+  pub trial-skip : (d n m l : ℕ) {ns′ : List Node} {b′ : Bool} → m ≡ d + n → ((q : ℕ) → n ≤ q → q < m → fits Q A q ≡ false)
+      → Trial Q A c ns b m l ns′ b′ → Trial Q A c ns b n l ns′ b′
+  trial-skip d n m l e f t = record { acc = t .acc; part = partial-skip Q good A w o d n m (t .acc) e f (t .part); got = t .got }
 
   -- n is a candidate: search gives h, find-or-make r
-  pub trial-take : (n l h r : ℕ) {n0 n1 ns′ : List Node} {b0 b1 b′ : Bool} → n < length S → fits S A n ≡ true
-      → Trial S A c ns b (suc n) l n0 b0 → Got (keysOf S) c n0 b0 h n1 b1 (left S A n)
-      → Got (keysOf S) c n1 b1 r ns′ b′ (fork n (family n1 h) (family n1 l))
-      → Trial S A c ns b n r ns′ b′
+  pub trial-take : (n l h r : ℕ) {n0 n1 ns′ : List Node} {b0 b1 b′ : Bool} → n < length (Q .packages) → fits Q A n ≡ true
+      → Trial Q A c ns b (suc n) l n0 b0 → Got (keysOf Q) c n0 b0 h n1 b1 (left Q A n)
+      → Got (keysOf Q) c n1 b1 r ns′ b′ (fork n (family n1 h) (family n1 l))
+      → Trial Q A c ns b n r ns′ b′
   trial-take n l h r m e t g1 g = record {
-    acc = fork n (left S A n) (t .acc);
-    part = partial-take S few full A w n (t .acc) m e (t .part);
-    got = got-split-lo (partial-split S few full A w n (t .acc) m e (t .part)) (t .got) g1 g;
+    acc = fork n (left Q A n) (t .acc);
+    part = partial-take Q good A w o n (t .acc) m e (t .part);
+    got = got-split-lo (partial-split Q good A w o n (t .acc) m e (t .part)) (t .got) g1 g;
   }
 
   -- n is a candidate, and search gives 0: no node
-  pub trial-none : (n l : ℕ) {n0 n1 : List Node} {b0 b1 : Bool} → n < length S → fits S A n ≡ true
-      → Trial S A c ns b (suc n) l n0 b0 → Got (keysOf S) c n0 b0 0 n1 b1 (left S A n) → Trial S A c ns b n l n1 b1
+  pub trial-none : (n l : ℕ) {n0 n1 : List Node} {b0 b1 : Bool} → n < length (Q .packages) → fits Q A n ≡ true
+      → Trial Q A c ns b (suc n) l n0 b0 → Got (keysOf Q) c n0 b0 0 n1 b1 (left Q A n) → Trial Q A c ns b n l n1 b1
   trial-none n l m e t g1 = record {
-    acc = fork n (left S A n) (t .acc);
-    part = partial-take S few full A w n (t .acc) m e (t .part);
-    got = got-none-lo (partial-split S few full A w n (t .acc) m e (t .part)) (t .got) g1;
+    acc = fork n (left Q A n) (t .acc);
+    part = partial-take Q good A w o n (t .acc) m e (t .part);
+    got = got-none-lo (partial-split Q good A w o n (t .acc) m e (t .part)) (t .got) g1;
   }
 
-  pub trial-end : (l : ℕ) {ns′ : List Node} {b′ : Bool} → Trial S A c ns b 0 l ns′ b′ → Got (keysOf S) c ns b l ns′ b′ (covering S A)
-  trial-end l t = got-eq (partial-end S few full A w (t .acc) (t .part)) (t .got)
+  pub trial-end : (l : ℕ) {ns′ : List Node} {b′ : Bool} → Trial Q A c ns b 0 l ns′ b′ → Got (keysOf Q) c ns b l ns′ b′ (covering Q A)
+  trial-end l t = got-eq (partial-end Q good A w o (t .acc) (t .part)) (t .got)

@@ -6,7 +6,8 @@ use Prim.Native.Nat.{ℕ, zero, suc, _%_}
 use lib.Dec.{eqb}
 use lib.ListN.{getD, set, replicate}
 use Rattle.itemset.specs.Items.{without, size}
-use Rattle.exact_cover.specs.Cover.{row, candidates}
+use Rattle.exact_cover.specs.Problem.{Problem, row, done}
+use Rattle.exact_cover.specs.Cover.{candidates}
 
 -- the number of entries so far, and the memo's keys: 0 where a place is empty
 pub record Walk : Type 0 where
@@ -21,8 +22,8 @@ abbrev pub store : ℕ → ℕ → Walk → Walk
 store P A w = record { entered = w .entered; memo = set (w .memo) (A % P) A }
 
 -- nothing is left to search: A is empty, or the memo holds it
-abbrev pub known : ℕ → ℕ → Walk → Bool
-known P A w = eqb A 0 || eqb (getD (w .memo) (A % P) 0) A
+abbrev pub known : Problem → ℕ → ℕ → Walk → Bool
+known Q P A w = done Q A || eqb (getD (w .memo) (A % P) 0) A
 
 -- f for each package of a list, one after the other
 unfoldable pub each : (ℕ → Walk → Walk) → List ℕ → Walk → Walk
@@ -31,18 +32,18 @@ each f (p ∷ ps) w = each f ps (f p w)
 
 -- Search of A: each entry counts; where A is empty or in the memo that is all; otherwise each package that holds A's lowest item and lies inside A,
 -- highest number first, has A without it searched, and then A goes into the memo. The first argument bounds the depth, and the size of A is enough
-unfoldable pub visit : ℕ → List ℕ → ℕ → ℕ → Walk → Walk
-visit zero S P A w = enter w
-visit (suc d) S P A w =
-    elim (known P A w) [
+unfoldable pub visit : ℕ → Problem → ℕ → ℕ → Walk → Walk
+visit zero Q P A w = enter w
+visit (suc d) Q P A w =
+    elim (known Q P A w) [
       | true ↦ enter w
-      | false ↦ store P A (each (λ (p : ℕ). visit d S P (without A (row S p))) (candidates S A) (enter w))
+      | false ↦ store P A (each (λ (p : ℕ). visit d Q P (without A (row Q p))) (candidates Q A) (enter w))
     ]
 
 -- the steps of cover A with a memo of P places, empty at the start
-unfoldable pub steps : List ℕ → ℕ → ℕ → ℕ
-steps S P A = visit (size A) S P A (record { entered = 0; memo = replicate P 0 }) .entered
+unfoldable pub steps : Problem → ℕ → ℕ → ℕ
+steps Q P A = visit (size A) Q P A (record { entered = 0; memo = replicate P 0 }) .entered
 
 -- Search of A, with enough fuel
-unfoldable pub search : List ℕ → ℕ → ℕ → Walk → Walk
-search S P A w = visit (size A) S P A w
+unfoldable pub search : Problem → ℕ → ℕ → Walk → Walk
+search Q P A w = visit (size A) Q P A w

@@ -3,7 +3,8 @@ ghost use mathlib.Core.Path.{_≡_};
 ghost use Prim.Native.Nat.{_+_, _*_, _<_, _≤_};
 ghost use lib.ListN.{length};
 ghost use Rattle.itemset.specs.Items.{lowest};
-ghost use Rattle.exact_cover.specs.Cover.{Rows, Keyed};
+ghost use Rattle.exact_cover.specs.Problem.{problemOf, Rows};
+ghost use Rattle.exact_cover.specs.Cover.{Keyed};
 
 // The key of the package with these items and this number. To compare keys is to compare by precedence (proofs/Order, `key-before`).
 fn key(items: u64, number: usize) -> u32
@@ -15,9 +16,9 @@ fn key(items: u64, number: usize) -> u32
 
 // The keys of the packages, to the start of the array.
 pub fn keys(packages: &[u64], keys: &mut [u32])
-    requires { ⌜ Rows (now packages) ⌝ }
+    requires { ⌜ Rows (problemOf (now packages)) ⌝ }
     requires { ⌜ length (now keys) ≡ 512 ⌝ }
-    ensures { λ _. ⌜ Keyed (now (packages .entry)) (now (keys .exit)) ⌝ }
+    ensures { λ _. ⌜ Keyed (problemOf (now (packages .entry))) (now (keys .exit)) ⌝ }
 {
     let mut k: usize = 0;
     while k < packages.len() {

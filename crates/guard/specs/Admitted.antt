@@ -1,31 +1,36 @@
 -- What every call establishes first: the packages and the table are good, the keys are computed and the nodes indexed. Assumes nothing.
 use mathlib.Core.Path.{_≡_}
-use mathlib.Core.Bool.{false}
+use mathlib.Core.Bool.{Bool, true, false, not}
 use mathlib.Core.List.{List}
 use Prim.Native.Nat.{ℕ}
 use lib.ListN.{length}
 use Rattle.zdd.specs.Table.{Sound, Keys}
-use Rattle.exact_cover.specs.Cover.{keysOf, Rows, Keyed}
+use Rattle.exact_cover.specs.Problem.{Problem, Rows}
+use Rattle.exact_cover.specs.Cover.{keysOf, Keyed}
 use Rattle.table.specs.State.{Fresh, Indexed}
-use Rattle.statement.specs.Refusals.{oversize, stray, unsound, checkRefusal}
+use Rattle.statement.specs.Refusals.{unsound, checkRefusal, Fit}
 
 -- the arrays before the check
 pub record Blank (keys heads next : List ℕ) : Type 0 where
   pub keys-long : length keys ≡ 512
   pub index : Fresh heads next
 
--- refusals 1, 2 and 4 do not apply, and what follows from that for the keys, the table and its index
-pub record Good (S : List ℕ) (m : ℕ) (t keys heads next : List ℕ) : Type 0 where
-  pub sized : oversize m S ≡ false
-  pub clean : stray m S ≡ false
-  pub unspoilt : unsound S t ≡ false
-  pub rows : Rows S
-  pub apart : Keys (keysOf S)
-  pub keyed : Keyed S keys
-  pub sound : Sound (keysOf S) t
+-- 4 does not apply: the table is sound, the keys are computed and the nodes indexed
+pub record Usable (Q : Problem) (t keys heads next : List ℕ) : Type 0 where
+  pub unspoilt : unsound Q t ≡ false
+  pub rows : Rows Q
+  pub apart : Keys (keysOf Q)
+  pub keyed : Keyed Q keys
+  pub sound : Sound (keysOf Q) t
   pub indexed : Indexed t heads next
 
+-- ok says whether 4 does not apply
+pub record Tested (Q : Problem) (t keys heads next : List ℕ) (ok : Bool) : Type 0 where
+  pub says : ok ≡ not (unsound Q t)
+  pub usable : ok ≡ true → Usable Q t keys heads next
+
 -- r is the refusal of the soundness check: 1, 2, 4, or 0 for none
-pub record Admitted (S : List ℕ) (m : ℕ) (t keys heads next : List ℕ) (r : ℕ) : Type 0 where
-  pub says : r ≡ checkRefusal S m t
-  pub ready : r ≡ 0 → Good S m t keys heads next
+pub record Admitted (Q : Problem) (m : ℕ) (t keys heads next : List ℕ) (r : ℕ) : Type 0 where
+  pub says : r ≡ checkRefusal Q m t
+  pub fit : r ≡ 0 → Fit Q m
+  pub usable : r ≡ 0 → Usable Q t keys heads next

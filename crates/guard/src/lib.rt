@@ -1,15 +1,16 @@
-// Refusals 1, 2 and 4, which every call tests first; and with them the keys of the packages and the index of the nodes.
+// Refusals 1 and 2 (the packages) and 4 (the table), which every call tests first; and with them the keys of the packages and the index of the nodes.
 ghost use mathlib.Core.Path.{_≡_};
 ghost use mathlib.Core.Bool.{not};
 ghost use mathlib.Core.List.{[], _∷_};
 ghost use Prim.Native.Nat.{_≤_};
-ghost use Rattle.statement.specs.Refusals.{firstOf, oversize, stray};
-ghost use Rattle.guard.specs.Admitted.{Blank, Admitted};
+ghost use Rattle.exact_cover.specs.Problem.{problemOf, Rows};
+ghost use Rattle.statement.specs.Refusals.{firstOf, oversize, stray, packageTests};
+ghost use Rattle.guard.specs.Admitted.{Blank, Tested, Admitted};
 
 // Whether no package is empty and none has an item of m or above.
 fn clean(m: u32, packages: &[u64]) -> bool
     requires { ⌜ m ≤ 64 ⌝ }
-    ensures { λ r. ⌜ r ≡ not (stray m (now (packages .entry))) ⌝ }
+    ensures { λ r. ⌜ r ≡ not (stray m (problemOf (now (packages .entry)))) ⌝ }
 {
     let mut k: usize = 0;
     while k < packages.len() {
@@ -27,7 +28,7 @@ fn clean(m: u32, packages: &[u64]) -> bool
 
 // Whether M or N is above its limit.
 fn too_large(m: u32, packages: &[u64]) -> bool
-    ensures { λ r. ⌜ r ≡ oversize m (now (packages .entry)) ⌝ }
+    ensures { λ r. ⌜ r ≡ oversize m (problemOf (now (packages .entry))) ⌝ }
 {
     if m > 64 {
         return true;
@@ -36,8 +37,8 @@ fn too_large(m: u32, packages: &[u64]) -> bool
 }
 
 // Refusal 1 or 2; 0 for neither.
-fn packages_refusal(m: u32, packages: &[u64]) -> u8
-    ensures { λ r. ⌜ r ≡ firstOf ((oversize m (now (packages .entry)), 1) ∷ (stray m (now (packages .entry)), 2) ∷ []) ⌝ }
+pub fn packages_refusal(m: u32, packages: &[u64]) -> u8
+    ensures { λ r. ⌜ r ≡ firstOf (packageTests (problemOf (now (packages .entry))) m []) ⌝ }
 {
     if too_large(m, packages) {
         return 1;
@@ -46,6 +47,23 @@ fn packages_refusal(m: u32, packages: &[u64]) -> u8
         return 2;
     }
     0
+}
+
+// Whether the table is sound; where it is, the keys and the index are ready.
+pub fn usable(
+    packages: &[u64],
+    t: &[u32],
+    keys: &mut [u32],
+    heads: &mut [u32; 65536],
+    next: &mut [u32; 65536],
+) -> bool
+    requires { ⌜ Rows (problemOf (now packages)) ⌝ }
+    requires { ⌜ Blank (now keys) (now heads) (now next) ⌝ }
+    ensures { λ r. ⌜ Tested (problemOf (now (packages .entry))) (now (t .entry)) (now (keys .exit)) (now (heads .exit)) (now (next .exit)) r ⌝ }
+{
+    exact_cover::keys(packages, keys);
+    let n = packages.len();
+    table::check(t, &keys[..n], heads, next)
 }
 
 // Refusal 1, 2 or 4; 0 where none applies, and then the keys and the index are ready.
@@ -58,15 +76,13 @@ pub fn admit(
     next: &mut [u32; 65536],
 ) -> u8
     requires { ⌜ Blank (now keys) (now heads) (now next) ⌝ }
-    ensures { λ r. ⌜ Admitted (now (packages .entry)) m (now (t .entry)) (now (keys .exit)) (now (heads .exit)) (now (next .exit)) r ⌝ }
+    ensures { λ r. ⌜ Admitted (problemOf (now (packages .entry))) m (now (t .entry)) (now (keys .exit)) (now (heads .exit)) (now (next .exit)) r ⌝ }
 {
     let r = packages_refusal(m, packages);
     if r != 0 {
         return r;
     }
-    exact_cover::keys(packages, keys);
-    let n = packages.len();
-    if !table::check(t, &keys[..n], heads, next) {
+    if !usable(packages, t, keys, heads, next) {
         return 4;
     }
     0

@@ -1,24 +1,26 @@
 -- THEOREM: what count returns where its first four tests fail: too few working words come first, then 11 exactly where the number does not fit 64
 -- bits. (No example can show this: a family that large does not compute.) Assumes nothing.
 use mathlib.Core.Path.{_≡_, ap, _∙_}
-use mathlib.Core.Bool.{true, false, not}
+use mathlib.Core.Bool.{true, not}
 use mathlib.Core.List.{List, [], _∷_}
 use Prim.Native.Nat.{ℕ, _+_, _≤_, _<_}
 use lib.ListN.{length}
 use borrow.Author.Tests.{lt-ltb, le-ltb, lt-leb}
 use Rattle.zdd.specs.Table.{count, soundb}
+use Rattle.exact_cover.specs.Problem.{Problem}
 use Rattle.exact_cover.specs.Cover.{keysOf}
 use Rattle.statement.specs.declared.Counted.{Counted}
 use Rattle.statement.specs.Replies.{refused, gives, reply, countReply}
 use Rattle.query.specs.Questions.{familyAt}
-use Rattle.statement.specs.Refusals.{firstOf, oversize, stray, unsound, unknownAnswer, shortWork, uncountable, countRefusal}
+use Rattle.statement.specs.Refusals.{firstOf, Fit, unsound, unknownAnswer, shortWork, uncountable, countRefusal}
 use Rattle.statement.specs.Postconditions.{CountPost}
 use Rattle.statement.proofs.FirstOf.{pass, hit, none}
+use Rattle.statement.proofs.Admission.{table-passes}
 
-module _ (S : List ℕ) (m : ℕ) (t : List ℕ) (a words : ℕ) (r : Counted) (P : CountPost S m t a words r) (sized : oversize m S ≡ false) (clean : stray m S ≡ false) (sound : soundb (keysOf S) t ≡ true) (known : a < count t + 2) where
-  tests : countRefusal S m t a words ≡ firstOf ((shortWork (a + 1) words, 8) ∷ (uncountable (familyAt t a), 11) ∷ [])
+module _ (Q : Problem) (m : ℕ) (t : List ℕ) (a words : ℕ) (r : Counted) (P : CountPost Q m t a words r) (fit : Fit Q m) (sound : soundb (keysOf Q) t ≡ true) (known : a < count t + 2) where
+  tests : countRefusal Q m t a words ≡ firstOf ((shortWork (a + 1) words, 8) ∷ (uncountable (familyAt t a), 11) ∷ [])
   unfolding countRefusal unsound unknownAnswer
-  tests = pass 1 _ sized ∙ pass 2 _ clean ∙ pass 4 _ (ap not sound) ∙ pass 5 _ (lt-leb (count t + 2) a known)
+  tests = table-passes t _ fit (ap not sound) ∙ pass 5 _ (lt-leb (count t + 2) a known)
 
   pub count-short : words < a + 1 → countReply r ≡ refused 8
   unfolding shortWork

@@ -3,13 +3,15 @@ use mathlib.Core.Path.{refl}
 use Rattle.itemset.specs.Items.{holds, insideb, without, belowb, size, lowest}
 use Rattle.zdd.specs.Table.{nodesOf, capacity, families, order, allSets, sets, filter, soundb, eqSet}
 use Rattle.zdd.specs.Branches.{starting, others, weight, branchesTo, branches, eqFamily, amongb, fresh, missing}
+use Rattle.exact_cover.specs.Problem.{lead, done}
 use Rattle.exact_cover.specs.Cover.{keysFrom, keysOf, holders, allInside, once, covers, covering, fits, down, candidates}
 use Rattle.exact_cover.specs.Steps.{each, visit, steps}
-use Rattle.statement.specs.Refusals.{firstOf, oversize, stray, unsound, unknownItem, shortWork, spent, full, coverRefusal}
+use Rattle.statement.specs.Refusals.{firstOf, oversize, strayIn, stray, unsound, unknownItem, shortWork, spent, full}
+use Rattle.statement.specs.Calls.{callRefusal}
 use Rattle.statement.specs.Examples.{PaperExamples}
 
 pub paper-examples : PaperExamples
-unfolding holds insideb without belowb size lowest nodesOf capacity families order allSets sets filter soundb eqSet starting others weight branchesTo branches eqFamily amongb fresh missing keysFrom keysOf holders allInside once covers covering fits down candidates each visit steps firstOf oversize stray unsound unknownItem shortWork spent full coverRefusal
+unfolding holds insideb without belowb size lowest lead done nodesOf capacity families order allSets sets filter soundb eqSet starting others weight branchesTo branches eqFamily amongb fresh missing keysFrom keysOf holders allInside once covers covering fits down candidates each visit steps firstOf oversize strayIn stray unsound unknownItem shortWork spent full callRefusal
 paper-examples = record {
   p1 = refl;
   p2 = refl;

@@ -6,6 +6,7 @@ use Prim.Native.Nat.{ℕ, zero, suc, _+_, _≤_, _<_}
 use lib.ListN.{length, drop}
 use borrow.Author.Tests.{lt-ltb, le-ltb, le-leb, lt-leb, eq-eqb, ne-eqb}
 use Rattle.zdd.specs.Table.{Family, count}
+use Rattle.exact_cover.specs.Problem.{Problem}
 use Rattle.query.specs.Questions.{unknownPackage}
 use Rattle.statement.specs.Replies.{refused, gives, reply}
 use Rattle.statement.specs.Postconditions.{written}
@@ -33,13 +34,13 @@ page-written s page e = sym (ap (λ (i : ℕ). written i s page) e)
 
 -- ---- 3
 
-pub all-priced : (S C : List ℕ) → length C ≡ length S → unpriced S C ≡ false
+pub all-priced : (Q : Problem) (C : List ℕ) → length C ≡ length (Q .packages) → unpriced Q C ≡ false
 unfolding unpriced
-all-priced S C e = ap not (eq-eqb (length C) (length S) e)
+all-priced Q C e = ap not (eq-eqb (length C) (length (Q .packages)) e)
 
-pub not-priced : (S C : List ℕ) → (length C ≡ length S → ⊥) → unpriced S C ≡ true
+pub not-priced : (Q : Problem) (C : List ℕ) → (length C ≡ length (Q .packages) → ⊥) → unpriced Q C ≡ true
 unfolding unpriced
-not-priced S C f = ap not (ne-eqb (length C) (length S) f)
+not-priced Q C f = ap not (ne-eqb (length C) (length (Q .packages)) f)
 
 -- ---- 5
 
@@ -84,10 +85,6 @@ too-many F h = lt-ltb 18446744073709551615 (length F) h
 pub not-past : (F : Family) (k : ℕ) → k < length F → pastEnd F k ≡ false
 unfolding pastEnd
 not-past F k h = lt-leb (length F) k h
-
-pub past : (F : Family) (k : ℕ) → length F ≤ k → pastEnd F k ≡ true
-unfolding pastEnd
-past F k h = le-leb (length F) k h
 
 pub something : (a : ℕ) → (a ≡ 0 → ⊥) → nothing a ≡ false
 unfolding nothing

@@ -4,6 +4,7 @@
 use mathlib.Core.List.{List, [], _∷_}
 use Prim.Native.Nat.{ℕ}
 use Rattle.zdd.specs.Table.{Node}
+use Rattle.exact_cover.specs.Problem.{Problem}
 use Rattle.statement.specs.declared.Soundness.{Soundness}
 use Rattle.statement.specs.declared.Counted.{Counted}
 use Rattle.statement.specs.Postconditions.{CheckPost, CountPost}
@@ -15,8 +16,8 @@ wordsOf (x ∷ ns) = x .label ∷ x .lo ∷ x .hi ∷ wordsOf ns
 abbrev pub tableOf : ℕ → List Node → List ℕ
 tableOf n ns = n ∷ wordsOf ns
 
-abbrev pub KioskCheckPost : (S : List ℕ) (m n : ℕ) (ns : List Node) → Soundness → Type 0
-KioskCheckPost S m n ns = CheckPost S m (tableOf n ns)
+abbrev pub KioskCheckPost : (Q : Problem) (m n : ℕ) (ns : List Node) → Soundness → Type 0
+KioskCheckPost Q m n ns = CheckPost Q m (tableOf n ns)
 
-abbrev pub KioskCountPost : (S : List ℕ) (m n : ℕ) (ns : List Node) (a words : ℕ) → Counted → Type 0
-KioskCountPost S m n ns a words = CountPost S m (tableOf n ns) a words
+abbrev pub KioskCountPost : (Q : Problem) (m n : ℕ) (ns : List Node) (a words : ℕ) → Counted → Type 0
+KioskCountPost Q m n ns a words = CountPost Q m (tableOf n ns) a words

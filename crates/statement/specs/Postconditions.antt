@@ -1,16 +1,17 @@
 -- The contracts: for each public call one record, which its `ensures` cites and which determines the result, the table and the page. Free are the
--- working words after the call and which number a new node gets. Arguments: S the packages, m is M, t and t′ the table's words before and after,
+-- working words after the call and which number a new node gets. Arguments: Q the problem, m is M, t and t′ the table's words before and after,
 -- `words` the number of working words, r what the call returns, page and page′ the page before and after. No call has a `requires`. Assumes nothing.
 use mathlib.Core.Path.{_≡_}
 use mathlib.Core.Bool.{true}
 use mathlib.Core.List.{List, _++_}
-use Prim.Native.Nat.{ℕ, zero, suc, _+_, _/_, _<_}
+use Prim.Native.Nat.{ℕ, zero, suc, _+_, _<_}
 use lib.ListN.{length, take, drop}
 use Rattle.zdd.specs.Table.{Family, count, nodesOf, soundb}
-use Rattle.zdd.specs.Operations.{union, inter, differ, including, excluding}
 use Rattle.zdd.specs.Branches.{missing}
-use Rattle.exact_cover.specs.Cover.{keysOf, covering}
-use Rattle.exact_cover.specs.Steps.{steps}
+use Rattle.exact_cover.specs.Problem.{Problem}
+use Rattle.exact_cover.specs.Cover.{keysOf}
+use Rattle.statement.specs.declared.Call.{Call}
+use Rattle.statement.specs.declared.Call.the-variants.{Cover, Either, Both, Only, With, Without}
 use Rattle.statement.specs.declared.Report.{Report}
 use Rattle.statement.specs.declared.Soundness.{Soundness}
 use Rattle.statement.specs.declared.Counted.{Counted}
@@ -19,7 +20,8 @@ use Rattle.statement.specs.declared.Placed.{Placed}
 use Rattle.statement.specs.declared.Priced.{Priced}
 use Rattle.statement.specs.Replies.{refused, gives, reply, outcomeReply, soundnessReply, countReply, pickReply, placeReply, cheapestReply}
 use Rattle.query.specs.Questions.{familyAt, nth, position, cost, cheapest}
-use Rattle.statement.specs.Refusals.{checkRefusal, coverRefusal, pairRefusal, packageRefusal, countRefusal, pickRefusal, placeRefusal, cheapestRefusal}
+use Rattle.statement.specs.Calls.{familyOf, stepsOf, callRefusal}
+use Rattle.statement.specs.Refusals.{checkRefusal, countRefusal, pickRefusal, placeRefusal, cheapestRefusal}
 
 -- ---- the calls that make an answer: cover, either, both, only, with, without
 
@@ -51,38 +53,33 @@ pub record Makes (K : List ℕ) (n : ℕ) (F : Family) (s : ℕ) (t : List ℕ) 
   pub declined : 0 < n → Declined n t r t′
   pub answered : n ≡ 0 → Answered K F s t r t′
 
--- cover d: the timetables covering d, with the step limit `limit` [document 01: B]
-abbrev pub CoverPost : (S : List ℕ) (m : ℕ) (t : List ℕ) (d limit words : ℕ) → Report → List ℕ → Type 0
-CoverPost S m t d limit words r t′ =
-    Makes (keysOf S) (coverRefusal S m t d limit words) (covering S d) (steps S (words / 2) d) t r t′
+-- the contract of every call that makes an answer
+abbrev pub AnswerPost : (Q : Problem) (m : ℕ) (t : List ℕ) → Call → ℕ → Report → List ℕ → Type 0
+AnswerPost Q m t c words r t′ = Makes (keysOf Q) (callRefusal Q m t c words) (familyOf Q t c) (stepsOf Q c words) t r t′
 
--- the calls on two answers: F is made of their families
-abbrev pub PairPost : (S : List ℕ) (m : ℕ) (t : List ℕ) (a b : ℕ) (F : Family) (words : ℕ) → Report → List ℕ → Type 0
-PairPost S m t a b F words r t′ = Makes (keysOf S) (pairRefusal S m t a b F words) F 0 t r t′
+-- cover d: the timetables covering d, with the step limit `limit` [document 01: B]
+abbrev pub CoverPost : (Q : Problem) (m : ℕ) (t : List ℕ) (d limit words : ℕ) → Report → List ℕ → Type 0
+CoverPost Q m t d limit words = AnswerPost Q m t (Cover d limit) words
 
 -- either: union
-abbrev pub EitherPost : (S : List ℕ) (m : ℕ) (t : List ℕ) (a b words : ℕ) → Report → List ℕ → Type 0
-EitherPost S m t a b words = PairPost S m t a b (union (keysOf S) (familyAt t a) (familyAt t b)) words
+abbrev pub EitherPost : (Q : Problem) (m : ℕ) (t : List ℕ) (a b words : ℕ) → Report → List ℕ → Type 0
+EitherPost Q m t a b words = AnswerPost Q m t (Either a b) words
 
 -- both: intersection
-abbrev pub BothPost : (S : List ℕ) (m : ℕ) (t : List ℕ) (a b words : ℕ) → Report → List ℕ → Type 0
-BothPost S m t a b words = PairPost S m t a b (inter (keysOf S) (familyAt t a) (familyAt t b)) words
+abbrev pub BothPost : (Q : Problem) (m : ℕ) (t : List ℕ) (a b words : ℕ) → Report → List ℕ → Type 0
+BothPost Q m t a b words = AnswerPost Q m t (Both a b) words
 
 -- only: those of the first not in the second
-abbrev pub OnlyPost : (S : List ℕ) (m : ℕ) (t : List ℕ) (a b words : ℕ) → Report → List ℕ → Type 0
-OnlyPost S m t a b words = PairPost S m t a b (differ (keysOf S) (familyAt t a) (familyAt t b)) words
-
--- the calls on an answer and a package
-abbrev pub PackagePost : (S : List ℕ) (m : ℕ) (t : List ℕ) (a p : ℕ) (F : Family) (words : ℕ) → Report → List ℕ → Type 0
-PackagePost S m t a p F words r t′ = Makes (keysOf S) (packageRefusal S m t a p F words) F 0 t r t′
+abbrev pub OnlyPost : (Q : Problem) (m : ℕ) (t : List ℕ) (a b words : ℕ) → Report → List ℕ → Type 0
+OnlyPost Q m t a b words = AnswerPost Q m t (Only a b) words
 
 -- with p: those that hold p
-abbrev pub WithPost : (S : List ℕ) (m : ℕ) (t : List ℕ) (a p words : ℕ) → Report → List ℕ → Type 0
-WithPost S m t a p words = PackagePost S m t a p (including (keysOf S) p (familyAt t a)) words
+abbrev pub WithPost : (Q : Problem) (m : ℕ) (t : List ℕ) (a p words : ℕ) → Report → List ℕ → Type 0
+WithPost Q m t a p words = AnswerPost Q m t (With a p) words
 
 -- without p: those that do not
-abbrev pub WithoutPost : (S : List ℕ) (m : ℕ) (t : List ℕ) (a p words : ℕ) → Report → List ℕ → Type 0
-WithoutPost S m t a p words = PackagePost S m t a p (excluding (keysOf S) p (familyAt t a)) words
+abbrev pub WithoutPost : (Q : Problem) (m : ℕ) (t : List ℕ) (a p words : ℕ) → Report → List ℕ → Type 0
+WithoutPost Q m t a p words = AnswerPost Q m t (Without a p) words
 
 -- ---- the questions. They are lent the table for reading only
 
@@ -92,25 +89,25 @@ written zero s page = s ++ drop (length s) page
 written (suc n) s page = page
 
 -- the soundness check
-pub record CheckPost (S : List ℕ) (m : ℕ) (t : List ℕ) (r : Soundness) : Type 0 where
-  pub result : soundnessReply r ≡ reply (checkRefusal S m t) tt
+pub record CheckPost (Q : Problem) (m : ℕ) (t : List ℕ) (r : Soundness) : Type 0 where
+  pub result : soundnessReply r ≡ reply (checkRefusal Q m t) tt
 
 -- count: how many timetables the answer a holds
-pub record CountPost (S : List ℕ) (m : ℕ) (t : List ℕ) (a words : ℕ) (r : Counted) : Type 0 where
-  pub result : countReply r ≡ reply (countRefusal S m t a words) (length (familyAt t a))
+pub record CountPost (Q : Problem) (m : ℕ) (t : List ℕ) (a words : ℕ) (r : Counted) : Type 0 where
+  pub result : countReply r ≡ reply (countRefusal Q m t a words) (length (familyAt t a))
 
 -- pick k: the k-th timetable of the answer a, written to the page, and how many packages it has
-pub record PickPost (S : List ℕ) (m : ℕ) (t : List ℕ) (a k words : ℕ) (page : List ℕ) (r : Picked) (page′ : List ℕ) : Type 0 where
-  pub result : pickReply r ≡ reply (pickRefusal S m t a k words page) (length (nth (familyAt t a) k))
-  pub pages : page′ ≡ written (pickRefusal S m t a k words page) (nth (familyAt t a) k) page
+pub record PickPost (Q : Problem) (m : ℕ) (t : List ℕ) (a k words : ℕ) (page : List ℕ) (r : Picked) (page′ : List ℕ) : Type 0 where
+  pub result : pickReply r ≡ reply (pickRefusal Q m t a k words page) (length (nth (familyAt t a) k))
+  pub pages : page′ ≡ written (pickRefusal Q m t a k words page) (nth (familyAt t a) k) page
 
 -- place: where the timetable s stands in the listing of the answer a
-pub record PlacePost (S : List ℕ) (m : ℕ) (t : List ℕ) (a : ℕ) (s : List ℕ) (words : ℕ) (r : Placed) : Type 0 where
-  pub result : placeReply r ≡ reply (placeRefusal S m t a s words) (position s (familyAt t a))
+pub record PlacePost (Q : Problem) (m : ℕ) (t : List ℕ) (a : ℕ) (s : List ℕ) (words : ℕ) (r : Placed) : Type 0 where
+  pub result : placeReply r ≡ reply (placeRefusal Q m t a s words) (position s (familyAt t a))
 
 -- cheapest: of the timetables of the answer a with the least cost the first listed, written to the page; how many packages it has, and its cost
-pub record CheapestPost (S : List ℕ) (m : ℕ) (C t : List ℕ) (a words : ℕ) (page : List ℕ) (r : Priced) (page′ : List ℕ) : Type 0 where
+pub record CheapestPost (Q : Problem) (m : ℕ) (C t : List ℕ) (a words : ℕ) (page : List ℕ) (r : Priced) (page′ : List ℕ) : Type 0 where
   pub result :
       cheapestReply r
-      ≡ reply (cheapestRefusal S m C t a words page) (length (cheapest C (familyAt t a)), cost C (cheapest C (familyAt t a)))
-  pub pages : page′ ≡ written (cheapestRefusal S m C t a words page) (cheapest C (familyAt t a)) page
+      ≡ reply (cheapestRefusal Q m C t a words page) (length (cheapest C (familyAt t a)), cost C (cheapest C (familyAt t a)))
+  pub pages : page′ ≡ written (cheapestRefusal Q m C t a words page) (cheapest C (familyAt t a)) page

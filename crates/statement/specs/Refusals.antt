@@ -1,6 +1,7 @@
 -- When each call is refused. A call's refusal is the number of the first test of its list that holds, 0 for none: each list is document 01's table
--- read down, with the lines that concern the call. S has the packages, m is M, t has the table's words, and `words` is the number of working
--- words. Assumes nothing.
+-- read down, with the lines that concern the call. The calls that make an answer have theirs in `Calls`. Q is the problem, m is M, t has the table's
+-- words, and `words` is the number of working words. Assumes nothing.
+use mathlib.Core.Path.{_≡_}
 use mathlib.Core.Bool.{Bool, true, false, not, _||_}
 use mathlib.Core.List.{List, [], _∷_}
 use Prim.Native.Nat.{ℕ, _+_, _-_, _*_, _/_}
@@ -9,9 +10,10 @@ use lib.ListN.{length}
 use Rattle.itemset.specs.Items.{belowb}
 use Rattle.zdd.specs.Table.{Family, count, capacity, nodesOf, elem, soundb}
 use Rattle.zdd.specs.Branches.{missing}
-use Rattle.exact_cover.specs.Cover.{keysOf, covering}
+use Rattle.exact_cover.specs.Problem.{Problem}
+use Rattle.exact_cover.specs.Cover.{keysOf}
 use Rattle.exact_cover.specs.Steps.{steps}
-use Rattle.query.specs.Questions.{familyAt, nth, cheapest, unknownPackage, anyUnknown, ascending}
+use Rattle.query.specs.Questions.{familyAt, nth, cheapest, anyUnknown, ascending}
 
 unfoldable pub firstOf : List (Bool × ℕ) → ℕ
 firstOf [] = 0
@@ -20,21 +22,24 @@ firstOf (t ∷ ts) = elim (t .0) [ true ↦ t .1 | false ↦ firstOf ts ]
 -- ---- the tests, by their numbers
 
 -- 1 oversize: M above 64 or N above 512
-unfoldable pub oversize : ℕ → List ℕ → Bool
-oversize m S = ltb 64 m || ltb 512 (length S)
+unfoldable pub oversize : ℕ → Problem → Bool
+oversize m Q = ltb 64 m || ltb 512 (length (Q .packages))
 
 -- 2 stray: an empty package, or an item of M or above in one
-unfoldable pub stray : ℕ → List ℕ → Bool
-stray m [] = false
-stray m (x ∷ S) = (eqb x 0 || not (belowb x m)) || stray m S
+unfoldable pub strayIn : ℕ → List ℕ → Bool
+strayIn m [] = false
+strayIn m (x ∷ xs) = (eqb x 0 || not (belowb x m)) || strayIn m xs
+
+unfoldable pub stray : ℕ → Problem → Bool
+stray m Q = strayIn m (Q .packages)
 
 -- 3 cost list: its length is not N
-unfoldable pub unpriced : List ℕ → List ℕ → Bool
-unpriced S C = not (eqb (length C) (length S))
+unfoldable pub unpriced : Problem → List ℕ → Bool
+unpriced Q C = not (eqb (length C) (length (Q .packages)))
 
 -- 4 spoilt: the table is not sound
-unfoldable pub unsound : List ℕ → List ℕ → Bool
-unsound S t = not (soundb (keysOf S) t)
+unfoldable pub unsound : Problem → List ℕ → Bool
+unsound Q t = not (soundb (keysOf Q) t)
 
 -- 5 unknown answer: an operand of n + 2 or more
 unfoldable pub unknownAnswer : List ℕ → ℕ → Bool
@@ -42,8 +47,8 @@ unknownAnswer t a = leb (count t + 2) a
 
 -- 6 unknown package: p of N or more is `unknownPackage` of `query`. In place: a package of N or more in the list, or the list out of precedence or
 -- repeating, so that some package does not come before the next
-unfoldable pub notTimetable : List ℕ → List ℕ → Bool
-notTimetable S s = anyUnknown S s || not (ascending (keysOf S) s)
+unfoldable pub notTimetable : Problem → List ℕ → Bool
+notTimetable Q s = anyUnknown (Q .packages) s || not (ascending (keysOf Q) s)
 
 -- 7 unknown item: D has an item of M or above
 unfoldable pub unknownItem : ℕ → ℕ → Bool
@@ -54,8 +59,8 @@ unfoldable pub shortWork : ℕ → ℕ → Bool
 shortWork least words = ltb words least
 
 -- 9 spent: steps above B, with a memo of as many places as there are pairs of working words
-unfoldable pub spent : List ℕ → ℕ → ℕ → ℕ → Bool
-spent S d limit words = ltb limit (steps S (words / 2) d)
+unfoldable pub spent : Problem → ℕ → ℕ → ℕ → Bool
+spent Q d limit words = ltb limit (steps Q (words / 2) d)
 
 -- 10 full: the branch nodes of the answer F that are not yet in the table outnumber the free places
 unfoldable pub full : List ℕ → Family → Bool
@@ -81,101 +86,63 @@ absent F s = not (elem s F)
 unfoldable pub shortPage : List ℕ → List ℕ → Bool
 shortPage page s = ltb (length page) (length s)
 
--- ---- the calls
+-- ---- what every call tests first, in front of its own tests
 
-unfoldable pub checkRefusal : (S : List ℕ) (m : ℕ) (t : List ℕ) → ℕ
-checkRefusal S m t =
-    firstOf (
-    (oversize m S, 1) ∷
-    (stray m S, 2) ∷
-    (unsound S t, 4) ∷
-    [])
+-- 1 and 2: the packages
+abbrev pub packageTests : Problem → ℕ → List (Bool × ℕ) → List (Bool × ℕ)
+packageTests Q m ts = (oversize m Q, 1) ∷ (stray m Q, 2) ∷ ts
 
-unfoldable pub coverRefusal : (S : List ℕ) (m : ℕ) (t : List ℕ) (d limit words : ℕ) → ℕ
-coverRefusal S m t d limit words =
-    firstOf (
-    (oversize m S, 1) ∷
-    (stray m S, 2) ∷
-    (unsound S t, 4) ∷
-    (unknownItem m d, 7) ∷
-    (shortWork 2 words, 8) ∷
-    (spent S d limit words, 9) ∷
-    (full t (covering S d), 10) ∷
-    [])
+-- and 4: the table
+abbrev pub tableTests : Problem → ℕ → List ℕ → List (Bool × ℕ) → List (Bool × ℕ)
+tableTests Q m t ts = packageTests Q m ((unsound Q t, 4) ∷ ts)
 
--- either, both, only: F is the family that the call makes of the families of a and b
-unfoldable pub pairRefusal : (S : List ℕ) (m : ℕ) (t : List ℕ) (a b : ℕ) (F : Family) (words : ℕ) → ℕ
-pairRefusal S m t a b F words =
-    firstOf (
-    (oversize m S, 1) ∷
-    (stray m S, 2) ∷
-    (unsound S t, 4) ∷
-    (unknownAnswer t a || unknownAnswer t b, 5) ∷
-    (shortWork 2 words, 8) ∷
-    (full t F, 10) ∷
-    [])
+-- none of 1 and 2 applies
+pub record Fit (Q : Problem) (m : ℕ) : Type 0 where
+  pub sized : oversize m Q ≡ false
+  pub clean : stray m Q ≡ false
 
--- with, without: F is the family that the call makes of a's family and p
-unfoldable pub packageRefusal : (S : List ℕ) (m : ℕ) (t : List ℕ) (a p : ℕ) (F : Family) (words : ℕ) → ℕ
-packageRefusal S m t a p F words =
-    firstOf (
-    (oversize m S, 1) ∷
-    (stray m S, 2) ∷
-    (unsound S t, 4) ∷
-    (unknownAnswer t a, 5) ∷
-    (unknownPackage S p, 6) ∷
-    (shortWork 2 words, 8) ∷
-    (full t F, 10) ∷
-    [])
+-- ---- the questions
 
-unfoldable pub countRefusal : (S : List ℕ) (m : ℕ) (t : List ℕ) (a words : ℕ) → ℕ
-countRefusal S m t a words =
-    firstOf (
-    (oversize m S, 1) ∷
-    (stray m S, 2) ∷
-    (unsound S t, 4) ∷
+unfoldable pub checkRefusal : (Q : Problem) (m : ℕ) (t : List ℕ) → ℕ
+checkRefusal Q m t = firstOf (tableTests Q m t [])
+
+unfoldable pub countRefusal : (Q : Problem) (m : ℕ) (t : List ℕ) (a words : ℕ) → ℕ
+countRefusal Q m t a words =
+    firstOf (tableTests Q m t (
     (unknownAnswer t a, 5) ∷
     (shortWork (a + 1) words, 8) ∷
     (uncountable (familyAt t a), 11) ∷
-    [])
+    []))
 
-unfoldable pub pickRefusal : (S : List ℕ) (m : ℕ) (t : List ℕ) (a k words : ℕ) (page : List ℕ) → ℕ
-pickRefusal S m t a k words page =
-    firstOf (
-    (oversize m S, 1) ∷
-    (stray m S, 2) ∷
-    (unsound S t, 4) ∷
+unfoldable pub pickRefusal : (Q : Problem) (m : ℕ) (t : List ℕ) (a k words : ℕ) (page : List ℕ) → ℕ
+pickRefusal Q m t a k words page =
+    firstOf (tableTests Q m t (
     (unknownAnswer t a, 5) ∷
     (shortWork (a + 1) words, 8) ∷
     (uncountable (familyAt t a), 11) ∷
     (pastEnd (familyAt t a) k, 12) ∷
     (shortPage page (nth (familyAt t a) k), 15) ∷
-    [])
+    []))
 
 -- s is the list of packages whose place is asked
-unfoldable pub placeRefusal : (S : List ℕ) (m : ℕ) (t : List ℕ) (a : ℕ) (s : List ℕ) (words : ℕ) → ℕ
-placeRefusal S m t a s words =
-    firstOf (
-    (oversize m S, 1) ∷
-    (stray m S, 2) ∷
-    (unsound S t, 4) ∷
+unfoldable pub placeRefusal : (Q : Problem) (m : ℕ) (t : List ℕ) (a : ℕ) (s : List ℕ) (words : ℕ) → ℕ
+placeRefusal Q m t a s words =
+    firstOf (tableTests Q m t (
     (unknownAnswer t a, 5) ∷
-    (notTimetable S s, 6) ∷
+    (notTimetable Q s, 6) ∷
     (shortWork (a + 1) words, 8) ∷
     (uncountable (familyAt t a), 11) ∷
     (absent (familyAt t a) s, 14) ∷
-    [])
+    []))
 
--- C has the costs
-unfoldable pub cheapestRefusal : (S : List ℕ) (m : ℕ) (C : List ℕ) (t : List ℕ) (a words : ℕ) (page : List ℕ) → ℕ
-cheapestRefusal S m C t a words page =
-    firstOf (
-    (oversize m S, 1) ∷
-    (stray m S, 2) ∷
-    (unpriced S C, 3) ∷
-    (unsound S t, 4) ∷
+-- C has the costs: 3 stands between the tests of the packages and of the table
+unfoldable pub cheapestRefusal : (Q : Problem) (m : ℕ) (C : List ℕ) (t : List ℕ) (a words : ℕ) (page : List ℕ) → ℕ
+cheapestRefusal Q m C t a words page =
+    firstOf (packageTests Q m (
+    (unpriced Q C, 3) ∷
+    (unsound Q t, 4) ∷
     (unknownAnswer t a, 5) ∷
     (shortWork (2 * (a + 1)) words, 8) ∷
     (nothing a, 13) ∷
     (shortPage page (cheapest C (familyAt t a)), 15) ∷
-    [])
+    []))

@@ -1,8 +1,19 @@
-// The public calls' answers. What a call promises is in specs/: `Refusals` (when it is refused), `Postconditions` (one record for each call). The demand
+// The public calls' arguments and answers. What a call promises is in specs/: `Refusals` (when it is refused), `Calls` (the calls that make an answer),
+// `Postconditions` (one record for each call). The demand
 // on a list of calls is in the crate `history`.
 ghost use mathlib.Core.List.{List};
 ghost use Prim.Native.Nat.{ℕ};
 ghost use Rattle.statement.specs.Postconditions.{Declined};
+
+// A call that makes an answer, with its own arguments. Cover has the item set and the step limit [document 01: D, B]; a and b are answers, p is a package.
+pub enum Call {
+    Cover { d: u64, limit: u32 },
+    Either { a: u32, b: u32 },
+    Both { a: u32, b: u32 },
+    Only { a: u32, b: u32 },
+    With { a: u32, p: u32 },
+    Without { a: u32, p: u32 },
+}
 
 // How a call that makes an answer ended: the answer's number, or the number of a refusal.
 pub enum Outcome {

@@ -6,6 +6,8 @@ use borrow.Author.Tests.{not-true, not-false}
 use native.Mathlib.Nat.{mod-lt}
 use Prim.Native.Nat.{_+_, _*_}
 use Rattle.itemset.proofs.Laws.{lowest-lt, without-back}
+use Rattle.exact_cover.specs.Problem.{problemOf, lead}
+use Rattle.exact_cover.proofs.Lead.{open-pos, pos-open, zero-done}
 use Rattle.compile.proofs.TurnLaws.{At, Turn, search-over, search-empty, search-hit, search-tried, at-first, at-falls, at-later, turn-start, turn-later, turn-pass, turn-over, turn-none, turn-idle, turn-made, turn-done}
 use borrow.Author.Needs.{needs}
 use Prim.Native.Nat.{ℕ, _<_}
@@ -61,7 +63,8 @@ search-returns t c =
 search-returns-2 : (t : ℕ) → search-lts.Need-returns-2 (search-claims t) (search-at t) search′.Post
 search-returns-2 t c =
     let pre = c .before .before .before .before .before .pre in
-    search-empty (pre .1 .0) (pre .1 .1 .0) (c .before .before .before .before .before .args .items) _ (omega (arith, c .before .if1 .left)) refl (c .if2 .taken)
+    search-empty (pre .1 .0) (pre .1 .1 .0) (c .before .before .before .before .before .args .items) _ (omega (arith, c .before .if1 .left)) refl
+    (c .before .before .before .before .before .fits .items .fits) (zero-done _ _ (c .if2 .taken))
 
 search-place-requires : (t : ℕ) → search-lts.Need-place-requires (search-claims t) (search-at t) search′.Post
 search-place-requires t c κs = c .before .before .before .before .before .pre .1 .1 .0 .held .some
@@ -150,7 +153,8 @@ search-returns-3 : (t : ℕ) → search-lts.Need-returns-3 (search-claims t) (se
 search-returns-3 t c =
     let place′ = c .before .before .before .place in let pre = c .before .before .before .before .before .before .before .before .before .pre in
     search-hit (pre .1 .0) (pre .1 .1 .0) (c .before .before .before .before .before .before .before .before .before .args .items) (place′ .result) _ _
-    (omega (arith, c .before .before .before .before .before .if1 .left)) refl (omega (arith, c .before .before .before .before .if2 .left)) (place′ .ensures) (c .before .if3 .taken) refl
+    (omega (arith, c .before .before .before .before .before .if1 .left)) refl (pos-open _ _ (omega (arith, c .before .before .before .before .if2 .left)))
+    (place′ .ensures) (c .before .if3 .taken) refl
 
 search-trial-requires : (t : ℕ) → search-lts.Need-trial-requires (search-claims t) (search-at t) search′.Post
 search-trial-requires t c κs =
@@ -163,7 +167,7 @@ search-trial-requires t c κs =
           q .1 .0,
           (
             omega (arith, c .before .before .before .before .before .before .before .before .if1 .left),
-            (omega (arith, c .before .before .before .before .before .before .before .if2 .left), c .before .before .before .before .before .before .place .ensures),
+            (pos-open _ _ (omega (arith, c .before .before .before .before .before .before .before .if2 .left)), c .before .before .before .before .before .before .place .ensures),
           ),
         ),
       ),
@@ -179,12 +183,12 @@ search-returns-4 : (t : ℕ) → search-lts.Need-returns-4 (search-claims t) (se
 search-returns-4 t c =
     let here = c .before .before .before .before .before .before .before .before .before .before .before in let place′ = here .place in let if2 = here .before .if2 in
     let args = here .before .before .before .before .before .before .args in let pre = here .before .before .before .before .before .before .pre in
-    search-tried (pre .1 .0) (pre .1 .1 .0) (args .items) (place′ .result) _ refl (omega (arith, if2 .left)) (place′ .ensures)
+    search-tried (pre .1 .0) (pre .1 .1 .0) (args .items) (place′ .result) _ refl (pos-open _ _ (omega (arith, if2 .left))) (place′ .ensures)
     (c .before .before .before .before .before .before .before .before .before .if3 .left) (c .before .before .before .before .trial .ensures)
 
 abbrev trial-Inv-loop : trial-lts.InvT-loop
 trial-Inv-loop packs first after t₀ heads₀ next₀ memo₀ places at items limit low p₀ run₀ t heads next memo p run =
-    Turn packs places items limit t₀ memo₀ (run₀ .steps) (run₀ .full) t heads next memo p (run .answer) (run .steps) (run .full) × (At packs items p × (run .over ≡ false))
+    Turn (problemOf packs) places items limit t₀ memo₀ (run₀ .steps) (run₀ .full) t heads next memo p (run .answer) (run .steps) (run .full) × (At (problemOf packs) items p × (run .over ≡ false))
 
 abbrev trial-μ-loop : trial-lts.MeasureT-loop
 trial-μ-loop packs first after t₀ heads₀ next₀ memo₀ places at items limit low p₀ run₀ t heads next memo p run =
@@ -208,7 +212,7 @@ trial-claims t = (
 )
 
 trial-lowest-requires : (t : ℕ) → trial-lts.Need-lowest-requires (trial-claims t) (trial-at t) trial.Post trial-Inv-loop trial-μ-loop
-trial-lowest-requires t c κs = c .before .before .before .pre .1 .1 .1 .1 .0
+trial-lowest-requires t c κs = open-pos _ _ (c .before .before .before .pre .1 .1 .1 .1 .0)
 
 trial-element-copy-out-p : (t : ℕ) → trial-lts.Need-element-copy-out-p (trial-claims t) (trial-at t) trial.Post trial-Inv-loop trial-μ-loop
 trial-element-copy-out-p t c = omega (
@@ -216,10 +220,11 @@ trial-element-copy-out-p t c = omega (
   c .wide .ensures,
   c .before .lowest .ensures,
   lowest-lt 64 (c .before .before .before .before .before .args .items)
-      (c .before .before .before .before .before .pre .1 .1 .1 .1 .0) (c .before .before .before .before .before .fits .items .fits),
+      (open-pos _ _ (c .before .before .before .before .before .pre .1 .1 .1 .1 .0)) (c .before .before .before .before .before .fits .items .fits),
 )
 
 trial-loop-holds : (t : ℕ) → trial-lts.Need-loop-holds (trial-claims t) (trial-at t) trial.Post trial-Inv-loop trial-μ-loop
+unfolding lead
 trial-loop-holds t c =
     let here = c .before .before .before .before .before .before in let args = here .args in let fits = here .fits in
     let q = c .before .before .before .before .before .before .pre .1 in
@@ -235,7 +240,7 @@ trial-element-copy-out-later t c = omega (
   c .before .wide2 .ensures,
   c .before .before .before .loop .inv .1 .0 .inside,
   c .before .before .loop-test .taken,
-  c .before .before .before .before .before .before .before .before .before .before .pre .1 .0 .few,
+  c .before .before .before .before .before .before .before .before .before .before .pre .1 .0 .rows .few,
 )
 
 trial-loop-less : (t : ℕ) → trial-lts.Need-loop-less (trial-claims t) (trial-at t) trial.Post trial-Inv-loop trial-μ-loop
@@ -269,7 +274,7 @@ trial-search-requires t c κs =
     let q = pre .1 in
     let u = loop .inv .0 in
     let k = wide2 .result in
-    let f = q .0 .some k (omega (arith, wide2 .ensures, loop .inv .1 .0 .inside, c .before .before .before .before .before .before .before .before .before .before .loop-test .taken)) in (
+    let f = open-pos _ _ (q .0 .rows .some k (omega (arith, wide2 .ensures, loop .inv .1 .0 .inside, c .before .before .before .before .before .before .before .before .before .before .loop-test .taken))) in (
       omega (
         arith,
         pre .0,

@@ -4,6 +4,7 @@ use mathlib.Core.Path.{refl}
 use native.Mathlib.Omega.{arith}
 use Prim.Native.Nat.{_*_}
 use Rattle.table.proofs.GrownLaws.{grown-more}
+use Rattle.exact_cover.specs.Problem.{problemOf}
 use borrow.Author.Needs.{needs}
 use Rattle.compile.proofs.cover.Statement.{statement}
 use Rattle.compile.proofs.cover.Tie as tie
@@ -18,7 +19,7 @@ begin-requires c κs =
     let q = pre in (
       c .before .before .before .before .before .before .before .before .before .before .before .enlist .ensures,
       (
-        record { sound = q .1 .0; indexed = q .1 .1 .0; held = cleared-held (clear .ensures) refl (args .packs .now) (args .t .now) false (q .1 .1 .1) },
+        record { sound = q .1 .0; indexed = q .1 .1 .0; held = cleared-held (clear .ensures) refl (problemOf (args .packs .now)) (args .t .now) false (q .1 .1 .1) },
         λ j l. clear .ensures .zero (2 * j)
             (omega arith),
       ),

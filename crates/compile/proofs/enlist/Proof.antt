@@ -1,24 +1,26 @@
 use lib.ListN.{getD, length}
-use mathlib.Core.Path.{_∙_}
+use mathlib.Core.Path.{sym, _∙_}
 use native.Mathlib.Omega.{arith}
 use Prim.Native.Nat.{_-_}
 use Rattle.itemset.proofs.Laws.{lowest-lt}
 use Rattle.compile.proofs.TopLaws.{Built, built-start, built-more, built-all}
+use Rattle.exact_cover.specs.Problem.{problemOf}
+use Rattle.exact_cover.proofs.Lead.{lead-is, open-pos}
 use borrow.Author.Needs.{needs}
 use Rattle.compile.proofs.enlist.Statement.{statement}
 use Rattle.compile.proofs.enlist.Tie as tie
 
 abbrev Inv-loop : tie.InvT-loop
-Inv-loop packs first₀ after₀ k₀ first after k = Built packs k first after
+Inv-loop packs first₀ after₀ k₀ first after k = Built (problemOf packs) k first after
 
 abbrev μ-loop : tie.MeasureT-loop
 μ-loop packs first₀ after₀ k₀ first after k = length packs - k
 
 loop-holds : tie.Need-loop-holds Inv-loop μ-loop
-loop-holds c = built-start (c .before .args .packs .now) (c .before .pre .1)
+loop-holds c = built-start (problemOf (c .before .args .packs .now)) (c .before .pre .1)
 
 lowest-requires : tie.Need-lowest-requires Inv-loop μ-loop
-lowest-requires c κs = c .before .before .before .before .pre .0 .some (c .before .before .loop .k) (c .before .loop-test .taken)
+lowest-requires c κs = open-pos _ _ (c .before .before .before .before .pre .0 .some (c .before .before .loop .k) (c .before .loop-test .taken))
 
 cast-insert : tie.Need-cast-insert Inv-loop μ-loop
 cast-insert c = omega (arith, c .before .before .before .before .before .before .before .before .pre .0 .few, c .before .before .before .before .before .loop-test .taken)
@@ -32,7 +34,7 @@ insert-requires c κs =
         c .before .before .before .lowest .ensures,
         loop .inv .first-long,
         lowest-lt 64
-            (getD (c .before .before .before .before .before .before .before .before .args .packs .now) (loop .k) 0) (pre .0 .some (loop .k) (loop-test .taken))
+            (getD (c .before .before .before .before .before .before .before .before .args .packs .now) (loop .k) 0) (open-pos _ _ (pre .0 .some (loop .k) (loop-test .taken)))
             (c .before .before .before .before .shared-slice-known2 .given (loop .k) .fits),
       ),
       omega (arith, loop .inv .after-long, pre .0 .few, loop-test .taken),
@@ -49,8 +51,8 @@ loop-again c =
       wide .ensures,
       lowest .ensures,
       lowest-lt 64 (getD (c .before .before .before .before .before .before .before .before .before .args .packs .now) (loop .k) 0)
-          (pre .0 .some (loop .k) (loop-test .taken)) (c .before .before .before .before .before .shared-slice-known2 .given (loop .k) .fits),
-    )) (wide .ensures ∙ lowest .ensures) (loop .inv))
+          (open-pos _ _ (pre .0 .some (loop .k) (loop-test .taken))) (c .before .before .before .before .before .shared-slice-known2 .given (loop .k) .fits),
+    )) (wide .ensures ∙ lowest .ensures ∙ sym (lead-is _ _)) (loop .inv))
 
 returns : tie.Need-returns Inv-loop μ-loop
 returns c = built-all (c .before .loop .k) (c .before .before .before .pre .0) (omega (arith, c .loop-test .left)) (c .before .loop .inv)

@@ -2,23 +2,25 @@ use lib.ListN.{length}
 use native.Mathlib.Omega.{arith}
 use Prim.Native.Nat.{_-_}
 use Rattle.exact_cover.proofs.KeyLaws.{KeyedTo, keyed-start, keyed-more, keyed-all}
+use Rattle.exact_cover.specs.Problem.{problemOf}
+use Rattle.exact_cover.proofs.Lead.{open-pos}
 use borrow.Author.Needs.{needs}
 use Rattle.exact_cover.proofs.keys.Statement.{statement}
 use Rattle.exact_cover.proofs.keys.Tie as tie
 
 abbrev Inv-loop : tie.InvT-loop
-Inv-loop packages keys₀ k₀ keys k = KeyedTo packages k keys
+Inv-loop packages keys₀ k₀ keys k = KeyedTo (problemOf packages) k keys
 
 abbrev μ-loop : tie.MeasureT-loop
 μ-loop packages keys₀ k₀ keys k = length packages - k
 
 loop-holds : tie.Need-loop-holds Inv-loop μ-loop
-loop-holds c = keyed-start (c .before .before .args .packages .now) (c .before .before .pre .1)
+loop-holds c = keyed-start (problemOf (c .before .before .args .packages .now)) (c .before .before .pre .1)
 
 key-requires : tie.Need-key-requires Inv-loop μ-loop
 key-requires c κs =
     let pre = c .before .before .before .before .before .pre in
-    (pre .0 .some (c .before .before .loop .k) (c .before .loop-test .taken), omega (arith, pre .0 .few, c .before .loop-test .taken))
+    (open-pos _ _ (pre .0 .some (c .before .before .loop .k) (c .before .loop-test .taken)), omega (arith, pre .0 .few, c .before .loop-test .taken))
 
 slice-write-keys : tie.Need-slice-write-keys Inv-loop μ-loop
 slice-write-keys c = omega (arith, c .before .before .before .before .before .before .pre .0 .few, c .before .before .loop-test .taken, c .before .before .before .loop .inv .long)

@@ -5,6 +5,7 @@ use mathlib.Core.Path.{sym, ap, _∙_}
 use native.Mathlib.Omega.{arith}
 use Prim.Native.Nat.{_-_}
 use Rattle.guard.proofs.GuardLaws.{Passed, passed-start, stray-empty, stray-item, passed-more, passed-all}
+use Rattle.statement.specs.Refusals.{stray}
 use borrow.Author.Needs.{needs}
 use Rattle.guard.proofs.clean.Statement.{statement}
 use Rattle.guard.proofs.clean.Tie as tie
@@ -19,9 +20,11 @@ loop-holds : tie.Need-loop-holds Inv-loop μ-loop
 loop-holds c = passed-start (c .before .args .m) (c .before .args .packages .now)
 
 returns : tie.Need-returns Inv-loop μ-loop
+unfolding stray
 returns c = sym (ap not (stray-empty (c .before .before .before .loop .k) (c .before .before .before .loop .inv) (c .before .before .loop-test .taken) (c .if1 .taken)))
 
 returns-2 : tie.Need-returns-2 Inv-loop μ-loop
+unfolding stray
 returns-2 c =
     let loop = c .before .before .before .before .before .loop in
     sym (ap not (stray-item (loop .k) (loop .inv) (c .before .before .before .before .loop-test .taken) (c .before .before .if1 .left) (sym (c .before .below .ensures) ∙ not-true _ (c .if2 .taken))))
@@ -32,6 +35,7 @@ loop-again c =
     passed-more (loop .k) (loop .inv) (c .before .before .before .before .loop-test .taken) (c .before .before .if1 .left) (sym (c .before .below .ensures) ∙ not-false _ (c .if2 .left))
 
 returns-3 : tie.Need-returns-3 Inv-loop μ-loop
+unfolding stray
 returns-3 c = sym (ap not (passed-all (c .before .loop .k) (c .before .loop .inv) (omega (arith, c .loop-test .left))))
 
 pub clean-spec : {M : Type 1} → statement M

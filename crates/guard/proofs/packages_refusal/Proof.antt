@@ -1,7 +1,7 @@
 use borrow.Author.Tests.{not-true, not-false}
 use mathlib.Core.Path.{sym, _∙_}
 use Rattle.statement.proofs.FirstOf.{pass, hit, none}
-use Rattle.guard.proofs.GuardLaws.{items-fit}
+use Rattle.statement.proofs.Admission.{sized-items}
 use borrow.Author.Needs.{needs}
 use Rattle.guard.proofs.packages_refusal.Statement.{statement}
 use Rattle.guard.proofs.packages_refusal.Tie as tie
@@ -10,7 +10,7 @@ returns : tie.Need-returns
 returns c = sym (hit 1 _ (sym (c .before .too-large .ensures) ∙ c .if1 .taken))
 
 clean-requires : tie.Need-clean-requires
-clean-requires c κs = items-fit (c .before .before .before .args .m) (c .before .before .before .args .packages .now) (sym (c .before .too-large .ensures) ∙ c .if1 .left)
+clean-requires c κs = sized-items _ _ (sym (c .before .too-large .ensures) ∙ c .if1 .left)
 
 returns-2 : tie.Need-returns-2
 returns-2 c = sym (pass 1 _ (sym (c .before .before .before .too-large .ensures) ∙ c .before .before .if1 .left) ∙ hit 2 _ (not-false _ (sym (c .before .clean .ensures) ∙ not-true _ (c .if2 .taken))))

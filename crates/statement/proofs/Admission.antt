@@ -1,0 +1,42 @@
+-- The tests that every call makes first. Assumes nothing.
+use mathlib.Core.Path.{_≡_, sym, _∙_}
+use mathlib.Core.Bool.{Bool, false}
+use mathlib.Core.List.{List, []}
+use Prim.Native.Nat.{ℕ, _≤_}
+use lib.Dec.{ltb}
+use lib.ListN.{length}
+use borrow.Author.Tests.{ltb-false}
+use Rattle.base.proofs.Bools.{never, is-false, or-left, or-right}
+use Rattle.exact_cover.specs.Problem.{Problem}
+use Rattle.statement.specs.Refusals.{firstOf, oversize, unsound, packageTests, tableTests, Fit}
+use Rattle.statement.proofs.FirstOf.{pass, passed, front}
+
+module _ {Q : Problem} {m : ℕ} where
+  -- the packages pass: the others decide
+  pub fit-passes : (ts : List (Bool × ℕ)) → Fit Q m → firstOf (packageTests Q m ts) ≡ firstOf ts
+  fit-passes ts f = pass 1 _ (f .sized) ∙ pass 2 _ (f .clean)
+
+  -- no refusal: they pass, and so do the others
+  pub fit-of : (ts : List (Bool × ℕ)) → firstOf (packageTests Q m ts) ≡ 0 → Fit Q m × (firstOf ts ≡ 0)
+  fit-of ts e =
+      let a = passed _ 0 _ e in
+      let b = passed _ 1 _ (a .1) in
+      (record { sized = a .0; clean = b .0 }, b .1)
+
+  pub packages-fit : Fit Q m → length (Q .packages) ≤ 512
+  unfolding oversize
+  packages-fit f =
+      ltb-false 512 (length (Q .packages))
+      (is-false (ltb 512 (length (Q .packages))) (λ e. never (or-right (ltb 64 m) (ltb 512 (length (Q .packages))) e) (f .sized)))
+
+  -- packages and table pass
+  pub table-passes : (t : List ℕ) (ts : List (Bool × ℕ)) → Fit Q m → unsound Q t ≡ false → firstOf (tableTests Q m t ts) ≡ firstOf ts
+  table-passes t ts f s = fit-passes _ f ∙ pass 4 ts s
+
+-- a refusal of the packages stands, whatever tests are behind
+pub fit-refused : (Q : Problem) (m : ℕ) (ts : List (Bool × ℕ)) {r : ℕ} → r ≡ firstOf (packageTests Q m []) → (r ≡ 0 → ⊥) → firstOf (packageTests Q m ts) ≡ r
+fit-refused Q m ts e f = front (packageTests Q m []) ts (λ z. f (e ∙ z)) ∙ sym e
+
+pub sized-items : (m : ℕ) (Q : Problem) → oversize m Q ≡ false → m ≤ 64
+unfolding oversize
+sized-items m Q h = ltb-false 64 m (is-false (ltb 64 m) (λ e. never (or-left (ltb 64 m) (ltb 512 (length (Q .packages))) e) h))
