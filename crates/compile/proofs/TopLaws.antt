@@ -2,13 +2,14 @@
 use mathlib.Core.Path.{_≡_, refl, sym, ap, _∙_, subst}
 use mathlib.Core.Bool.{Bool, true, false}
 use mathlib.Core.List.{List}
-use Prim.Native.Nat.{ℕ, zero, suc, _+_, _-_, _*_, _/_, _<_, _≤_}
+use Prim.Native.Nat.{ℕ, zero, _+_, _-_, _*_, _/_, _<_, _≤_}
 use native.Mathlib.Omega.{arith}
 use lib.Dec.{ltb}
 use lib.ListN.{length, getD, set, length-set, replicate, length-replicate}
 use borrow.Author.Tests.{lt-ltb, le-ltb}
 use Rattle.base.specs.Words.{Cleared}
 use Rattle.base.proofs.Bools.{never}
+use Rattle.base.proofs.Wiping.{zeros}
 use Rattle.zdd.specs.Table.{count, Sound}
 use Rattle.zdd.proofs.Got.{got-known, got-flag, got-made-exactly}
 use Rattle.exact_cover.specs.Problem.{Problem, row, lead, Rows}
@@ -57,11 +58,6 @@ built-all {Q} {first} {after} k r le b =
       after-long = b .after-long;
       index = subst (λ (i : ℕ). Index (leadOf Q) 1 (i + 1) first after) z (b .index);
     }
-
-pub zeros : (n h : ℕ) → getD {A = ℕ} (replicate n 0) h 0 ≡ 0
-zeros zero h = refl
-zeros (suc n) zero = refl
-zeros (suc n) (suc h) = zeros n h
 
 pub blank : (m n : ℕ) → m ≡ 65 → n ≡ 513 → NoPacks (replicate m 0) (replicate n 0)
 blank m n d e = record { first-long = length-replicate m 0 ∙ d; after-long = length-replicate n 0 ∙ e; zero = zeros m }

@@ -284,7 +284,7 @@ module _ {Q : Problem} {first after : List ℕ} (ps : Packs Q first after) (A : 
               let made : Made (keysOf Q) t′ t″ heads″ next″ (node k l h) r = subst (λ (i : ℕ). Unique t′ t″ heads″ next″ (node i l h) r) x m (keysOf Q) may in
               let g : Got (keysOf Q) (capacity t₀) (nodesOf t′) b′ r (nodesOf t″) (eqb r 0) (fork k (family (nodesOf t′) h) (family (nodesOf t′) l)) =
               subst⁻¹ (λ (c : Bool). Got (keysOf Q) (capacity t₀) (nodesOf t′) c r (nodesOf t″) (eqb r 0) (fork k (family (nodesOf t′) h) (family (nodesOf t′) l))) y
-              (made-got may made (capacity t₀) (sym (same-capacity t′ t₀ (d .grown .long ∙ u .grown .long)))) in
+              (made-got made (capacity t₀) (sym (same-capacity t′ t₀ (d .grown .long ∙ u .grown .long)))) in
               record {
                 grown = grown-trans (u .grown) (grown-trans (d .grown) (made .grown));
                 indexed = made .indexed;

@@ -13,7 +13,7 @@ use Rattle.exact_cover.specs.Problem.{Problem}
 use Rattle.exact_cover.specs.Cover.{keysOf}
 use Rattle.exact_cover.proofs.Order.{length-keys}
 use Rattle.query.specs.Questions.{unknownPackage}
-use Rattle.family.specs.Gives.{Ready, Makes as FamilyMakes}
+use Rattle.family.specs.Gives.{Operable, Produced}
 use Rattle.statement.specs.declared.Report.{Report}
 use Rattle.statement.specs.Refusals.{firstOf, unknownAnswer, full, Fit}
 use Rattle.statement.specs.declared.Call.{Call}
@@ -46,7 +46,7 @@ second-unknown t a b h = go (unknownAnswer t a) (answer-unknown t b h)
 -- ---- admitted
 
 module _ {Q : Problem} {t keys heads next : List ℕ} (g : Usable Q t keys heads next) where
-  pub ready : Ready (take (length (Q .packages)) keys) t heads next
+  pub ready : Operable (take (length (Q .packages)) keys) t heads next
   ready = rw (g .keyed .are) (record { keys = g .apart; sound = g .sound; indexed = g .indexed })
 
   pub keys-fit : length (Q .packages) ≤ length keys
@@ -79,7 +79,7 @@ part-makes Q a p words w = rw (length-keys Q) at w
 
 -- ---- what the inner function gave, and what is reported of it
 
-module _ {K t t′ heads′ next′ : List ℕ} {k : ℕ} {F : Family} (f : FamilyMakes K t t′ heads′ next′ k F) where
+module _ {K t t′ heads′ next′ : List ℕ} {k : ℕ} {F : Family} (f : Produced K t t′ heads′ next′ k F) where
   -- the table still has its word 0
   pub makes-words : 0 < length t → 0 < length t′
   makes-words h = go (eq-or-lt-of-le (f .small))
@@ -91,7 +91,7 @@ module _ {K t t′ heads′ next′ : List ℕ} {k : ℕ} {F : Family} (f : Fami
   pub makes-more : k < 65536 → count t ≤ count t′
   makes-more h = omega (arith, f .done h .made)
 
-module _ {K t t′ heads′ next′ : List ℕ} {k : ℕ} {F : Family} {r : Report} (f : FamilyMakes K t t′ heads′ next′ k F) (w : Reported t′ (count t) k r) where
+module _ {K t t′ heads′ next′ : List ℕ} {k : ℕ} {F : Family} {r : Report} (f : Produced K t t′ heads′ next′ k F) (w : Reported t′ (count t) k r) where
   reported-full : k ≡ 65536 → Makes K (firstOf ((full t F, 10) ∷ [])) F 0 t r t′
   unfolding full
   reported-full e =

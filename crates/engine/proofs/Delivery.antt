@@ -13,7 +13,7 @@ use Rattle.exact_cover.specs.Cover.{keysOf}
 use Rattle.exact_cover.proofs.Order.{length-keys}
 use Rattle.query.specs.Questions.{familyAt, nth, position, cost, cheapest, ascending, inPrecedence}
 use Rattle.query.specs.Reading.{Readable, Priceable}
-use Rattle.query.specs.Answers.{Told, Wrote, Stands, Bought}
+use Rattle.query.specs.Answers.{Told, Wrote, PlaceFound, Bought}
 use Rattle.query.specs.declared.Tally.{Tally}
 use Rattle.query.specs.declared.Tally.the-variants.{Exactly, TooMany}
 use Rattle.query.specs.declared.Written.{Written}
@@ -200,14 +200,14 @@ module _ {Q : Problem} {m : ℕ} {t keys : List ℕ} {a : ℕ} {s : List ℕ} {w
     place-words h = place-post (passed-by o _ tt ok ∙ pass 6 _ listed ∙ hit 8 _ (too-few (a + 1) words (omega arith))) (λ z. omega arith)
 
     pub place-delivers : a < words → (x : Placed) (c : Tally) (p : Spot) → placeReply x ≡ placedReply c p
-        → Told c (length (familyAt t a)) → Stands s (familyAt t a) p → PlacePost Q m t a s words x
+        → Told c (length (familyAt t a)) → PlaceFound s (familyAt t a) p → PlacePost Q m t a s words x
     unfolding placeRefusal absent
     place-delivers room x c p d e q = record { result = d ∙ go c e p q }
       where
         so-far : placeRefusal Q m t a s words ≡ firstOf ((uncountable (familyAt t a), 11) ∷ (absent (familyAt t a) s, 14) ∷ [])
         so-far = passed-by o _ tt ok ∙ pass 6 _ listed ∙ pass 8 _ (enough (a + 1) words (omega arith))
 
-        go : (c : Tally) → Told c (length (familyAt t a)) → (p : Spot) → Stands s (familyAt t a) p
+        go : (c : Tally) → Told c (length (familyAt t a)) → (p : Spot) → PlaceFound s (familyAt t a) p
             → placedReply c p ≡ reply (placeRefusal Q m t a s words) (position s (familyAt t a))
         go (Exactly n) e (At k) p =
             ap gives (p .1 (e .1)) ∙ reply-gives _ (so-far ∙ pass 11 _ (countable (familyAt t a) (e .1)) ∙ pass 14 _ (ap not (p .0)) ∙ none)

@@ -11,7 +11,7 @@ ghost use Rattle.exact_cover.specs.Cover.{keysOf, covering};
 ghost use Rattle.exact_cover.specs.Steps.{steps};
 ghost use Rattle.query.specs.Questions.{familyAt};
 ghost use Rattle.table.specs.State.{Indexed};
-ghost use Rattle.family.specs.Gives.{Ready};
+ghost use Rattle.family.specs.Gives.{Operable};
 ghost use Rattle.family.specs.Memo.{combined, restricted};
 ghost use Rattle.statement.specs.Replies.{countReply, pickReply, placeReply, cheapestReply};
 ghost use Rattle.statement.specs.Refusals.{firstOf};
@@ -323,7 +323,7 @@ fn answer_pair(
     a: u32,
     b: u32,
 ) -> Report
-    requires { ⌜ Ready (now keys) (now t) (now heads) (now next) ⌝ }
+    requires { ⌜ Operable (now keys) (now t) (now heads) (now next) ⌝ }
     ensures { λ r. ⌜ Makes (now (keys .entry)) (firstOf (pairTests (now (t .entry)) a b (combined op (now (keys .entry)) (familyAt (now (t .entry)) a) (familyAt (now (t .entry)) b)) (length (now (work .entry))))) (combined op (now (keys .entry)) (familyAt (now (t .entry)) a) (familyAt (now (t .entry)) b)) 0 (now (t .entry)) r (now (t .exit)) ⌝ }
 {
     let n = t[0];
@@ -351,7 +351,7 @@ fn answer_part(
     p: u32,
     holding: bool,
 ) -> Report
-    requires { ⌜ Ready (now keys) (now t) (now heads) (now next) ⌝ }
+    requires { ⌜ Operable (now keys) (now t) (now heads) (now next) ⌝ }
     ensures { λ r. ⌜ Makes (now (keys .entry)) (firstOf (partTests (now (keys .entry)) (now (t .entry)) a p (restricted holding (now (keys .entry)) p (familyAt (now (t .entry)) a)) words)) (restricted holding (now (keys .entry)) p (familyAt (now (t .entry)) a)) 0 (now (t .entry)) r (now (t .exit)) ⌝ }
 {
     let n = t[0];

@@ -2,7 +2,7 @@
 use mathlib.Core.Path.{_≡_, refl, sym, ap, ap₂, _∙_}
 use mathlib.Core.Bool.{Bool, true, false, not, _&&_, _||_}
 use mathlib.Core.Logic.{⊎-elim}
-use mathlib.Core.List.{List, [], _∷_, List·Memᴰ, List·Memᴰ·not-nil, List·Memᴰ·cases-cons}
+use mathlib.Core.List.{List, [], _∷_}
 use Prim.Native.Nat.{ℕ, zero, suc, _^_, _<_}
 use native.Mathlib.Nat.{le-refl, eq-or-lt-of-le, not-suc-le-zero, le-of-suc-le-suc}
 use native.Mathlib.Omega.{arith}
@@ -161,15 +161,3 @@ module _ (Q : Problem) where
       by-test (covers Q D [])
       (λ h. absurd (omega (arith, covers-one D [] h (lead Q D) (lead-lt Q D o w) (lead-holds Q D o), holders-nil (lead Q D))))
       (λ h. h)
-
-  all-member : (D : ℕ) (t : List ℕ) → allInside Q D t ≡ true → {q : ℕ} → List·Memᴰ q t → insideb (row Q q) D ≡ true
-  all-member D [] h d = absurd (List·Memᴰ·not-nil d)
-  all-member D (p ∷ t) h {q} d =
-      let a = first-inside D p t h in
-      ⊎-elim
-      (λ (e : q ≡ p). ap (λ (n : ℕ). insideb (row Q n) D) e ∙ a .0)
-      (λ (c : List·Memᴰ q t). all-member D t (a .1) c)
-      (List·Memᴰ·cases-cons d)
-
-  pub member-inside : (D : ℕ) (t : List ℕ) → covers Q D t ≡ true → {q : ℕ} → List·Memᴰ q t → insideb (row Q q) D ≡ true
-  member-inside D t h = all-member D t (covers-inside D t h)

@@ -14,15 +14,15 @@ use Rattle.exact_cover.proofs.Lead.{lead-is}
 use Rattle.exact_cover.proofs.Order.{length-keys, rank-is}
 
 -- the keys of the packages below k are there
-pub record Filled (Q : Problem) (k : ℕ) (keys : List ℕ) : Type 0 where
+pub record KeyedTo (Q : Problem) (k : ℕ) (keys : List ℕ) : Type 0 where
   pub long : length keys ≡ 512
   pub each : (j : ℕ) → j < k → j < length (Q .packages) → getD keys j 0 ≡ rank Q j
 
-pub filled-start : (Q : Problem) {keys : List ℕ} → length keys ≡ 512 → Filled Q 0 keys
-filled-start Q e = record { long = e; each = λ j l. absurd (omega arith) }
+pub keyed-start : (Q : Problem) {keys : List ℕ} → length keys ≡ 512 → KeyedTo Q 0 keys
+keyed-start Q e = record { long = e; each = λ j l. absurd (omega arith) }
 
-pub filled-more : {Q : Problem} {keys : List ℕ} (k v : ℕ) → k < 512 → v ≡ lowest (row Q k) * 512 + k → Filled Q k keys → Filled Q (k + 1) (set keys k v)
-filled-more {Q} {keys} k v h e f = record {
+pub keyed-more : {Q : Problem} {keys : List ℕ} (k v : ℕ) → k < 512 → v ≡ lowest (row Q k) * 512 + k → KeyedTo Q k keys → KeyedTo Q (k + 1) (set keys k v)
+keyed-more {Q} {keys} k v h e f = record {
   long = length-set keys k v ∙ f .long;
   each = λ j l n. at j l n (ℕ-discrete j k);
 }
@@ -31,8 +31,8 @@ filled-more {Q} {keys} k v h e f = record {
     at j l n (yes q) = rw q (getD-set-same keys k v 0 (omega (arith, f .long)) ∙ e ∙ ap (λ (i : ℕ). i * 512 + k) (sym (lead-is Q (row Q k))) ∙ sym (rank-is Q k (omega arith)))
     at j l n (no q) = getD-set-other keys k j v 0 q ∙ f .each j (omega arith) n
 
-pub filled-all : {Q : Problem} {keys : List ℕ} (k : ℕ) → Rows Q → length (Q .packages) ≤ k → Filled Q k keys → Keyed Q keys
-filled-all {Q} {keys} k r l f =
+pub keyed-all : {Q : Problem} {keys : List ℕ} (k : ℕ) → Rows Q → length (Q .packages) ≤ k → KeyedTo Q k keys → Keyed Q keys
+keyed-all {Q} {keys} k r l f =
     let n : length (take (length (Q .packages)) keys) ≡ length (Q .packages) = length-take-le (length (Q .packages)) keys (omega (arith, r .few, f .long)) in
     record {
       long = f .long;

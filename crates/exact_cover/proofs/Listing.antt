@@ -16,7 +16,8 @@ use Rattle.zdd.specs.Table.{insertBy, orderTo, order, allSets, sets, filter}
 use Rattle.exact_cover.specs.Problem.{Problem, row, lead, done, Rows}
 use Rattle.exact_cover.specs.Cover.{covers, covering, fits, down, candidates, keysOf}
 use Rattle.exact_cover.specs.Recursion.{rank, Ascends, gather}
-use Rattle.exact_cover.proofs.Lists.{filter-yes, filter-not, filter-nil, filter-append, filter-same, filter-none, filter-map}
+use Rattle.zdd.proofs.Listing.{filter-none}
+use Rattle.exact_cover.proofs.Lists.{filter-yes, filter-not, filter-nil, filter-append, filter-same, filter-map}
 use Rattle.exact_cover.proofs.Lead.{lead-holds, lead-open, part-open, part-lead}
 use Rattle.exact_cover.proofs.Covers.{covers-cons, covers-nil, nil-not}
 use Rattle.exact_cover.proofs.Order.{key-number, insert-first, insert-later, insert-nil, order-is, order-listed}

@@ -2,7 +2,7 @@
 use mathlib.Core.Path.{_≡_, refl, sym, ap, _∙_, subst, fun-ext}
 use mathlib.Core.Bool.{Bool, true, false}
 use mathlib.Core.Logic.{⊎-elim}
-use mathlib.Core.List.{List, [], _∷_, _++_, map, flatMap, append-assoc, List·Memᴰ, List·Memᴰ·head, List·Memᴰ·tail, List·Memᴰ·cases-cons, List·Memᴰ·not-nil}
+use mathlib.Core.List.{List, [], _∷_, _++_, map, List·Memᴰ, List·Memᴰ·head, List·Memᴰ·tail, List·Memᴰ·cases-cons, List·Memᴰ·not-nil}
 use Rattle.base.proofs.Bools.{by-test, clash}
 use Rattle.zdd.specs.Table.{filter}
 
@@ -49,11 +49,6 @@ module _ {A : Type 0} (f : A → Bool) where
 pub filter-same : {A : Type 0} (f g : A → Bool) (l : List A) → ((a : A) → f a ≡ g a) → filter f l ≡ filter g l
 filter-same {A} f g l h = ap (λ (t : A → Bool). filter t l) (fun-ext h)
 
-pub filter-none : {A : Type 0} (l : List A) → filter (λ (a : A). false) l ≡ []
-unfolding filter
-filter-none [] = refl
-filter-none (a ∷ l) = filter-none l
-
 pub filter-map : {A : Type 0} {B : Type 0} (g : A → B) (f : B → Bool) (l : List A) → filter f (map g l) ≡ map g (filter (λ (a : A). f (g a)) l)
 unfolding filter
 filter-map g f [] = refl
@@ -61,9 +56,3 @@ filter-map {A} {B} g f (a ∷ l) =
     by-test (f (g a))
     (λ t. rw t (ap (λ (x : List B). g a ∷ x) (filter-map g f l)))
     (λ t. rw t (filter-map g f l))
-
-pub flat-append {ℓ κ} : {A : Type ℓ} {B : Type κ} (f : A → List B) (l r : List A) → flatMap f (l ++ r) ≡ flatMap f l ++ flatMap f r
-unfolding flatMap
-flat-append f [] r = refl
-flat-append {B} f (a ∷ l) r =
-    ap (λ (x : List B). f a ++ x) (flat-append f l r) ∙ sym (append-assoc (f a) (flatMap f l) (flatMap f r))

@@ -1,22 +1,19 @@
 -- The trial of A takes the packages from the highest number down and puts its answer together: after the numbers from n on it has the covers of A
--- whose first package is n or above. THEOREM: these are under the covers of A, and so are the covers of what a candidate leaves: no node that the
--- trial makes is wasted. Assumes nothing.
+-- whose first package is n or above, and each step is a split. Assumes nothing.
 use mathlib.Core.Path.{_≡_, refl, sym, ap, _∙_, subst}
 use mathlib.Core.Bool.{true, false}
 use mathlib.Core.Logic.{_⊎_, inl, inr}
-use mathlib.Core.List.{List, [], _∷_, map, List·Memᴰ, List·Memᴰ·head, List·Memᴰ·tail}
-use Prim.Native.Nat.{ℕ, zero, suc, _+_, _-_, _^_, _≤_, _<_}
+use mathlib.Core.List.{List, [], _∷_, map}
+use Prim.Native.Nat.{ℕ, zero, suc, _+_, _^_, _≤_, _<_}
 use native.Mathlib.Nat.{lt-of-not-le, le-refl}
 use native.Mathlib.Omega.{arith}
 use lib.ListN.{length}
 use Rattle.itemset.specs.Items.{insideb, without}
-use Rattle.base.proofs.Bools.{by-test, and-left, never, or-cases}
+use Rattle.base.proofs.Bools.{and-left, never}
 use Rattle.itemset.proofs.Laws.{without-lt}
-use Rattle.zdd.specs.Table.{Family, fork, key, filter, elem, eqSet}
-use Rattle.zdd.specs.Work.{From, Under, Split}
-use Rattle.zdd.proofs.Member.{from-of, fork-cases, eqSet-eq}
-use Rattle.zdd.proofs.Under.{under-trans, under-eq}
-use Rattle.zdd.proofs.Split.{split-hi, split-lo}
+use Rattle.zdd.specs.Table.{Family, fork, key, filter, elem}
+use Rattle.zdd.specs.Work.{From, Split}
+use Rattle.zdd.proofs.Member.{elem-in, from-of, fork-cases}
 use Rattle.exact_cover.specs.Problem.{Problem, row, done, Rows}
 use Rattle.exact_cover.specs.Cover.{covers, covering, fits, down, candidates, keysOf}
 use Rattle.exact_cover.specs.Recursion.{gather}
@@ -39,15 +36,6 @@ begun Q A p = map (λ (t : List ℕ). p ∷ t) (left Q A p)
 pub record Partial (Q : Problem) (A n : ℕ) (acc : Family) : Type 0 where
   pub rest : gather (begun Q A) (filter (fits Q A) (down n)) acc ≡ covering Q A
   pub begins : (q : ℕ) (t : List ℕ) → elem (q ∷ t) acc ≡ true → (n ≤ q) × (q < length (Q .packages)) × (fits Q A q ≡ true)
-
-elem-in : (t : List ℕ) (F : Family) → elem t F ≡ true → List·Memᴰ t F
-unfolding elem
-elem-in t [] e = absurd (never e refl)
-elem-in t (u ∷ F) e = go (or-cases (eqSet t u) (elem t F) e) (elem-in t F)
-  where
-    go : (eqSet t u ≡ true) ⊎ (elem t F ≡ true) → (elem t F ≡ true → List·Memᴰ t F) → List·Memᴰ t (u ∷ F)
-    go (inl x) f = List·Memᴰ·head (eqSet-eq t u x)
-    go (inr x) f = List·Memᴰ·tail (f x)
 
 elem-nil : (t : List ℕ) → elem t [] ≡ false
 unfolding elem
@@ -115,32 +103,5 @@ module _ (Q : Problem) (good : Rows Q) (A : ℕ) (w : A < 2 ^ 64) (o : done Q A 
       → Split (keysOf Q) (fork n (left Q A n) acc) n (left Q A n) acc
   partial-split n acc l e p = record { is = refl; hi-from = left-from n l e; lo-from = partial-from n acc l e p }
 
-  -- what it leaves has no cover: the trial has what it had
-  pub partial-empty : (n : ℕ) (acc : Family) → n < length (Q .packages) → fits Q A n ≡ true → left Q A n ≡ [] → Partial Q A (suc n) acc → Partial Q A n acc
-  partial-empty n acc l e z p = subst (λ (F : Family). Partial Q A n (fork n F acc)) z (partial-take n acc l e p)
-
   pub partial-end : (acc : Family) → Partial Q A 0 acc → acc ≡ covering Q A
   partial-end acc p = sym (nothing-left Q A acc) ∙ p .rest
-
-  -- ---- THEOREM: what the trial has is under the covers of A
-  pub partial-under : (n : ℕ) (acc : Family) → n ≤ length (Q .packages) → Partial Q A n acc → Under acc (covering Q A)
-  partial-under zero acc h p = under-eq (partial-end acc p)
-  partial-under (suc n) acc h p =
-      by-test (fits Q A n)
-      (λ y. under-trans (split-lo (partial-split n acc h y p)) (partial-under n (fork n (left Q A n) acc) (omega arith) (partial-take n acc h y p)))
-      (λ y. partial-under n acc (omega arith) (partial-pass n acc y p))
-
-  -- what the trial has after the numbers from n on
-  pub partial-at : (d n : ℕ) → length (Q .packages) ≡ d + n → (acc : Family) × Partial Q A n acc
-  partial-at zero n e = let z : length (Q .packages) ≡ n = omega arith in ([], subst (λ (k : ℕ). Partial Q A k []) z partial-start)
-  partial-at (suc d) n e =
-      let r = partial-at d (suc n) (omega arith) in
-      by-test (fits Q A n)
-      (λ y. (fork n (left Q A n) (r .0), partial-take n (r .0) (omega arith) y (r .1)))
-      (λ y. (r .0, partial-pass n (r .0) y (r .1)))
-
-  -- THEOREM: the covers of what a candidate leaves are under the covers of A
-  pub left-under : (p : ℕ) → p < length (Q .packages) → fits Q A p ≡ true → Under (left Q A p) (covering Q A)
-  left-under p l f =
-      let r = partial-at (length (Q .packages) - suc p) (suc p) (omega arith) in
-      under-trans (split-hi (partial-split p (r .0) l f (r .1))) (partial-under p (fork p (left Q A p) (r .0)) (omega arith) (partial-take p (r .0) l f (r .1)))

@@ -8,12 +8,11 @@ use native.Mathlib.Omega.{arith}
 use lib.ListN.{length}
 use Rattle.zdd.specs.Table.{Node, Family, fork, family, Nodes}
 use Rattle.zdd.proofs.Grow.{family-zero}
-use Rattle.zdd.specs.Work.{Worked, Got}
-use Rattle.zdd.proofs.Room.{worked-under}
+use Rattle.zdd.specs.Work.{Got}
 use Rattle.zdd.proofs.Got.{got-eq, got-there, got-split-lo, got-none-lo}
 use Rattle.exact_cover.specs.Problem.{Problem, done, Rows}
 use Rattle.exact_cover.specs.Cover.{covering, fits, keysOf}
-use Rattle.exact_cover.proofs.Partial.{Partial, left, partial-start, partial-skip, partial-take, partial-split, partial-end, partial-under}
+use Rattle.exact_cover.proofs.Partial.{Partial, left, partial-start, partial-skip, partial-take, partial-split, partial-end}
 
 pub record Trial (Q : Problem) (A c : ℕ) (ns : List Node) (b : Bool) (n l : ℕ) (ns′ : List Node) (b′ : Bool) : Type 0 where
   pub acc : Family
@@ -52,7 +51,3 @@ module _ (Q : Problem) (good : Rows Q) (A : ℕ) (w : A < 2 ^ 64) (o : done Q A 
 
   pub trial-end : (l : ℕ) {ns′ : List Node} {b′ : Bool} → Trial Q A c ns b 0 l ns′ b′ → Got (keysOf Q) c ns b l ns′ b′ (covering Q A)
   trial-end l t = got-eq (partial-end Q good A w o (t .acc) (t .part)) (t .got)
-
-  -- at any time (the step limit): what was made was made for the covers of A
-  pub trial-leave : (n l : ℕ) {ns′ : List Node} {b′ : Bool} → n ≤ length (Q .packages) → Trial Q A c ns b n l ns′ b′ → Worked c ns b ns′ b′ (covering Q A)
-  trial-leave n l h t = worked-under (t .got .work) (partial-under Q good A w o n (t .acc) h (t .part))

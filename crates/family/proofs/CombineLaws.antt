@@ -1,10 +1,9 @@
 -- Union, intersection and difference: the end cases, the parts of two numbers, the recursion, and what is remembered. Assumes nothing.
 use mathlib.Core.Path.{_≡_, refl, sym, ap, ap₂, subst, subst⁻¹, _∙_}
-use mathlib.Core.Logic.{_⊎_, inl, inr}
-use mathlib.Core.Bool.{Bool, true, false, _&&_, _||_}
+use mathlib.Core.Logic.{inl, inr}
+use mathlib.Core.Bool.{Bool, false, and-comm, or-comm}
 use mathlib.Core.List.{List, []}
 use Prim.Native.Nat.{ℕ, zero, suc, _+_, _-_, _*_, _/_, _%_, _<_, _≤_}
-use native.Mathlib.Nat.{eq-or-lt-of-le}
 use native.Mathlib.Omega.{arith}
 use native.Mathlib.Decide.{decLt, ℕ-discrete}
 use lib.ListN.{length, getD, set, length-set}
@@ -18,10 +17,10 @@ use Rattle.zdd.specs.Work.{Split}
 use Rattle.zdd.specs.Operations.{combine}
 use Rattle.zdd.proofs.Operations.{union-nil, nil-union, union-self, inter-nil, nil-inter, inter-self, differ-nil, nil-differ, differ-self}
 use Rattle.zdd.proofs.Parts.{split-same, split-left, split-right}
-use Rattle.family.specs.Gives.{Ready, Gives, Noded, Answers}
-use Rattle.family.specs.Memo.{opOf, combined, Ordered, Packed, Stored, Two, Pair, Ended, Ends, Top, Cut}
+use Rattle.family.specs.Gives.{Operable, Gives, Noded, Answers}
+use Rattle.family.specs.Memo.{opOf, combined, Ordered, Packed, Remembered, Two, Pair, Ended, Ends, Top, Cut}
 use Rattle.family.proofs.GivesLaws.{gives-there, gives-answers, gives-keeps, gives-more, gives-eq, step-none-hi, step-none-lo, step-child, step-node}
-use Rattle.family.proofs.RestrictLaws.{word-node, word-label, word-fine}
+use Rattle.family.proofs.RestrictLaws.{two-more, word-node, word-label, word-fine}
 
 pub off : (op : ℕ) → opOf op false false ≡ false
 off zero = refl
@@ -30,21 +29,9 @@ off (suc (suc n)) = refl
 
 -- ---- the order of the two
 
-or-turns : (a b : Bool) → (a || b) ≡ (b || a)
-or-turns true true = refl
-or-turns true false = refl
-or-turns false true = refl
-or-turns false false = refl
-
-and-turns : (a b : Bool) → (a && b) ≡ (b && a)
-and-turns true true = refl
-and-turns true false = refl
-and-turns false true = refl
-and-turns false false = refl
-
 op-turns : (op : ℕ) → op < 2 → (a b : Bool) → opOf op a b ≡ opOf op b a
-op-turns zero h = or-turns
-op-turns (suc zero) h = and-turns
+op-turns zero h = or-comm
+op-turns (suc zero) h = and-comm
 op-turns (suc (suc n)) h = absurd (omega arith)
 
 turned : (op : ℕ) → op < 2 → (K : List ℕ) (F G : Family) → combined op K F G ≡ combined op K G F
@@ -190,13 +177,25 @@ module _ {K : List ℕ} {ns : List Node} where
 pub top-end : (K : List ℕ) (ns : List Node) (f : ℕ) → f < 2 → Top K ns f 4294967296
 top-end K ns f h = record { end = λ z. refl; key-of = λ z. absurd (omega arith) }
 
-pub top-of : {K t : List ℕ} → Sound K t → (f a : ℕ) → 2 ≤ f → f < count t + 2 → a ≡ 3 * f - 5 → (r : ℕ) → r ≡ getD K (getD t a 0) 0 → r < 4294967296 → Top K (nodesOf t) f r
+pub top-of : {K t : List ℕ} → Sound K t → (f a : ℕ) → 2 ≤ f → f < count t + 2 → a ≡ 3 * f - 5
+    → (r : ℕ) → r ≡ getD K (getD t a 0) 0 → r < 4294967296 → Top K (nodesOf t) f r
 top-of {K} {t} s f a l w e r q z = record {
   end = λ h. absurd (omega arith);
   key-of = λ h. (q ∙ ap (λ (x : ℕ). getD K x 0) (sym (word-label s f a l w e)), z);
 }
 
 module _ {K t : List ℕ} (s : Sound K t) (k : Keys K) (f g : ℕ) (wf : f < count t + 2) (wg : g < count t + 2) {a b : ℕ} (ta : Top K (nodesOf t) f a) (tb : Top K (nodesOf t) g b) where
+  abbrev at : ℕ → Family
+  at j = family (nodesOf t) j
+
+  -- the node of a number
+  abbrev nodeOf : ℕ → Node
+  nodeOf j = getD (nodesOf t) (j - 2) blank
+
+  -- the combination of x and y is split by p
+  abbrev Splits : (Bool → Bool → Bool) → ℕ → ℕ → ℕ → Family → Family → Family → Family → Type 0
+  Splits op x y p F1 G1 F0 G0 = Split K (combine op K (at x) (at y)) p (combine op K F1 G1) (combine op K F0 G0)
+
   lenf : f < suc (suc (length (nodesOf t)))
   lenf = omega (arith, length-nodes t)
 
@@ -223,18 +222,12 @@ module _ {K t : List ℕ} (s : Sound K t) (k : Keys K) (f g : ℕ) (wf : f < cou
         falls1 = omega (arith, x .hi-below);
         falls0 = omega (arith, x .lo-below);
         split = λ op o.
-            subst (λ (y : Node). Split K (combine op K (family (nodesOf t) f) (family (nodesOf t) g)) (y .label) (combine op K (family (nodesOf t) (y .hi)) (family (nodesOf t) 0)) (combine op K (family (nodesOf t) (y .lo)) (family (nodesOf t) g)))
-            (word-node s f v l wf e)
-            (subst⁻¹ (λ (F : Family). Split K (combine op K (family (nodesOf t) f) (family (nodesOf t) g)) (getD (nodesOf t) (f - 2) blank .label) (combine op K (family (nodesOf t) (getD (nodesOf t) (f - 2) blank .hi)) F) (combine op K (family (nodesOf t) (getD (nodesOf t) (f - 2) blank .lo)) (family (nodesOf t) g)))
-            (family-zero (nodesOf t))
-            (subst (λ (j : ℕ). Split K (combine op K (family (nodesOf t) j) (family (nodesOf t) g)) (getD (nodesOf t) (f - 2) blank .label) (combine op K (family (nodesOf t) (getD (nodesOf t) (f - 2) blank .hi)) []) (combine op K (family (nodesOf t) (getD (nodesOf t) (f - 2) blank .lo)) (family (nodesOf t) g)))
-            (two-more f l)
+            subst (λ (y : Node). Splits op f g (y .label) (at (y .hi)) (at 0) (at (y .lo)) (at g)) (word-node s f v l wf e)
+            (subst⁻¹ (λ (F : Family). Splits op f g (nodeOf f .label) (at (nodeOf f .hi)) F (at (nodeOf f .lo)) (at g)) (family-zero (nodesOf t))
+            (subst (λ (j : ℕ). Splits op j g (nodeOf f .label) (at (nodeOf f .hi)) [] (at (nodeOf f .lo)) (at g)) (two-more f l)
             (split-left k (s .nodes) op o (f - 2) g (omega (arith, lenf)) leng
-            (over-of-key K (nodesOf t) (suc (key K (getD (nodesOf t) (f - 2) blank .label))) g (λ z. omega (arith, ta .key-of l .0, tb .key-of z .0))))));
+            (over-of-key K (nodesOf t) (suc (key K (nodeOf f .label))) g (λ z. omega (arith, ta .key-of l .0, tb .key-of z .0))))));
       }
-    where
-      two-more : (j : ℕ) → 2 ≤ j → suc (suc (j - 2)) ≡ j
-      two-more j l = omega arith
 
   -- g's is
   pub cut-right : (w : ℕ) → w ≡ 3 * g - 5 → b < a → Cut K (nodesOf t) f g (getD t w 0) 0 (getD t (w + 2) 0) f (getD t (w + 1) 0)
@@ -250,18 +243,12 @@ module _ {K t : List ℕ} (s : Sound K t) (k : Keys K) (f g : ℕ) (wf : f < cou
         falls1 = omega (arith, x .hi-below);
         falls0 = omega (arith, x .lo-below);
         split = λ op o.
-            subst (λ (y : Node). Split K (combine op K (family (nodesOf t) f) (family (nodesOf t) g)) (y .label) (combine op K (family (nodesOf t) 0) (family (nodesOf t) (y .hi))) (combine op K (family (nodesOf t) f) (family (nodesOf t) (y .lo))))
-            (word-node s g w l wg e)
-            (subst⁻¹ (λ (F : Family). Split K (combine op K (family (nodesOf t) f) (family (nodesOf t) g)) (getD (nodesOf t) (g - 2) blank .label) (combine op K F (family (nodesOf t) (getD (nodesOf t) (g - 2) blank .hi))) (combine op K (family (nodesOf t) f) (family (nodesOf t) (getD (nodesOf t) (g - 2) blank .lo))))
-            (family-zero (nodesOf t))
-            (subst (λ (j : ℕ). Split K (combine op K (family (nodesOf t) f) (family (nodesOf t) j)) (getD (nodesOf t) (g - 2) blank .label) (combine op K [] (family (nodesOf t) (getD (nodesOf t) (g - 2) blank .hi))) (combine op K (family (nodesOf t) f) (family (nodesOf t) (getD (nodesOf t) (g - 2) blank .lo))))
-            (two-more g l)
+            subst (λ (y : Node). Splits op f g (y .label) (at 0) (at (y .hi)) (at f) (at (y .lo))) (word-node s g w l wg e)
+            (subst⁻¹ (λ (F : Family). Splits op f g (nodeOf g .label) F (at (nodeOf g .hi)) (at f) (at (nodeOf g .lo))) (family-zero (nodesOf t))
+            (subst (λ (j : ℕ). Splits op f j (nodeOf g .label) [] (at (nodeOf g .hi)) (at f) (at (nodeOf g .lo))) (two-more g l)
             (split-right k (s .nodes) op o f (g - 2) lenf (omega (arith, leng))
-            (over-of-key K (nodesOf t) (suc (key K (getD (nodesOf t) (g - 2) blank .label))) f (λ z. omega (arith, tb .key-of l .0, ta .key-of z .0))))));
+            (over-of-key K (nodesOf t) (suc (key K (nodeOf g .label))) f (λ z. omega (arith, tb .key-of l .0, ta .key-of z .0))))));
       }
-    where
-      two-more : (j : ℕ) → 2 ≤ j → suc (suc (j - 2)) ≡ j
-      two-more j l = omega arith
 
   -- they have one label
   pub same-left : Two f g → a ≡ b → 2 ≤ f
@@ -293,30 +280,23 @@ module _ {K t : List ℕ} (s : Sound K t) (k : Keys K) (f g : ℕ) (wf : f < cou
         falls1 = omega (arith, x .hi-below, y .hi-below);
         falls0 = omega (arith, x .lo-below, y .lo-below);
         split = λ op o.
-            subst (λ (z : Node). Split K (combine op K (family (nodesOf t) f) (family (nodesOf t) g)) (z .label) (combine op K (family (nodesOf t) (z .hi)) (family (nodesOf t) (getD t (w + 2) 0))) (combine op K (family (nodesOf t) (z .lo)) (family (nodesOf t) (getD t (w + 1) 0))))
-            (word-node s f v lf wf ev)
-            (subst (λ (z : Node). Split K (combine op K (family (nodesOf t) f) (family (nodesOf t) g)) (getD (nodesOf t) (f - 2) blank .label) (combine op K (family (nodesOf t) (getD (nodesOf t) (f - 2) blank .hi)) (family (nodesOf t) (z .hi))) (combine op K (family (nodesOf t) (getD (nodesOf t) (f - 2) blank .lo)) (family (nodesOf t) (z .lo))))
-            (word-node s g w lg wg ew)
-            (subst (λ (m : ℕ). Split K (combine op K (family (nodesOf t) f) (family (nodesOf t) m)) (getD (nodesOf t) (f - 2) blank .label) (combine op K (family (nodesOf t) (getD (nodesOf t) (f - 2) blank .hi)) (family (nodesOf t) (getD (nodesOf t) (g - 2) blank .hi))) (combine op K (family (nodesOf t) (getD (nodesOf t) (f - 2) blank .lo)) (family (nodesOf t) (getD (nodesOf t) (g - 2) blank .lo))))
-            (two-more g lg)
-            (subst (λ (m : ℕ). Split K (combine op K (family (nodesOf t) m) (family (nodesOf t) (suc (suc (g - 2))))) (getD (nodesOf t) (f - 2) blank .label) (combine op K (family (nodesOf t) (getD (nodesOf t) (f - 2) blank .hi)) (family (nodesOf t) (getD (nodesOf t) (g - 2) blank .hi))) (combine op K (family (nodesOf t) (getD (nodesOf t) (f - 2) blank .lo)) (family (nodesOf t) (getD (nodesOf t) (g - 2) blank .lo))))
-            (two-more f lf)
+            subst (λ (z : Node). Splits op f g (z .label) (at (z .hi)) (at (getD t (w + 2) 0)) (at (z .lo)) (at (getD t (w + 1) 0))) (word-node s f v lf wf ev)
+            (subst (λ (z : Node). Splits op f g (nodeOf f .label) (at (nodeOf f .hi)) (at (z .hi)) (at (nodeOf f .lo)) (at (z .lo))) (word-node s g w lg wg ew)
+            (subst (λ (m : ℕ). Splits op f m (nodeOf f .label) (at (nodeOf f .hi)) (at (nodeOf g .hi)) (at (nodeOf f .lo)) (at (nodeOf g .lo))) (two-more g lg)
+            (subst (λ (m : ℕ). Splits op m (suc (suc (g - 2))) (nodeOf f .label) (at (nodeOf f .hi)) (at (nodeOf g .hi)) (at (nodeOf f .lo)) (at (nodeOf g .lo))) (two-more f lf)
             (split-same k (s .nodes) op o (f - 2) (g - 2) i j
-            (k .apart (getD (nodesOf t) (f - 2) blank .label) (getD (nodesOf t) (g - 2) blank .label) (s .nodes .each (f - 2) i .label-known) (s .nodes .each (g - 2) j .label-known)
+            (k .apart (nodeOf f .label) (nodeOf g .label) (s .nodes .each (f - 2) i .label-known) (s .nodes .each (g - 2) j .label-known)
             (sym (ta .key-of lf .0) ∙ e ∙ tb .key-of lg .0))))));
       }
-    where
-      two-more : (j : ℕ) → 2 ≤ j → suc (suc (j - 2)) ≡ j
-      two-more j l = omega arith
 
 -- ---- what is remembered
 
-pub stored-fresh : (op : ℕ) (K : List ℕ) (ns : List Node) (memo : List ℕ) → 0 < length memo → ((i : ℕ) → getD memo i 0 ≡ 0) → Stored op K ns memo
-stored-fresh op K ns memo l z = record { some = l; each = λ i f g e h w. absurd (omega (arith, z i)) }
+pub remembered-fresh : (op : ℕ) (K : List ℕ) (ns : List Node) (memo : List ℕ) → 0 < length memo → ((i : ℕ) → getD memo i 0 ≡ 0) → Remembered op K ns memo
+remembered-fresh op K ns memo l z = record { some = l; each = λ i f g e h w. absurd (omega (arith, z i)) }
 
-pub stored-grown : {op : ℕ} {K t t′ heads′ next′ memo : List ℕ} {r : ℕ} {F : Family} → Gives K t t′ heads′ next′ r F → r < 65536
-    → Stored op K (nodesOf t) memo → Stored op K (nodesOf t′) memo
-stored-grown {op} {K} {t} {t′} {heads′} {next′} {memo} g h m = record {
+pub remembered-grown : {op : ℕ} {K t t′ heads′ next′ memo : List ℕ} {r : ℕ} {F : Family} → Gives K t t′ heads′ next′ r F → r < 65536
+    → Remembered op K (nodesOf t) memo → Remembered op K (nodesOf t′) memo
+remembered-grown {op} {K} {t} {t′} {heads′} {next′} {memo} g h m = record {
   some = m .some;
   each = λ i x y e z w.
       let a = m .each i x y e z w in (
@@ -333,10 +313,10 @@ stored-grown {op} {K} {t} {t′} {heads′} {next′} {memo} g h m = record {
       );
 }
 
-pub stored-stored : {op : ℕ} {K memo : List ℕ} {ns : List Node} (at f g r v : ℕ) → at < length memo → v ≡ (f * 65536 + g) * 65536 + r → r < 65536 → g < 65536
+pub remembered-stored : {op : ℕ} {K memo : List ℕ} {ns : List Node} (at f g r v : ℕ) → at < length memo → v ≡ (f * 65536 + g) * 65536 + r → r < 65536 → g < 65536
     → f < suc (suc (length ns)) → g < suc (suc (length ns))
-    → Answers ns r (combined op K (family ns f) (family ns g)) → Stored op K ns memo → Stored op K ns (set memo at v)
-stored-stored {op} {K} {memo} {ns} at f g r v la ev lr lg wf wg a m = record {
+    → Answers ns r (combined op K (family ns f) (family ns g)) → Remembered op K ns memo → Remembered op K ns (set memo at v)
+remembered-stored {op} {K} {memo} {ns} at f g r v la ev lr lg wf wg a m = record {
   some = omega (arith, length-set memo at v);
   each = λ i x y e z w. each i (ℕ-discrete i at) x y e z w;
 }
@@ -370,7 +350,11 @@ stored-stored {op} {K} {memo} {ns} at f g r v la ev lr lg wf wg a m = record {
 
 -- ---- the recursion
 
-pub pair-of : {K t heads next : List ℕ} {f g : ℕ} → Ready K t heads next → (f < count t + 2) × (g < count t + 2) → Pair K (nodesOf t) f g
+-- the combination of the numbers f and g of t
+abbrev pub joint : ℕ → List ℕ → List ℕ → ℕ → ℕ → Family
+joint op K t f g = combined op K (family (nodesOf t) f) (family (nodesOf t) g)
+
+pub pair-of : {K t heads next : List ℕ} {f g : ℕ} → Operable K t heads next → (f < count t + 2) × (g < count t + 2) → Pair K (nodesOf t) f g
 pair-of {K} {t} y w = record {
   keys = y .keys;
   nodes = y .sound .nodes;
@@ -379,68 +363,63 @@ pair-of {K} {t} y w = record {
   right = omega (arith, w .1, length-nodes t);
 }
 
-pub ended-gives : {op : ℕ} {K t heads next memo : List ℕ} {f g r : ℕ} → Ready K t heads next → Stored op K (nodesOf t) memo → (f < count t + 2) × (g < count t + 2) → Ends op memo f g r → (r ≡ 65537 → ⊥)
-    → Gives K t t heads next r (combined op K (family (nodesOf t) f) (family (nodesOf t) g)) × (r < 65536 → Stored op K (nodesOf t) memo)
+pub ended-gives : {op : ℕ} {K t heads next memo : List ℕ} {f g r : ℕ} → Operable K t heads next → Remembered op K (nodesOf t) memo → (f < count t + 2) × (g < count t + 2)
+    → Ends op memo f g r → (r ≡ 65537 → ⊥)
+    → Gives K t t heads next r (joint op K t f g) × (r < 65536 → Remembered op K (nodesOf t) memo)
 ended-gives {op} {K} {t} {heads} {next} {memo} {f} {g} {r} y m w s d =
     let x = s K (nodesOf t) (pair-of y w) m in
-    let z : r < 65537 = lt (eq-or-lt-of-le (x .small)) in
+    let z : r < 65537 = omega (arith, x .small) in
     (gives-there (y .sound) (y .indexed) (x .answer z .0) (x .answer z .1), λ h. m)
-  where
-    lt : (r ≡ 65537) ⊎ (r < 65537) → r < 65537
-    lt (inl e) = absurd (d e)
-    lt (inr h) = h
 
-pub ends-two : {op : ℕ} {K t heads next memo : List ℕ} {f g r : ℕ} → Ready K t heads next → Stored op K (nodesOf t) memo → (f < count t + 2) × (g < count t + 2) → Ends op memo f g r → r ≡ 65537 → Two f g
+pub ends-two : {op : ℕ} {K t heads next memo : List ℕ} {f g r : ℕ} → Operable K t heads next → Remembered op K (nodesOf t) memo → (f < count t + 2) × (g < count t + 2)
+    → Ends op memo f g r → r ≡ 65537 → Two f g
 ends-two {op} {K} {t} y m w s e = s K (nodesOf t) (pair-of y w) m .two e
 
-pub hi-known : {K t heads next : List ℕ} {f g p f1 g1 f0 g0 : ℕ} → Ready K t heads next → Cut K (nodesOf t) f g p f1 g1 f0 g0 → (f1 < count t + 2) × (g1 < count t + 2)
+pub hi-known : {K t heads next : List ℕ} {f g p f1 g1 f0 g0 : ℕ} → Operable K t heads next → Cut K (nodesOf t) f g p f1 g1 f0 g0 → (f1 < count t + 2) × (g1 < count t + 2)
 hi-known {K} {t} y c = (omega (arith, c .f1-known, length-nodes t), omega (arith, c .g1-known, length-nodes t))
 
-module _ (op : ℕ) {K t heads next : List ℕ} {f g : ℕ} (y : Ready K t heads next) (w : (f < count t + 2) × (g < count t + 2)) {p f1 g1 f0 g0 : ℕ} (c : Cut K (nodesOf t) f g p f1 g1 f0 g0)
-    {t1 heads1 next1 : List ℕ} {h : ℕ} (q1 : Gives K t t1 heads1 next1 h (combined op K (family (nodesOf t) f1) (family (nodesOf t) g1))) where
-  split-o : Split K (combined op K (family (nodesOf t) f) (family (nodesOf t) g)) p (combined op K (family (nodesOf t) f1) (family (nodesOf t) g1)) (combined op K (family (nodesOf t) f0) (family (nodesOf t) g0))
+module _ (op : ℕ) {K t heads next : List ℕ} {f g : ℕ} (y : Operable K t heads next) (w : (f < count t + 2) × (g < count t + 2)) {p f1 g1 f0 g0 : ℕ} (c : Cut K (nodesOf t) f g p f1 g1 f0 g0)
+    {t1 heads1 next1 : List ℕ} {h : ℕ} (q1 : Gives K t t1 heads1 next1 h (joint op K t f1 g1)) where
+  split-o : Split K (joint op K t f g) p (joint op K t f1 g1) (joint op K t f0 g0)
   split-o = c .split (opOf op) (off op)
 
-  pub hi-none : {memo1 : List ℕ} → h ≡ 65536 → Gives K t t1 heads1 next1 65536 (combined op K (family (nodesOf t) f) (family (nodesOf t) g)) × (65536 < 65536 → Stored op K (nodesOf t1) memo1)
+  pub hi-none : {memo1 : List ℕ} → h ≡ 65536 → Gives K t t1 heads1 next1 65536 (joint op K t f g) × (65536 < 65536 → Remembered op K (nodesOf t1) memo1)
   hi-none e = (step-none-hi split-o q1 e, λ z. absurd (omega arith))
 
-  pub hi-ready : Ready K t1 heads1 next1
+  pub hi-ready : Operable K t1 heads1 next1
   hi-ready = record { keys = y .keys; sound = q1 .sound; indexed = q1 .indexed }
 
   module _ (w1 : h < 65536) where
     pub lo-known : (f0 < count t1 + 2) × (g0 < count t1 + 2)
     lo-known = (omega (arith, c .f0-known, gives-more q1 w1, length-nodes t1), omega (arith, c .g0-known, gives-more q1 w1, length-nodes t1))
 
-    module _ {t0 heads0 next0 : List ℕ} {l : ℕ} (q0 : Gives K t1 t0 heads0 next0 l (combined op K (family (nodesOf t1) f0) (family (nodesOf t1) g0))) where
-      p0 : Gives K t1 t0 heads0 next0 l (combined op K (family (nodesOf t) f0) (family (nodesOf t) g0))
+    module _ {t0 heads0 next0 : List ℕ} {l : ℕ} (q0 : Gives K t1 t0 heads0 next0 l (joint op K t1 f0 g0)) where
+      p0 : Gives K t1 t0 heads0 next0 l (joint op K t f0 g0)
       p0 = gives-eq (ap₂ (combined op K) (gives-keeps q1 w1 f0 (c .f0-known)) (gives-keeps q1 w1 g0 (c .g0-known))) q0
 
-      pub lo-none : {memo0 : List ℕ} → l ≡ 65536 → Gives K t t0 heads0 next0 65536 (combined op K (family (nodesOf t) f) (family (nodesOf t) g)) × (65536 < 65536 → Stored op K (nodesOf t0) memo0)
+      pub lo-none : {memo0 : List ℕ} → l ≡ 65536 → Gives K t t0 heads0 next0 65536 (joint op K t f g) × (65536 < 65536 → Remembered op K (nodesOf t0) memo0)
       lo-none e = (step-none-lo split-o q1 w1 p0 e, λ z. absurd (omega arith))
 
       module _ (w0 : l < 65536) {t′ heads′ next′ : List ℕ} {r : ℕ} (n : Noded t0 t′ heads′ next′ p l h r) where
-        whole : Gives K t t′ heads′ next′ r (combined op K (family (nodesOf t) f) (family (nodesOf t) g))
+        whole : Gives K t t′ heads′ next′ r (joint op K t f g)
         whole = step-node split-o q1 w1 p0 (c .label-known) w0 n
 
-        pub last-small : r ≤ 65536
-        last-small = whole .small
+        pub last-none : {memo0 : List ℕ} → r ≡ 65536 → Gives K t t′ heads′ next′ 65536 (joint op K t f g) × (65536 < 65536 → Remembered op K (nodesOf t′) memo0)
+        last-none e = (subst (λ (x : ℕ). Gives K t t′ heads′ next′ x (joint op K t f g)) e whole, λ z. absurd (omega arith))
 
-        pub last-none : {memo0 : List ℕ} → r ≡ 65536 → Gives K t t′ heads′ next′ 65536 (combined op K (family (nodesOf t) f) (family (nodesOf t) g)) × (65536 < 65536 → Stored op K (nodesOf t′) memo0)
-        last-none e = (subst (λ (x : ℕ). Gives K t t′ heads′ next′ x (combined op K (family (nodesOf t) f) (family (nodesOf t) g))) e whole, λ z. absurd (omega arith))
-
-        pub last-stored : {memo0 : List ℕ} (at v : ℕ) {k : ℕ} (e : Packed op f g k) → at < length memo0 → v ≡ k * 65536 + r → Stored op K (nodesOf t0) memo0
-            → Gives K t t′ heads′ next′ r (combined op K (family (nodesOf t) f) (family (nodesOf t) g)) × (r < 65536 → Stored op K (nodesOf t′) (set memo0 at v))
+        pub last-stored : {memo0 : List ℕ} (at v : ℕ) {k : ℕ} (e : Packed op f g k) → at < length memo0 → v ≡ k * 65536 + r → Remembered op K (nodesOf t0) memo0
+            → Gives K t t′ heads′ next′ r (joint op K t f g) × (r < 65536 → Remembered op K (nodesOf t′) (set memo0 at v))
         last-stored {memo0} at v {k} e la ev m = (whole, λ z. kept z)
           where
-            kept : r < 65536 → Stored op K (nodesOf t′) (set memo0 at v)
+            kept : r < 65536 → Remembered op K (nodesOf t′) (set memo0 at v)
             kept z =
                 let wf : f < suc (suc (length (nodesOf t))) = omega (arith, w .0, length-nodes t) in
                 let wg : g < suc (suc (length (nodesOf t))) = omega (arith, w .1, length-nodes t) in
                 let x = packed-known e (suc (suc (length (nodesOf t)))) wf wg in
-                let a : Answers (nodesOf t′) r (combined op K (family (nodesOf t) (e .first)) (family (nodesOf t) (e .second))) =
+                let a : Answers (nodesOf t′) r (joint op K t (e .first) (e .second)) =
                 subst⁻¹ (λ (F : Family). Answers (nodesOf t′) r F) (packed-same e (family (nodesOf t)) K) (gives-answers whole z) in
-                let m′ : Stored op K (nodesOf t′) memo0 = stored-grown (n K (step-child split-o q1 w1 p0 (c .label-known) w0)) z m in
-                stored-stored at (e .first) (e .second) r v la (omega (arith, e .is)) z (omega (arith, x .1, y .sound .few, length-nodes t))
+                let m′ : Remembered op K (nodesOf t′) memo0 = remembered-grown (n K (step-child split-o q1 w1 p0 (c .label-known) w0)) z m in
+                remembered-stored at (e .first) (e .second) r v la (omega (arith, e .is)) z (omega (arith, x .1, y .sound .few, length-nodes t))
                 (omega (arith, x .0, gives-more whole z)) (omega (arith, x .1, gives-more whole z))
                 (subst⁻¹ (λ (F : Family). Answers (nodesOf t′) r (combined op K F (family (nodesOf t′) (e .second)))) (gives-keeps whole z (e .first) (x .0))
                 (subst⁻¹ (λ (F : Family). Answers (nodesOf t′) r (combined op K (family (nodesOf t) (e .first)) F)) (gives-keeps whole z (e .second) (x .1)) a)) m′

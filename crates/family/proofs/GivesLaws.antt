@@ -1,24 +1,20 @@
 -- How the results of functions that make families go together: a node, the two parts of a family and then its node. Assumes nothing.
 use mathlib.Core.Path.{_≡_, refl, sym, ap, subst, subst⁻¹, _∙_}
-use mathlib.Core.Logic.{_⊎_, inl, inr}
-use mathlib.Core.Bool.{Bool, true, false}
-use mathlib.Core.List.{List, [], _∷_, _++_}
-use Prim.Native.Nat.{ℕ, zero, suc, _+_, _-_, _<_, _≤_}
-use native.Mathlib.Nat.{eq-or-lt-of-le}
+use mathlib.Core.Bool.{Bool, false}
+use mathlib.Core.List.{List}
+use Prim.Native.Nat.{ℕ, suc, _<_, _≤_}
 use native.Mathlib.Omega.{arith}
-use lib.ListN.{length, getD, length-append, List·getD-append}
-use lib.Seq.{getD-at, ext-getD}
-use Rattle.zdd.specs.Table.{Node, node, blank, Family, fork, count, capacity, nodesOf, family, key, Fine, Sound}
+use lib.ListN.{length}
+use Rattle.zdd.specs.Table.{Node, node, Family, fork, count, capacity, nodesOf, family, key, Sound}
 use Rattle.zdd.proofs.Grow.{family-zero}
 use Rattle.zdd.proofs.Words.{length-nodes}
 use Rattle.zdd.specs.Work.{From, Split, Got}
 use Rattle.zdd.proofs.Nowaste.{nowaste-keeps, nowaste-length}
 use Rattle.zdd.proofs.Room.{same-capacity}
 use Rattle.zdd.proofs.Split.{from-over}
-use Rattle.zdd.proofs.Got.{got-eq, got-there, got-idle, got-made, got-full, got-split, got-known, got-flag, got-made-exactly, got-old}
+use Rattle.zdd.proofs.Got.{got-eq, got-there, got-idle, got-split, got-known, got-flag, got-made-exactly, got-old}
 use Rattle.table.specs.State.{Indexed, May, Made, Unique, Rolled}
-use Rattle.table.proofs.GrownLaws.{grown-node}
-use Rattle.family.specs.Gives.{Gives, Child, Noded, Answers, Makes}
+use Rattle.family.specs.Gives.{Gives, Child, Noded, Answers, Produced}
 
 -- ---- a number that is there
 
@@ -28,77 +24,35 @@ gives-there {K} {t} {heads} {next} {F} {r} s d l a = record {
   sound = s;
   indexed = d;
   small = omega arith;
-  got = λ h. got-eq (a .holds) (got-there (capacity t) false r (s .nodes) (a .known));
-  full = λ e. absurd (omega arith);
+  gained = record { got = λ n. got-eq (a .holds) (got-there (capacity t) false r (s .nodes) (a .known)); full = λ e. absurd (omega arith) };
 }
 
 -- ---- find or make
 
-abbrev J : List ℕ → Node → Family
-J t x = fork (x .label) (family (nodesOf t) (x .hi)) (family (nodesOf t) (x .lo))
+module _ {K t t′ heads′ next′ : List ℕ} {x : Node} {r : ℕ} (m : Made K t t′ heads′ next′ x r) where
+  abbrev J : Family
+  J = fork (x .label) (family (nodesOf t) (x .hi)) (family (nodesOf t) (x .lo))
 
-module _ {K t t′ heads′ next′ : List ℕ} {x : Node} {r : ℕ} (y : May K t x) (m : Made K t t′ heads′ next′ x r) where
-  fine-len : Fine K (nodesOf t) (length (nodesOf t)) x
-  fine-len = subst (λ (n : ℕ). Fine K (nodesOf t) n x) (sym (length-nodes t)) (y .fine)
-
-  made-nodes : count t + 2 ≤ r → nodesOf t′ ≡ nodesOf t ++ (x ∷ [])
-  made-nodes h =
-      let n = m .next h in
-      ext-getD blank (nodesOf t′) (nodesOf t ++ (x ∷ []))
-      (omega (arith, length-nodes t, length-nodes t′, length-append (nodesOf t) (x ∷ []), n .1 .0))
-      (λ i l. go i (eq-or-lt-of-le (omega (arith, length-nodes t′, n .1 .0))))
-    where
-      go : (i : ℕ) → (i ≡ count t) ⊎ (i < count t) → getD (nodesOf t′) i blank ≡ getD (nodesOf t ++ (x ∷ [])) i blank
-      go i (inl e) =
-          let z : i ≡ r - 2 = omega (arith, m .next h .0) in
-          ap (λ (j : ℕ). getD (nodesOf t′) j blank) z ∙ m .node (omega arith) .1 ∙ sym (getD-at (nodesOf t) x [] blank i (length-nodes t ∙ sym e))
-      go i (inr l) = grown-node (m .grown) i l ∙ sym (List·getD-append (nodesOf t) (x ∷ []) blank i (omega (arith, length-nodes t)))
-
-  made-got : 0 < r → (r < count t + 2) ⊎ (count t + 2 ≤ r) → Got K (capacity t) (nodesOf t) false r (nodesOf t′) false (J t x)
-  made-got p (inl l) =
-      let e : t′ ≡ t = m .still l in
-      subst⁻¹ (λ (u : List ℕ). Got K (capacity t) (nodesOf t) false r (nodesOf u) false (J t x)) e
-      (got-eq (ap (λ (u : List ℕ). family (nodesOf u) r) (sym e) ∙ m .denotes p)
-      (got-there (capacity t) false r (y .sound .nodes) (omega (arith, length-nodes t))))
-  made-got p (inr h) =
-      let z : suc (suc (length (nodesOf t))) ≡ r = omega (arith, length-nodes t, m .next h .0) in
-      subst⁻¹ (λ (l : List Node). Got K (capacity t) (nodesOf t) false r l false (J t x)) (made-nodes h)
-      (subst (λ (k : ℕ). Got K (capacity t) (nodesOf t) false k (nodesOf t ++ (x ∷ [])) false (J t x)) z
-      (got-made (capacity t) (y .sound .nodes) x fine-len (λ i l. m .next h .1 .1 i (omega (arith, length-nodes t)))))
-
-  below-or : (a b : ℕ) → (a < b) ⊎ (b ≤ a)
-  below-or a zero = inr (omega arith)
-  below-or zero (suc b) = inl (omega arith)
-  below-or (suc a) (suc b) = go (below-or a b)
-    where
-      go : (a < b) ⊎ (b ≤ a) → (suc a < suc b) ⊎ (suc b ≤ suc a)
-      go (inl l) = inl (omega arith)
-      go (inr l) = inr (omega arith)
-
-  pub made-gives : 0 < r → Gives K t t′ heads′ next′ r (J t x)
-  made-gives p = record {
-    long = m .grown .long;
-    sound = m .grown .sound;
-    indexed = m .indexed;
-    small = omega (arith, m .known, m .grown .sound .few);
-    got = λ h. made-got p (below-or r (count t + 2));
-    full = λ e. absurd (omega (arith, m .known, m .grown .sound .few));
-  }
-
-  pub made-none : r ≡ 0 → Gives K t t′ heads′ next′ 65536 (J t x)
-  made-none z =
-      let f = m .full z in
-      let e : t′ ≡ t = m .still (omega arith) in
+  pub made-gives : 0 < r → Gives K t t′ heads′ next′ r J
+  made-gives p =
+      let g : Got K (capacity t) (nodesOf t) false r (nodesOf t′) false J = m .gained .got (λ e. omega arith) in
+      let b : r < 65536 = omega (arith, g .known, length-nodes t′, m .grown .sound .few) in
       record {
         long = m .grown .long;
         sound = m .grown .sound;
         indexed = m .indexed;
         small = omega arith;
-        got = λ h. absurd (omega arith);
-        full = λ q.
-            subst⁻¹ (λ (u : List ℕ). Got K (capacity t) (nodesOf t) false 0 (nodesOf u) true (J t x)) e
-            (got-full (capacity t) (y .sound .nodes) x fine-len (λ i l. f .0 i (omega (arith, length-nodes t))) 0 (omega arith) (omega (arith, f .1, length-nodes t)));
+        gained = record { got = λ n. g; full = λ e. absurd (omega arith) };
       }
+
+  pub made-short : r ≡ 0 → Gives K t t′ heads′ next′ 65536 J
+  made-short z = record {
+    long = m .grown .long;
+    sound = m .grown .sound;
+    indexed = m .indexed;
+    small = omega arith;
+    gained = record { got = λ n. absurd (n refl); full = λ e. m .gained .full z };
+  }
 
 -- what make says
 pub noded-lo : {t heads next : List ℕ} (label lo hi : ℕ) → Indexed t heads next → hi ≡ 0 → Noded t t heads next label lo hi lo
@@ -113,28 +67,32 @@ may c h = record { sound = c .sound; fine = c .fine h }
 
 module _ (t t′ heads′ next′ : List ℕ) (label lo hi : ℕ) where
   pub noded-made : (r : ℕ) → 0 < hi → 0 < r → Unique t t′ heads′ next′ (node label lo hi) r → Noded t t′ heads′ next′ label lo hi r
-  noded-made r h p u K c = made-gives (may c h) (u K (may c h)) p
+  noded-made r h p u K c = made-gives (u K (may c h)) p
 
   pub noded-none : (r : ℕ) → 0 < hi → r ≡ 0 → Unique t t′ heads′ next′ (node label lo hi) r → Noded t t′ heads′ next′ label lo hi 65536
-  noded-none r h p u K c = made-none (may c h) (u K (may c h)) p
+  noded-none r h p u K c = made-short (u K (may c h)) p
 
 -- ---- the parts, then the node
 
+given : {K t t′ heads′ next′ : List ℕ} {r : ℕ} {F : Family} → Gives K t t′ heads′ next′ r F → r < 65536 → Got K (capacity t) (nodesOf t) false r (nodesOf t′) false F
+given g h = g .gained .got (λ e. omega arith)
+
 pub gives-answers : {K t t′ heads′ next′ : List ℕ} {r : ℕ} {F : Family} → Gives K t t′ heads′ next′ r F → r < 65536 → Answers (nodesOf t′) r F
-gives-answers g h = let q = g .got h in record { known = q .known; holds = q .holds refl }
+gives-answers g h = let q = given g h in record { known = q .known; holds = q .holds refl }
 
 pub gives-keeps : {K t t′ heads′ next′ : List ℕ} {r : ℕ} {F : Family} → Gives K t t′ heads′ next′ r F → r < 65536 → (k : ℕ) → k < suc (suc (length (nodesOf t)))
     → family (nodesOf t′) k ≡ family (nodesOf t) k
-gives-keeps g h = nowaste-keeps (g .got h .work .nowaste)
+gives-keeps g h = nowaste-keeps (given g h .work .nowaste)
 
 pub gives-more : {K t t′ heads′ next′ : List ℕ} {r : ℕ} {F : Family} → Gives K t t′ heads′ next′ r F → r < 65536 → length (nodesOf t) ≤ length (nodesOf t′)
-gives-more g h = omega (arith, nowaste-length (g .got h .work .nowaste))
+gives-more g h = omega (arith, nowaste-length (given g h .work .nowaste))
 
 pub gives-eq : {K t t′ heads′ next′ : List ℕ} {r : ℕ} {F G : Family} → F ≡ G → Gives K t t′ heads′ next′ r F → Gives K t t′ heads′ next′ r G
 gives-eq {K} {t} {t′} {heads′} {next′} {r} e g = subst (λ (H : Family). Gives K t t′ heads′ next′ r H) e g
 
 -- the room is the same
-move : (t u u′ : List ℕ) {K : List ℕ} {b b′ : Bool} {k : ℕ} {F : Family} → length u ≡ length t → Got K (capacity u) (nodesOf u) b k (nodesOf u′) b′ F → Got K (capacity t) (nodesOf u) b k (nodesOf u′) b′ F
+move : (t u u′ : List ℕ) {K : List ℕ} {b b′ : Bool} {k : ℕ} {F : Family} → length u ≡ length t
+    → Got K (capacity u) (nodesOf u) b k (nodesOf u′) b′ F → Got K (capacity t) (nodesOf u) b k (nodesOf u′) b′ F
 move t u u′ {K} {b} {b′} {k} {F} e g = subst (λ (c : ℕ). Got K c (nodesOf u) b k (nodesOf u′) b′ F) (same-capacity u t e) g
 
 module _ {K t : List ℕ} {R R1 R0 : Family} {p : ℕ} (s : Split K R p R1 R0) {t1 heads1 next1 : List ℕ} {h : ℕ} (g1 : Gives K t t1 heads1 next1 h R1) where
@@ -145,10 +103,12 @@ module _ {K t : List ℕ} {R R1 R0 : Family} {p : ℕ} (s : Split K R p R1 R0) {
     sound = g1 .sound;
     indexed = g1 .indexed;
     small = omega arith;
-    got = λ z. absurd (omega arith);
-    full = λ z.
-        let n = g1 .sound .nodes in
-        got-split {h = 0} {l = 0} s (g1 .full e) (got-idle (capacity t) 0 R0 n (omega arith)) (got-idle (capacity t) 0 _ n (omega arith));
+    gained = record {
+      got = λ z. absurd (z refl);
+      full = λ z.
+          let n = g1 .sound .nodes in
+          got-split {h = 0} {l = 0} s (g1 .gained .full e) (got-idle (capacity t) 0 R0 n (omega arith)) (got-idle (capacity t) 0 _ n (omega arith));
+    };
   }
 
   module _ (w1 : h < 65536) {t0 heads0 next0 : List ℕ} {l : ℕ} (g0 : Gives K t1 t0 heads0 next0 l R0) where
@@ -162,15 +122,17 @@ module _ {K t : List ℕ} {R R1 R0 : Family} {p : ℕ} (s : Split K R p R1 R0) {
       sound = g0 .sound;
       indexed = g0 .indexed;
       small = omega arith;
-      got = λ z. absurd (omega arith);
-      full = λ z. got-split {h = h} {l = 0} s (g1 .got w1) (move t t1 t0 (g1 .long) (g0 .full e)) (got-idle (capacity t) 0 _ (g0 .sound .nodes) (omega arith));
+      gained = record {
+        got = λ z. absurd (z refl);
+        full = λ z. got-split {h = h} {l = 0} s (given g1 w1) (move t t1 t0 (g1 .long) (g0 .gained .full e)) (got-idle (capacity t) 0 _ (g0 .sound .nodes) (omega arith));
+      };
     }
 
     -- the node may be made
     pub step-child : p < length K → l < 65536 → Child K t0 p l h
     step-child k w0 =
-        let a0 = g0 .got w0 in
-        let a1 = g1 .got w1 in
+        let a0 = given g0 w0 in
+        let a1 = given g1 w1 in
         record {
           sound = g0 .sound;
           lo-known = omega (arith, a0 .known, length-nodes t0);
@@ -195,21 +157,23 @@ module _ {K t : List ℕ} {R R1 R0 : Family} {p : ℕ} (s : Split K R p R1 R0) {
           sound = g .sound;
           indexed = g .indexed;
           small = g .small;
-          got = λ z. got-split {h = h} {l = l} s (g1 .got w1) (move t t1 t0 (g1 .long) (g0 .got w0)) (move t t0 t′ long0 (g .got z));
-          full = λ z. got-split {h = h} {l = l} s (g1 .got w1) (move t t1 t0 (g1 .long) (g0 .got w0)) (move t t0 t′ long0 (g .full z));
+          gained = record {
+            got = λ z. got-split {h = h} {l = l} s (given g1 w1) (move t t1 t0 (g1 .long) (given g0 w0)) (move t t0 t′ long0 (g .gained .got z));
+            full = λ z. got-split {h = h} {l = l} s (given g1 w1) (move t t1 t0 (g1 .long) (given g0 w0)) (move t t0 t′ long0 (g .gained .full z));
+          };
         }
 
 -- ---- a call: what was made is taken back where there was no room
 
 module _ {K t t′ heads′ next′ : List ℕ} {r : ℕ} {F : Family} (g : Gives K t t′ heads′ next′ r F) where
-  pub makes-done : (r ≡ 65536 → ⊥) → Makes K t t′ heads′ next′ r F
-  makes-done d = record {
+  pub produced-done : (r ≡ 65536 → ⊥) → Produced K t t′ heads′ next′ r F
+  produced-done d = record {
     small = g .small;
     full = λ e. absurd (d e);
     same = λ e. absurd (d e);
-    room = λ h. got-flag t (g .sound) (g .long) (g .got h);
+    room = λ h. got-flag t (g .sound) (g .long) (given g h);
     done = λ h.
-        let q = g .got h in
+        let q = given g h in
         record {
           grown = record { long = g .long; sound = g .sound; old = got-old t (g .sound) (g .long) q };
           indexed = g .indexed;
@@ -219,11 +183,11 @@ module _ {K t t′ heads′ next′ : List ℕ} {r : ℕ} {F : Family} (g : Give
         };
   }
 
-  pub makes-full : {n : ℕ} {u heads next : List ℕ} → r ≡ 65536 → Sound K t → n ≡ count t → Rolled t′ n u → Makes K t u heads next 65536 F
-  makes-full {n} {u} e s c back = record {
+  pub produced-full : {n : ℕ} {u heads next : List ℕ} → r ≡ 65536 → Sound K t → n ≡ count t → Rolled t′ n u → Produced K t u heads next 65536 F
+  produced-full {n} {u} e s c back = record {
     small = omega arith;
-    full = λ z. got-flag t (g .sound) (g .long) (g .full e);
-    same = λ z. back K t s (record { long = g .long; sound = g .sound; old = got-old t (g .sound) (g .long) (g .full e) }) c;
+    full = λ z. got-flag t (g .sound) (g .long) (g .gained .full e);
+    same = λ z. back K t s (record { long = g .long; sound = g .sound; old = got-old t (g .sound) (g .long) (g .gained .full e) }) c;
     room = λ h. absurd (omega arith);
     done = λ h. absurd (omega arith);
   }

@@ -1,25 +1,22 @@
 -- The sets with a label, and those without it: each case of the recursion, and what is remembered. Assumes nothing.
 use mathlib.Core.Path.{_≡_, refl, sym, ap, subst, subst⁻¹, _∙_}
-use mathlib.Core.Logic.{_⊎_, inl, inr}
 use mathlib.Core.Bool.{Bool, true, false}
 use mathlib.Core.List.{List, []}
-use Prim.Native.Nat.{ℕ, zero, suc, _+_, _-_, _*_, _<_, _≤_}
-use native.Mathlib.Nat.{eq-or-lt-of-le}
+use Prim.Native.Nat.{ℕ, suc, _+_, _-_, _*_, _<_, _≤_}
 use native.Mathlib.Omega.{arith}
 use native.Mathlib.Decide.{ℕ-discrete}
 use lib.Dec.{eqb}
-use lib.ListN.{length, getD, set, length-set, replicate}
+use lib.ListN.{length, getD, set, length-set}
 use lib.Seq.{getD-set-same, getD-set-other}
-use borrow.Author.Tests.{eqb-true}
+use borrow.Author.Tests.{ne-eqb}
 use Rattle.zdd.specs.Table.{Node, blank, Family, count, nodesOf, family, key, Over, Fine, Nodes, Sound, Keys}
-use Rattle.base.proofs.Bools.{is-false}
 use Rattle.zdd.proofs.Grow.{family-zero}
 use Rattle.zdd.proofs.Words.{length-nodes, node-at, at-word}
 use Rattle.zdd.proofs.TableLaws.{over-of-key, fine-at}
 use Rattle.zdd.specs.Work.{Split}
 use Rattle.zdd.specs.Operations.{excluding}
 use Rattle.zdd.proofs.Parts.{with-after, without-after, with-other, without-other, with-same, without-same}
-use Rattle.family.specs.Gives.{Ready, Gives, Noded, Answers}
+use Rattle.family.specs.Gives.{Operable, Gives, Noded, Answers}
 use Rattle.family.specs.Memo.{restricted, Kept, Soon}
 use Rattle.family.proofs.GivesLaws.{gives-there, gives-answers, gives-keeps, gives-more, gives-eq, step-none-hi, step-none-lo, step-child, step-node}
 
@@ -36,8 +33,8 @@ module _ {K : List ℕ} (k : Keys K) {ns : List Node} (n : Nodes K ns) (p f : �
 over-end : (K : List ℕ) (ns : List Node) (b f : ℕ) → f < 2 → Over K ns b f
 over-end K ns b f h = over-of-key K ns b f (λ l. absurd (omega arith))
 
-not-eqb : (p q : ℕ) → (q ≡ p → ⊥) → eqb p q ≡ false
-not-eqb p q d = is-false (eqb p q) (λ e. d (sym (eqb-true p q e)))
+pub two-more : (f : ℕ) → 2 ≤ f → suc (suc (f - 2)) ≡ f
+two-more f l = omega arith
 
 -- ---- the words of a number
 
@@ -51,37 +48,28 @@ module _ {K t : List ℕ} (s : Sound K t) (f a : ℕ) (l : 2 ≤ f) (w : f < cou
   pub word-lo : getD (nodesOf t) (f - 2) blank .lo ≡ getD t (a + 1) 0
   word-lo = ap (λ (x : Node). x .lo) word-node
 
-  pub word-hi : getD (nodesOf t) (f - 2) blank .hi ≡ getD t (a + 2) 0
-  word-hi = ap (λ (x : Node). x .hi) word-node
-
   pub word-fine : Fine K (nodesOf t) (f - 2) (at-word t a)
   word-fine = fine-at s f a l w (omega arith)
 
   pub label-known : getD t a 0 < length K
   label-known = word-fine .label-known
 
-  pub word-in : a + 2 < length t
-  word-in = omega (arith, s .room)
-
   -- the label is another one
   pub split-other : Keys K → (b : Bool) (p : ℕ) → (getD t a 0 ≡ p → ⊥)
       → Split K (restricted b K p (family (nodesOf t) f)) (getD t a 0) (restricted b K p (family (nodesOf t) (getD t (a + 2) 0))) (restricted b K p (family (nodesOf t) (getD t (a + 1) 0)))
   split-other k b p d =
       subst (λ (x : Node). Split K (restricted b K p (family (nodesOf t) f)) (x .label) (restricted b K p (family (nodesOf t) (x .hi))) (restricted b K p (family (nodesOf t) (x .lo)))) word-node
-      (subst (λ (g : ℕ). Split K (restricted b K p (family (nodesOf t) g)) (x .label) (restricted b K p (family (nodesOf t) (x .hi))) (restricted b K p (family (nodesOf t) (x .lo)))) z
+      (subst (λ (g : ℕ). Split K (restricted b K p (family (nodesOf t) g)) (x .label) (restricted b K p (family (nodesOf t) (x .hi))) (restricted b K p (family (nodesOf t) (x .lo)))) (two-more f l)
       (go b))
     where
       x : Node
       x = getD (nodesOf t) (f - 2) blank
 
-      z : suc (suc (f - 2)) ≡ f
-      z = omega arith
-
       i : f - 2 < length (nodesOf t)
       i = omega (arith, length-nodes t)
 
       q : eqb p (getD (nodesOf t) (f - 2) blank .label) ≡ false
-      q = not-eqb p (getD (nodesOf t) (f - 2) blank .label) (λ y. d (sym word-label ∙ y))
+      q = ne-eqb p (getD (nodesOf t) (f - 2) blank .label) (λ y. d (sym word-label ∙ sym y))
 
       go : (b : Bool) → Split K (restricted b K p (family (nodesOf t) (suc (suc (f - 2))))) (x .label) (restricted b K p (family (nodesOf t) (x .hi))) (restricted b K p (family (nodesOf t) (x .lo)))
       go true = with-other k (s .nodes) p (f - 2) i q
@@ -92,22 +80,16 @@ module _ {K t : List ℕ} (s : Sound K t) (f a : ℕ) (l : 2 ≤ f) (w : f < cou
   split-own k p d =
       subst (λ (q : ℕ). Split K (restricted true K p (family (nodesOf t) f)) q (family (nodesOf t) (getD t (a + 2) 0)) []) d
       (subst (λ (x : Node). Split K (restricted true K p (family (nodesOf t) f)) (x .label) (family (nodesOf t) (x .hi)) []) word-node
-      (subst (λ (g : ℕ). Split K (restricted true K p (family (nodesOf t) g)) (getD (nodesOf t) (f - 2) blank .label) (family (nodesOf t) (getD (nodesOf t) (f - 2) blank .hi)) []) z
+      (subst (λ (g : ℕ). Split K (restricted true K p (family (nodesOf t) g)) (getD (nodesOf t) (f - 2) blank .label) (family (nodesOf t) (getD (nodesOf t) (f - 2) blank .hi)) []) (two-more f l)
       (with-same k (s .nodes) p (f - 2) (omega (arith, length-nodes t)) (word-label ∙ d))))
-    where
-      z : suc (suc (f - 2)) ≡ f
-      z = omega arith
 
   pub own-without : Keys K → (p : ℕ) → getD t a 0 ≡ p → Answers (nodesOf t) (getD t (a + 1) 0) (restricted false K p (family (nodesOf t) f))
   own-without k p d = record {
     known = omega (arith, word-fine .lo-below, length-nodes t);
     holds =
-        sym (ap (λ (g : ℕ). excluding K p (family (nodesOf t) g)) z ∙ without-same k (s .nodes) p (f - 2) (omega (arith, length-nodes t)) (word-label ∙ d)
+        sym (ap (λ (g : ℕ). excluding K p (family (nodesOf t) g)) (sym (two-more f l)) ∙ without-same k (s .nodes) p (f - 2) (omega (arith, length-nodes t)) (word-label ∙ d)
         ∙ ap (family (nodesOf t)) word-lo);
   }
-    where
-      z : f ≡ suc (suc (f - 2))
-      z = omega arith
 
 -- ---- what soon says
 
@@ -152,11 +134,6 @@ module _ {K t : List ℕ} (s : Sound K t) (k : Keys K) (p f : ℕ) (w : f < coun
     soon-late-without {b} h q = subst⁻¹ (λ (b : Bool). Soon b K p (nodesOf t) f f) q (soon-answer false f (after-without k (s .nodes) p f ww (late h)))
 
 -- ---- what is remembered
-
-pub zeros : (n i : ℕ) → getD {A = ℕ} (replicate n 0) i 0 ≡ 0
-zeros zero i = refl
-zeros (suc n) zero = refl
-zeros (suc n) (suc i) = zeros n i
 
 pub kept-fresh : (b : Bool) (K : List ℕ) (p : ℕ) (ns : List Node) (memo : List ℕ) → length memo ≡ 65536 → ((i : ℕ) → getD memo i 0 ≡ 0) → Kept b K p ns memo
 kept-fresh b K p ns memo l z = record {
@@ -205,7 +182,7 @@ kept-stored {b} {K} {memo} {ns} {p} f r v ev l w a m = record {
 -- ---- the recursion: f is a node whose three words begin at a, and its restriction is to be made
 
 pub record Open (b : Bool) (K : List ℕ) (p : ℕ) (t heads next memo : List ℕ) (f a : ℕ) : Type 0 where
-  pub ready : Ready K t heads next
+  pub ready : Operable K t heads next
   pub kept : Kept b K p (nodesOf t) memo
   pub low : 2 ≤ f
   pub below : f < count t + 2
@@ -213,7 +190,7 @@ pub record Open (b : Bool) (K : List ℕ) (p : ℕ) (t heads next memo : List �
   pub p-known : p < length K
   pub own : getD t a 0 ≡ p → b ≡ true
 
-pub open-of : {b : Bool} {K t heads next memo : List ℕ} {p f : ℕ} {r : ℕ} (a : ℕ) → Ready K t heads next → Kept b K p (nodesOf t) memo → (f < count t + 2) × (p < length K)
+pub open-of : {b : Bool} {K t heads next memo : List ℕ} {p f : ℕ} {r : ℕ} (a : ℕ) → Operable K t heads next → Kept b K p (nodesOf t) memo → (f < count t + 2) × (p < length K)
     → Soon b K p (nodesOf t) f r → r ≡ 65537 → a ≡ 3 * f - 5 → Open b K p t heads next memo f a
 open-of {b} {K} {t} {heads} {next} {memo} {p} {f} {r} a y m w s e q =
     let l : 2 ≤ f = s .branch e in
@@ -228,18 +205,11 @@ open-of {b} {K} {t} {heads} {next} {memo} {p} {f} {r} a y m w s e q =
     }
 
 -- the answer at once
-pub soon-gives : {b : Bool} {K t heads next memo : List ℕ} {p f r : ℕ} → Ready K t heads next → Kept b K p (nodesOf t) memo → Soon b K p (nodesOf t) f r → (r ≡ 65537 → ⊥)
+pub soon-gives : {b : Bool} {K t heads next memo : List ℕ} {p f r : ℕ} → Operable K t heads next → Kept b K p (nodesOf t) memo → Soon b K p (nodesOf t) f r → (r ≡ 65537 → ⊥)
     → Gives K t t heads next r (restricted b K p (family (nodesOf t) f)) × (r < 65536 → Kept b K p (nodesOf t) memo)
 soon-gives {b} {K} {t} {heads} {next} {memo} {p} {f} {r} y m s d =
-    let z : r < 65537 = lt r (s .small) d in
+    let z : r < 65537 = omega (arith, s .small) in
     (gives-there (y .sound) (y .indexed) (s .answer z .0) (s .answer z .1), λ h. m)
-  where
-    lt : (r : ℕ) → r ≤ 65537 → (r ≡ 65537 → ⊥) → r < 65537
-    lt r l d = go (eq-or-lt-of-le l)
-      where
-        go : (r ≡ 65537) ⊎ (r < 65537) → r < 65537
-        go (inl e) = absurd (d e)
-        go (inr h) = h
 
 module _ {b : Bool} {K : List ℕ} {p : ℕ} {t heads next memo : List ℕ} {f a : ℕ} (o : Open b K p t heads next memo f a) where
   fine-o : Fine K (nodesOf t) (f - 2) (at-word t a)
@@ -278,7 +248,7 @@ module _ {b : Bool} {K : List ℕ} {p : ℕ} {t heads next memo : List ℕ} {f a
     pub hi-none : {memo1 : List ℕ} → h ≡ 65536 → Gives K t t1 heads1 next1 65536 (restricted b K p (family (nodesOf t) f)) × (65536 < 65536 → Kept b K p (nodesOf t1) memo1)
     hi-none e = (step-none-hi split-o g1 e, λ z. absurd (omega arith))
 
-    pub hi-ready : Ready K t1 heads1 next1
+    pub hi-ready : Operable K t1 heads1 next1
     hi-ready = record { keys = o .ready .keys; sound = g1 .sound; indexed = g1 .indexed }
 
     module _ (w1 : h < 65536) where

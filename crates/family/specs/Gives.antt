@@ -6,12 +6,12 @@ use Prim.Native.Nat.{ℕ, suc, _+_, _-_, _<_, _≤_}
 use lib.Dec.{ltb}
 use lib.ListN.{length}
 use Rattle.zdd.specs.Table.{Node, node, Family, fork, count, capacity, nodesOf, family, Fine, Sound, Keys}
-use Rattle.zdd.specs.Work.{Got}
+use Rattle.zdd.specs.Work.{Gained}
 use Rattle.zdd.specs.Branches.{missing}
 use Rattle.table.specs.State.{Indexed, Grown}
 
 -- a sound indexed table over distinct keys
-pub record Ready (K t heads next : List ℕ) : Type 0 where
+pub record Operable (K t heads next : List ℕ) : Type 0 where
   pub keys : Keys K
   pub sound : Sound K t
   pub indexed : Indexed t heads next
@@ -22,8 +22,7 @@ pub record Gives (K t t′ heads′ next′ : List ℕ) (r : ℕ) (F : Family) :
   pub sound : Sound K t′
   pub indexed : Indexed t′ heads′ next′
   pub small : r ≤ 65536
-  pub got : r < 65536 → Got K (capacity t) (nodesOf t) false r (nodesOf t′) false F
-  pub full : r ≡ 65536 → Got K (capacity t) (nodesOf t) false 0 (nodesOf t′) true F
+  pub gained : Gained 65536 K (capacity t) (nodesOf t) r (nodesOf t′) F
 
 -- the node of three words may be made where hi is not 0
 pub record Child (K t : List ℕ) (label lo hi : ℕ) : Type 0 where
@@ -42,7 +41,7 @@ pub record Answers (ns : List Node) (r : ℕ) (F : Family) : Type 0 where
   pub holds : family ns r ≡ F
 
 -- F has its number r in the table t′, which is t with the branch nodes that were missing for it
-pub record Done (K t t′ heads′ next′ : List ℕ) (r : ℕ) (F : Family) : Type 0 where
+pub record Obtained (K t t′ heads′ next′ : List ℕ) (r : ℕ) (F : Family) : Type 0 where
   pub grown : Grown K t t′
   pub indexed : Indexed t′ heads′ next′
   pub known : r < count t′ + 2
@@ -51,9 +50,9 @@ pub record Done (K t t′ heads′ next′ : List ℕ) (r : ℕ) (F : Family) : 
 
 -- what an operation that makes F ensures: where what is missing for F exceeds the free places it says 65536 and the table is as before; where it does
 -- not, r is F's number
-pub record Makes (K t t′ heads′ next′ : List ℕ) (r : ℕ) (F : Family) : Type 0 where
+pub record Produced (K t t′ heads′ next′ : List ℕ) (r : ℕ) (F : Family) : Type 0 where
   pub small : r ≤ 65536
   pub full : r ≡ 65536 → ltb (capacity t - count t) (missing (nodesOf t) F) ≡ true
   pub same : r ≡ 65536 → t′ ≡ t
   pub room : r < 65536 → ltb (capacity t - count t) (missing (nodesOf t) F) ≡ false
-  pub done : r < 65536 → Done K t t′ heads′ next′ r F
+  pub done : r < 65536 → Obtained K t t′ heads′ next′ r F

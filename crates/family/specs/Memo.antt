@@ -52,7 +52,7 @@ pub record Packed (op f g k : ℕ) : Type 0 where
   pub order : Ordered op f g first second
 
 -- a word of the memory is (f × 65536 + g) × 65536 + r, with f not 0: r is the number of f's and g's combination
-pub record Stored (op : ℕ) (K : List ℕ) (ns : List Node) (memo : List ℕ) : Type 0 where
+pub record Remembered (op : ℕ) (K : List ℕ) (ns : List Node) (memo : List ℕ) : Type 0 where
   pub some : 0 < length memo
   pub each : (i f g : ℕ) → getD memo i 0 / 65536 ≡ f * 65536 + g → 0 < f → g < 65536
       → (f < suc (suc (length ns))) × ((g < suc (suc (length ns))) × Answers ns (getD memo i 0 % 65536) (combined op K (family ns f) (family ns g)))
@@ -79,7 +79,7 @@ pub record Ended (op : ℕ) (K : List ℕ) (ns : List Node) (f g r : ℕ) : Type
 
 -- what ended ensures, whatever the keys and the nodes
 abbrev pub Ends : ℕ → List ℕ → ℕ → ℕ → ℕ → Type 0
-Ends op memo f g r = (K : List ℕ) (ns : List Node) → Pair K ns f g → Stored op K ns memo → Ended op K ns f g r
+Ends op memo f g r = (K : List ℕ) (ns : List Node) → Pair K ns f g → Remembered op K ns memo → Ended op K ns f g r
 
 -- the key of a number's label, or 2 ^ 32 for 0 and 1
 pub record Top (K : List ℕ) (ns : List Node) (f r : ℕ) : Type 0 where

@@ -4,8 +4,8 @@ ghost use Prim.Native.Nat.{ℕ, suc, _+_, _-_, _*_, _<_, _≤_};
 ghost use lib.ListN.{length, getD, set};
 ghost use Rattle.zdd.specs.Table.{node, blank, count, nodesOf, family, Sound, Keys};
 ghost use Rattle.table.specs.State.{Indexed};
-ghost use Rattle.family.specs.Gives.{Ready, Gives, Makes, Noded, Answers};
-ghost use Rattle.family.specs.Memo.{restricted, Kept, Soon, combined, Packed, Stored, Ends, Two, Top, Cut};
+ghost use Rattle.family.specs.Gives.{Operable, Gives, Produced, Noded, Answers};
+ghost use Rattle.family.specs.Memo.{restricted, Kept, Soon, combined, Packed, Remembered, Ends, Two, Top, Cut};
 
 // The number of the node with these three words, found or made: lo where hi is 0; 65536 where there is no room.
 fn make(
@@ -78,10 +78,11 @@ fn restrict(
     holding: bool,
     f: u32,
 ) -> u32
-    requires { ⌜ Ready (now keys) (now t) (now heads) (now next) ⌝ }
+    requires { ⌜ Operable (now keys) (now t) (now heads) (now next) ⌝ }
     requires { ⌜ Kept holding (now keys) p (nodesOf (now t)) (now memo) ⌝ }
     requires { ⌜ (f < count (now t) + 2) × (p < length (now keys)) ⌝ }
-    ensures { λ r. ⌜ Gives (now (keys .entry)) (now (t .entry)) (now (t .exit)) (now (heads .exit)) (now (next .exit)) r (restricted holding (now (keys .entry)) p (family (nodesOf (now (t .entry))) f)) ⌝ }
+    ensures { λ r. ⌜ Gives (now (keys .entry)) (now (t .entry)) (now (t .exit)) (now (heads .exit)) (now (next .exit)) r
+        (restricted holding (now (keys .entry)) p (family (nodesOf (now (t .entry))) f)) ⌝ }
     ensures { λ r. ⌜ (r < 65536 → Kept holding (now (keys .entry)) p (nodesOf (now (t .exit))) (now (memo .exit))) ⌝ }
 {
     let known = soon(t, keys, memo, p, holding, f);
@@ -112,22 +113,16 @@ fn restrict(
     r
 }
 
-fn full(x: u32) -> u64
-    ensures { λ r. ⌜ (r ≡ x) × (r < 4294967296) ⌝ }
-{
-    x as u64
-}
-
 // f and g in one number, the lesser first where their order does not matter: in union (op 0) and intersection (1).
 fn pack(op: u8, f: u32, g: u32) -> u64
     ensures { λ r. ⌜ Packed op f g r ⌝ }
 {
     if op < 2 {
         if g < f {
-            return full(g) * 65536 + full(f);
+            return base::widened(g) * 65536 + base::widened(f);
         }
     }
-    full(f) * 65536 + full(g)
+    base::widened(f) * 65536 + base::widened(g)
 }
 
 // The place of a packed pair in a memory of so many places, best a power of two.
@@ -180,7 +175,7 @@ fn top(t: &[u32], keys: &[u32], f: u32) -> u64
     }
     let k = base::wide(f);
     let at = base::wide(t[3 * k - 5]);
-    full(keys[at])
+    base::widened(keys[at])
 }
 
 struct Parts {
@@ -245,11 +240,12 @@ fn combine(
     f: u32,
     g: u32,
 ) -> u32
-    requires { ⌜ Ready (now keys) (now t) (now heads) (now next) ⌝ }
-    requires { ⌜ Stored op (now keys) (nodesOf (now t)) (now memo) ⌝ }
+    requires { ⌜ Operable (now keys) (now t) (now heads) (now next) ⌝ }
+    requires { ⌜ Remembered op (now keys) (nodesOf (now t)) (now memo) ⌝ }
     requires { ⌜ (f < count (now t) + 2) × (g < count (now t) + 2) ⌝ }
-    ensures { λ r. ⌜ Gives (now (keys .entry)) (now (t .entry)) (now (t .exit)) (now (heads .exit)) (now (next .exit)) r (combined op (now (keys .entry)) (family (nodesOf (now (t .entry))) f) (family (nodesOf (now (t .entry))) g)) ⌝ }
-    ensures { λ r. ⌜ (r < 65536 → Stored op (now (keys .entry)) (nodesOf (now (t .exit))) (now (memo .exit))) ⌝ }
+    ensures { λ r. ⌜ Gives (now (keys .entry)) (now (t .entry)) (now (t .exit)) (now (heads .exit)) (now (next .exit)) r
+        (combined op (now (keys .entry)) (family (nodesOf (now (t .entry))) f) (family (nodesOf (now (t .entry))) g)) ⌝ }
+    ensures { λ r. ⌜ (r < 65536 → Remembered op (now (keys .entry)) (nodesOf (now (t .exit))) (now (memo .exit))) ⌝ }
 {
     let pair = pack(op, f, g);
     let at = place(pair, memo.len());
@@ -270,7 +266,7 @@ fn combine(
     if r == 65536 {
         return 65536;
     }
-    memo[at] = pair * 65536 + full(r);
+    memo[at] = pair * 65536 + base::widened(r);
     r
 }
 
@@ -284,9 +280,10 @@ pub fn restriction(
     holding: bool,
     f: u32,
 ) -> u32
-    requires { ⌜ Ready (now keys) (now t) (now heads) (now next) ⌝ }
+    requires { ⌜ Operable (now keys) (now t) (now heads) (now next) ⌝ }
     requires { ⌜ (f < count (now t) + 2) × (p < length (now keys)) ⌝ }
-    ensures { λ r. ⌜ Makes (now (keys .entry)) (now (t .entry)) (now (t .exit)) (now (heads .exit)) (now (next .exit)) r (restricted holding (now (keys .entry)) p (family (nodesOf (now (t .entry))) f)) ⌝ }
+    ensures { λ r. ⌜ Produced (now (keys .entry)) (now (t .entry)) (now (t .exit)) (now (heads .exit)) (now (next .exit)) r
+        (restricted holding (now (keys .entry)) p (family (nodesOf (now (t .entry))) f)) ⌝ }
 {
     let n = t[0];
     let mut memo = [0u32; 65536];
@@ -321,10 +318,11 @@ fn afresh(
     f: u32,
     g: u32,
 ) -> u32
-    requires { ⌜ Ready (now keys) (now t) (now heads) (now next) ⌝ }
+    requires { ⌜ Operable (now keys) (now t) (now heads) (now next) ⌝ }
     requires { ⌜ 0 < length (now memo) ⌝ }
     requires { ⌜ (f < count (now t) + 2) × (g < count (now t) + 2) ⌝ }
-    ensures { λ r. ⌜ Gives (now (keys .entry)) (now (t .entry)) (now (t .exit)) (now (heads .exit)) (now (next .exit)) r (combined op (now (keys .entry)) (family (nodesOf (now (t .entry))) f) (family (nodesOf (now (t .entry))) g)) ⌝ }
+    ensures { λ r. ⌜ Gives (now (keys .entry)) (now (t .entry)) (now (t .exit)) (now (heads .exit)) (now (next .exit)) r
+        (combined op (now (keys .entry)) (family (nodesOf (now (t .entry))) f) (family (nodesOf (now (t .entry))) g)) ⌝ }
 {
     base::clear(memo);
     combine(t, keys, heads, next, memo, op, f, g)
@@ -341,9 +339,10 @@ fn remembering(
     f: u32,
     g: u32,
 ) -> u32
-    requires { ⌜ Ready (now keys) (now t) (now heads) (now next) ⌝ }
+    requires { ⌜ Operable (now keys) (now t) (now heads) (now next) ⌝ }
     requires { ⌜ (f < count (now t) + 2) × (g < count (now t) + 2) ⌝ }
-    ensures { λ r. ⌜ Gives (now (keys .entry)) (now (t .entry)) (now (t .exit)) (now (heads .exit)) (now (next .exit)) r (combined op (now (keys .entry)) (family (nodesOf (now (t .entry))) f) (family (nodesOf (now (t .entry))) g)) ⌝ }
+    ensures { λ r. ⌜ Gives (now (keys .entry)) (now (t .entry)) (now (t .exit)) (now (heads .exit)) (now (next .exit)) r
+        (combined op (now (keys .entry)) (family (nodesOf (now (t .entry))) f) (family (nodesOf (now (t .entry))) g)) ⌝ }
 {
     if work.len() < 65536 {
         let mut memo = [0u64; 65536];
@@ -364,9 +363,10 @@ pub fn combination(
     f: u32,
     g: u32,
 ) -> u32
-    requires { ⌜ Ready (now keys) (now t) (now heads) (now next) ⌝ }
+    requires { ⌜ Operable (now keys) (now t) (now heads) (now next) ⌝ }
     requires { ⌜ (f < count (now t) + 2) × (g < count (now t) + 2) ⌝ }
-    ensures { λ r. ⌜ Makes (now (keys .entry)) (now (t .entry)) (now (t .exit)) (now (heads .exit)) (now (next .exit)) r (combined op (now (keys .entry)) (family (nodesOf (now (t .entry))) f) (family (nodesOf (now (t .entry))) g)) ⌝ }
+    ensures { λ r. ⌜ Produced (now (keys .entry)) (now (t .entry)) (now (t .exit)) (now (heads .exit)) (now (next .exit)) r
+        (combined op (now (keys .entry)) (family (nodesOf (now (t .entry))) f) (family (nodesOf (now (t .entry))) g)) ⌝ }
 {
     let n = t[0];
     let r = remembering(t, keys, heads, next, work, op, f, g);

@@ -1,6 +1,6 @@
 -- The cheapest of a node's family, from the cheapest of its children's. Assumes nothing.
 use mathlib.Core.Path.{_≡_, refl, sym, ap, ap₂, _∙_}
-use mathlib.Core.Bool.{Bool, true, false, cond, _&&_}
+use mathlib.Core.Bool.{Bool, true, false, cond, _&&_, and-true}
 use mathlib.Core.Logic.{_⊎_, inl, inr}
 use mathlib.Core.List.{List, [], _∷_, _++_, map, append-nil}
 use Prim.Native.Nat.{ℕ, _+_, _≤_, _<_}
@@ -11,9 +11,14 @@ use lib.ListN.{length, getD}
 use borrow.Author.Tests.{leb-true, leb-false, le-leb, lt-leb}
 use Rattle.base.proofs.Bools.{cases, same-test, and-left, and-right, and-both}
 use Rattle.zdd.specs.Table.{Family, fork, filter}
+use Rattle.zdd.proofs.Listing.{filter-same}
 use Rattle.query.specs.Questions.{cost, noneBelow, cheapest}
 
 module _ (C : List ℕ) where
+  pub cost-cons : (p : ℕ) (s : List ℕ) → cost C (p ∷ s) ≡ getD C p 0 + cost C s
+  unfolding cost
+  cost-cons p s = refl
+
   -- the cheaper of two, the first where they cost the same
   cheaper : List ℕ → List ℕ → List ℕ
   cheaper s t = cond (leb (cost C s) (cost C t)) s t
@@ -33,7 +38,7 @@ module _ (C : List ℕ) where
 
   none-best : (x : ℕ) (u : List ℕ) (F : Family) → noneBelow C x (u ∷ F) ≡ leb x (cost C (best u F))
   unfolding noneBelow best
-  none-best x u [] = same-test (leb x (cost C u) && true) (leb x (cost C u)) (and-left (leb x (cost C u)) true) (λ e. and-both (leb x (cost C u)) true e refl)
+  none-best x u [] = and-true (leb x (cost C u))
   none-best x u (v ∷ F) = ap (λ (b : Bool). leb x (cost C u) && b) (none-best x v F) ∙ go (cases (leb (cost C u) (cost C (best v F))))
     where
       go : (leb (cost C u) (cost C (best v F)) ≡ true) ⊎ (leb (cost C u) (cost C (best v F)) ≡ false)
@@ -50,11 +55,6 @@ module _ (C : List ℕ) where
           (λ e. and-both (leb x (cost C u)) (leb x (cost C (best v F)))
           (let k : x ≤ cost C (best v F) = leb-true x (cost C (best v F)) e in le-leb x (cost C u) (omega arith)) e)
           ∙ ap (λ (s : List ℕ). leb x (cost C s)) (sym (cheaper-second u (best v F) l))
-
-  filter-same : (P Q : List ℕ → Bool) → ((t : List ℕ) → P t ≡ Q t) → (F : Family) → filter P F ≡ filter Q F
-  unfolding filter
-  filter-same P Q e [] = refl
-  filter-same P Q e (t ∷ F) = ap₂ (λ (b : Bool) (G : Family). cond b (t ∷ G) G) (e t) (filter-same P Q e F)
 
   first-best : (m : ℕ) (u : List ℕ) (F : Family) → m ≡ cost C (best u F) → getD (filter (λ t. leb (cost C t) m) (u ∷ F)) 0 [] ≡ best u F
   unfolding filter best
@@ -80,7 +80,7 @@ module _ (C : List ℕ) where
   unfolding cheapest
   cheapest-best u F =
       ap (λ (G : Family). getD G 0 [])
-      (filter-same (λ t. noneBelow C (cost C t) (u ∷ F)) (λ t. leb (cost C t) (cost C (best u F))) (λ t. none-best (cost C t) u F) (u ∷ F))
+      (filter-same (λ t. noneBelow C (cost C t) (u ∷ F)) (λ t. leb (cost C t) (cost C (best u F))) (u ∷ F) (λ t m. none-best (cost C t) u F))
       ∙ first-best (cost C (best u F)) u F refl
 
   cheaper-assoc : (x y z : List ℕ) → cheaper x (cheaper y z) ≡ cheaper (cheaper x y) z
@@ -118,23 +118,16 @@ module _ (C : List ℕ) where
   best-map p u [] = refl
   best-map p u (v ∷ F) = ap (cheaper (p ∷ u)) (best-map p v F) ∙ go (cases (leb (cost C u) (cost C (best v F))))
     where
-      dearer : (s : List ℕ) → cost C (p ∷ s) ≡ getD C p 0 + cost C s
-      dearer s = unfold cost in refl
-
       go : (leb (cost C u) (cost C (best v F)) ≡ true) ⊎ (leb (cost C u) (cost C (best v F)) ≡ false)
           → cheaper (p ∷ u) (p ∷ best v F) ≡ p ∷ cheaper u (best v F)
       go (inl q) =
           let l = leb-true (cost C u) (cost C (best v F)) q in
-          cheaper-first (p ∷ u) (p ∷ best v F) (omega (arith, dearer u, dearer (best v F)))
+          cheaper-first (p ∷ u) (p ∷ best v F) (omega (arith, cost-cons p u, cost-cons p (best v F)))
           ∙ ap (λ (s : List ℕ). p ∷ s) (sym (cheaper-first u (best v F) l))
       go (inr q) =
           let l = leb-false (cost C u) (cost C (best v F)) q in
-          cheaper-second (p ∷ u) (p ∷ best v F) (omega (arith, dearer u, dearer (best v F)))
+          cheaper-second (p ∷ u) (p ∷ best v F) (omega (arith, cost-cons p u, cost-cons p (best v F)))
           ∙ ap (λ (s : List ℕ). p ∷ s) (sym (cheaper-second u (best v F) l))
-
-  pub cost-cons : (p : ℕ) (s : List ℕ) → cost C (p ∷ s) ≡ getD C p 0 + cost C s
-  unfolding cost
-  cost-cons p s = refl
 
   pub cheap-none : cost C (cheapest C []) ≡ 0
   unfolding cost cheapest filter

@@ -1,17 +1,16 @@
 -- The walk of place: a set s stands in the family of number a, where what is left of s stands in that of the node. Assumes nothing.
 use mathlib.Core.Path.{_≡_, refl, sym, ap, ap₂, _∙_}
-use mathlib.Core.Bool.{Bool, true, false, _&&_, _||_}
+use mathlib.Core.Bool.{Bool, true, false, _&&_, _||_, or-false}
 use mathlib.Core.Logic.{_⊎_, inl, inr}
 use mathlib.Core.List.{List, [], _∷_, map}
 use Prim.Native.Nat.{ℕ, suc, _+_, _≤_, _<_, min}
 use native.Mathlib.Numerals.{add-one}
 use native.Mathlib.Decide.{decLt}
 use native.Mathlib.Omega.{arith}
-use lib.Dec.{eqb}
 use lib.ListN.{length, getD, drop, drop-of-length-le}
 use lib.Seq.{drop-cons, drop-length}
 use borrow.Author.Tests.{ne-eqb}
-use Rattle.base.proofs.Bools.{never, cases, eqb-same}
+use Rattle.base.proofs.Bools.{never, cases, or-neither, eqb-same}
 use Rattle.zdd.specs.Table.{Family, fork, count, eqSet, elem}
 use Rattle.zdd.proofs.Member.{avoids-at, elem-append, elem-nil-map, elem-cons-map, elem-fork-cons}
 use Rattle.query.specs.Questions.{familyAt, position}
@@ -19,17 +18,13 @@ use Rattle.query.specs.Reading.{labelOf, loOf, hiOf, Readable, Filled, s
 use Rattle.query.proofs.Parts.{Parts, parts, some, at-zero, at-one}
 use Rattle.query.proofs.CountWords.{stored-low}
 
-position-here : (s t : List ℕ) (F : Family) → eqSet s t ≡ true → position s (t ∷ F) ≡ 0
+pub position-here : (s t : List ℕ) (F : Family) → eqSet s t ≡ true → position s (t ∷ F) ≡ 0
 unfolding position
 position-here s t F e = rw (e, position)
 
-position-later : (s t : List ℕ) (F : Family) → eqSet s t ≡ false → position s (t ∷ F) ≡ suc (position s F)
+pub position-later : (s t : List ℕ) (F : Family) → eqSet s t ≡ false → position s (t ∷ F) ≡ suc (position s F)
 unfolding position
 position-later s t F e = rw (e, position)
-
-or-false : (a b : Bool) → (a || b) ≡ false → (a ≡ false) × (b ≡ false)
-or-false true b e = absurd (never refl e)
-or-false false b e = (refl, e)
 
 -- a set that is not among hi's stands among lo's, behind all of hi's
 position-behind : (s : List ℕ) (p : ℕ) (F1 F0 : Family) → elem s (map (λ (t : List ℕ). p ∷ t) F1) ≡ false
@@ -37,7 +32,7 @@ position-behind : (s : List ℕ) (p : ℕ) (F1 F0 : Family) → elem s (map (λ 
 unfolding elem
 position-behind s p [] F0 e = omega arith
 position-behind s p (t ∷ F1) F0 e =
-    let d = or-false (eqSet s (p ∷ t)) (elem s (map (λ (t : List ℕ). p ∷ t) F1)) e in
+    let d = or-neither (eqSet s (p ∷ t)) (elem s (map (λ (t : List ℕ). p ∷ t) F1)) e in
     position-later s (p ∷ t) (fork p F1 F0) (d .0) ∙ omega (arith, position-behind s p F1 F0 (d .1))
 
 -- a set that is among hi's stands where it stands there
@@ -111,7 +106,7 @@ module _ {t : List ℕ} (R : Readable t) {a : ℕ} {s : List ℕ} {node i k : �
       let g : familyAt t h ≡ F1 = ap (familyAt t) e in
       let d : drop i s ≡ p ∷ u = drop-cons s i 0 l ∙ ap₂ (λ (x j : ℕ). x ∷ drop j s) q (sym (add-one i)) in
       let m : elem (p ∷ u) (fork p F1 F0) ≡ elem u F1 =
-      elem-fork-cons p p u F1 F0 ∙ only (eqb p p) (elem u F1) (elem (p ∷ u) F0) (eqb-same p) (avoids-at p F0 (P .apart) u) in
+      elem-fork-cons p p u F1 F0 ∙ ap₂ (λ (a b : Bool). (a && elem u F1) || b) (eqb-same p) (avoids-at p F0 (P .apart) u) ∙ or-false (elem u F1) in
       let same : elem s (familyAt t a) ≡ elem u F1 = S .same ∙ ap₂ elem d (P .split) ∙ m in
       record {
         within = omega (arith, P .hi-below, S .within);
@@ -123,25 +118,16 @@ module _ {t : List ℕ} (R : Readable t) {a : ℕ} {s : List ℕ} {node i k : �
             S .stands z w
             ∙ ap (λ (j : ℕ). k + j) (ap₂ position d (P .split) ∙ position-front u p F1 F0 (sym same ∙ w) ∙ ap (position u) (sym g));
       }
-    where
-      only : (a b c : Bool) → a ≡ true → c ≡ false → ((a && b) || c) ≡ b
-      only true true c x y = refl
-      only true false c x y = y
-      only false b c x y = absurd (never x refl)
 
   -- what is left of s is not among hi's sets
   aside : (i < length s → getD s i 0 ≡ labelOf t node → ⊥) → elem (drop i s) (map (λ (u : List ℕ). labelOf t node ∷ u) (familyAt t (hiOf t node))) ≡ false
   aside f = go (decLt i (length s))
     where
-      none : (a b : Bool) → a ≡ false → (a && b) ≡ false
-      none true b e = absurd (never refl e)
-      none false b e = refl
-
       go : Dec (i < length s) → elem (drop i s) (map (λ (u : List ℕ). labelOf t node ∷ u) (familyAt t (hiOf t node))) ≡ false
       go (yes l) =
           ap (λ (u : List ℕ). elem u (map (λ (u : List ℕ). labelOf t node ∷ u) (familyAt t (hiOf t node)))) (drop-cons s i 0 l)
           ∙ elem-cons-map (labelOf t node) (getD s i 0) (drop (suc i) s) (familyAt t (hiOf t node))
-          ∙ none (eqb (getD s i 0) (labelOf t node)) (elem (drop (suc i) s) (familyAt t (hiOf t node))) (ne-eqb (getD s i 0) (labelOf t node) (f l))
+          ∙ ap (λ (b : Bool). b && elem (drop (suc i) s) (familyAt t (hiOf t node))) (ne-eqb (getD s i 0) (labelOf t node) (f l))
       go (no l) =
           let q : length s ≤ i = omega arith in
           ap (λ (u : List ℕ). elem u (map (λ (u : List ℕ). labelOf t node ∷ u) (familyAt t (hiOf t node)))) (drop-of-length-le s q)

@@ -7,7 +7,7 @@ ghost use lib.ListN.{length, getD, drop};
 ghost use Rattle.zdd.specs.Table.{count as nodes};
 ghost use Rattle.query.specs.Questions.{familyAt, nth, cost, cheapest as cheapestOf, inPrecedence};
 ghost use Rattle.query.specs.Reading.{labelOf, loOf, hiOf, Readable, Branch, Filled, countWord, Priceable, costWord, Choice};
-ghost use Rattle.query.specs.Answers.{Told, Wrote, Stands, Bought};
+ghost use Rattle.query.specs.Answers.{Told, Wrote, PlaceFound, Bought};
 
 // How many: the number, or more than 64 bits hold.
 pub enum Tally {
@@ -209,7 +209,7 @@ pub fn place(t: &[u32], a: usize, s: &[u16], work: &[u64]) -> Spot
     requires { ⌜ Readable (now t) ⌝ }
     requires { ⌜ a < nodes (now t) + 2 ⌝ }
     requires { ⌜ Filled (countWord (now t)) (a + 1) (now work) ⌝ }
-    ensures { λ r. ⌜ Stands (now (s .entry)) (familyAt (now (t .entry)) a) r ⌝ }
+    ensures { λ r. ⌜ PlaceFound (now (s .entry)) (familyAt (now (t .entry)) a) r ⌝ }
 {
     let mut node = a;
     let mut i: usize = 0;
@@ -354,7 +354,8 @@ pub fn cheapest(costs: &[u16], t: &[u32], a: usize, work: &mut [u64], page: &mut
     requires { ⌜ Priceable (now t) (now costs) ⌝ }
     requires { ⌜ (0 < a) × (a < nodes (now t) + 2) ⌝ }
     requires { ⌜ a < length (now work) ⌝ }
-    ensures { λ r. ⌜ Bought (cheapestOf (now (costs .entry)) (familyAt (now (t .entry)) a)) (cost (now (costs .entry)) (cheapestOf (now (costs .entry)) (familyAt (now (t .entry)) a))) (now (page .entry)) (now (page .exit)) r ⌝ }
+    ensures { λ r. ⌜ Bought (cheapestOf (now (costs .entry)) (familyAt (now (t .entry)) a))
+        (cost (now (costs .entry)) (cheapestOf (now (costs .entry)) (familyAt (now (t .entry)) a))) (now (page .entry)) (now (page .exit)) r ⌝ }
 {
     prices(costs, t, a, work);
     let n = measure_cheapest(costs, t, a, work);

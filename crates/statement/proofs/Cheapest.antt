@@ -15,7 +15,7 @@ use Rattle.base.proofs.Bools.{never, is-false, and-left, and-right, and-both, o
 use Rattle.zdd.specs.Table.{Family, eqSet, elem, filter}
 use Rattle.zdd.proofs.Member.{eqSet-same, eqSet-eq}
 use Rattle.query.specs.Questions.{position, cost, noneBelow, cheapest}
-use Rattle.statement.proofs.Undo.{position-here, position-later}
+use Rattle.query.proofs.Seeks.{position-here, position-later}
 
 pub record Least (C : List ℕ) (F : Family) (s : List ℕ) : Type 0 where
   pub member : elem s F ≡ true

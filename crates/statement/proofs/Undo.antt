@@ -3,16 +3,16 @@
 use mathlib.Core.Path.{_≡_, refl, sym, ap, ap₂, _∙_, subst, subst⁻¹}
 use mathlib.Core.Logic.{_⊎_, inl, inr}
 use mathlib.Core.Bool.{true, false, not}
-use mathlib.Core.List.{List, [], _∷_, _++_, List·Memᴰ, List·Memᴰ·head, List·Memᴰ·tail}
+use mathlib.Core.List.{List, [], _∷_, _++_}
 use Prim.Native.Nat.{ℕ, zero, suc, _+_, _≤_, _<_}
 use native.Mathlib.Nat.{not-suc-le-zero, le-of-suc-le-suc}
 use native.Mathlib.Omega.{arith}
 use lib.ListN.{length, take, drop}
 use lib.Seq.{take-at}
 use borrow.Author.Tests.{leb-false, lt-ltb, lt-leb, le-ltb, not-false}
-use Rattle.base.proofs.Bools.{never, is-false, cases, or-cases}
+use Rattle.base.proofs.Bools.{never, is-false, cases}
 use Rattle.zdd.specs.Table.{Family, count, sets, eqSet, elem, soundb, Sound}
-use Rattle.zdd.proofs.Member.{eqSet-same, eqSet-eq}
+use Rattle.zdd.proofs.Member.{eqSet-same, eqSet-eq, elem-in}
 use Rattle.zdd.proofs.Tested.{sound-of}
 use Rattle.zdd.proofs.TableLaws.{sound-listed}
 use Rattle.zdd.proofs.Listing.{Listed, Once, listed-once, listed-elem}
@@ -25,6 +25,7 @@ use Rattle.exact_cover.proofs.Sets.{sets-member}
 use Rattle.statement.specs.declared.Picked.{Picked}
 use Rattle.statement.specs.declared.Placed.{Placed}
 use Rattle.statement.specs.Replies.{Reply, gives, reply, pickReply, placeReply}
+use Rattle.query.proofs.Seeks.{position-here, position-later}
 use Rattle.query.specs.Questions.{familyAt, nth, position, unknownPackage, anyUnknown, ascending}
 use Rattle.statement.specs.Refusals.{Fit, unsound, unknownAnswer, notTimetable, shortWork, uncountable, pastEnd, absent, shortPage, pickRefusal, placeRefusal}
 use Rattle.statement.specs.Postconditions.{PickPost, PlacePost, written}
@@ -32,14 +33,6 @@ use Rattle.statement.proofs.FirstOf.{pass, none, passed}
 use Rattle.statement.proofs.Admission.{fit-of, packages-fit, table-passes}
 
 -- ---- places in a family without repeats
-
-pub position-here : (s t : List ℕ) (F : Family) → eqSet s t ≡ true → position s (t ∷ F) ≡ 0
-unfolding position
-position-here s t F e = rw (e, position)
-
-pub position-later : (s t : List ℕ) (F : Family) → eqSet s t ≡ false → position s (t ∷ F) ≡ suc (position s F)
-unfolding position
-position-later s t F e = rw (e, position)
 
 position-nth : (F : Family) → Once F → (k : ℕ) → k < length F → position (nth F k) F ≡ k
 position-nth [] o k h = absurd (not-suc-le-zero h)
@@ -65,16 +58,7 @@ nth-position s (t ∷ F) e = go (cases (eqSet s t)) (nth-position s F)
 
 -- ---- a timetable of a family is one that place takes
 
-pub elem-member : (s : List ℕ) (F : Family) → elem s F ≡ true → List·Memᴰ s F
-unfolding elem
-elem-member s [] e = absurd (never e refl)
-elem-member s (t ∷ F) e = go (or-cases (eqSet s t) (elem s F) e) (elem-member s F)
-  where
-    go : (eqSet s t ≡ true) ⊎ (elem s F ≡ true) → (elem s F ≡ true → List·Memᴰ s F) → List·Memᴰ s (t ∷ F)
-    go (inl q) ih = List·Memᴰ·head (eqSet-eq s t q)
-    go (inr q) ih = List·Memᴰ·tail (ih q)
-
-all-known : (Q : Problem) (m : ℕ) (s : List ℕ) → Ascends Q (length (Q .packages)) m s → anyUnknown (Q .packages) s ≡ false
+pub all-known : (Q : Problem) (m : ℕ) (s : List ℕ) → Ascends Q (length (Q .packages)) m s → anyUnknown (Q .packages) s ≡ false
 unfolding anyUnknown unknownPackage
 all-known Q m [] h = refl
 all-known Q m (p ∷ s) h = rw (lt-leb (length (Q .packages)) p (h .0)) (all-known Q (suc (rank Q p)) s (h .2))
@@ -111,7 +95,7 @@ module _ {Q : Problem} {m : ℕ} {t : List ℕ} {a : ℕ} (R : Answerable Q m t 
   timetable : (s : List ℕ) → elem s (familyAt t a) ≡ true → notTimetable Q s ≡ false
   unfolding notTimetable
   timetable s e =
-      let h : Ascends Q (length (Q .packages)) 0 s = sets-member Q s few .0 (elem-member s (sets (keysOf Q)) (listed-elem (keysOf Q) (familyAt t a) listed s e)) in
+      let h : Ascends Q (length (Q .packages)) 0 s = sets-member Q s few .0 (elem-in s (sets (keysOf Q)) (listed-elem (keysOf Q) (familyAt t a) listed s e)) in
       rw (all-known Q 0 s h, ascends Q 0 s h)
 
   place-ready : (s : List ℕ) (words : ℕ) → a + 1 ≤ words → elem s (familyAt t a) ≡ true → placeRefusal Q m t a s words ≡ 0

@@ -5,10 +5,11 @@ use mathlib.Core.Logic.{_⊎_, inl, inr}
 use mathlib.Core.List.{List}
 use Prim.Native.Nat.{ℕ, suc, _+_, _-_, _*_, _<_, _≤_}
 use native.Mathlib.Nat.{eq-or-lt-of-le}
+use native.Mathlib.Decide.{decLt}
 use native.Mathlib.Omega.{arith}
 use lib.Dec.{ltb, eqb}
 use lib.ListN.{length, getD, List·getD-eq-default}
-use borrow.Author.Tests.{ltb-true, ltb-false, lt-ltb, eqb-true, eq-eqb}
+use borrow.Author.Tests.{ltb-true, lt-ltb, eqb-true, eq-eqb}
 use Rattle.base.proofs.Bools.{never, is-false, same-test, cases}
 use Rattle.zdd.specs.Table.{Node, node, blank, count, nodesOf, key, Over, Fine, Sound, soundb}
 use Rattle.zdd.proofs.Tested.{sound-of, sound-test}
@@ -64,28 +65,25 @@ leaf K ns i b c h = (omega arith, over-of-key K ns b c (λ v. absurd (omega arit
 
 -- what the two children's tests say of the node at index i
 module _ (K t : List ℕ) (i w : ℕ) (h : i < count t) (e : w ≡ 1 + 3 * i) where
-  abbrev Stands : Type 0
-  Stands = Fine K (nodesOf t) i (getD (nodesOf t) i blank)
+  abbrev NodeFits : Type 0
+  NodeFits = Fine K (nodesOf t) i (getD (nodesOf t) i blank)
 
-  abbrev Child : ℕ → Type 0
-  Child c = (c < suc (suc i)) × Over K (nodesOf t) (suc (key K (getD t w 0))) c
+  abbrev ChildFits : ℕ → Type 0
+  ChildFits c = (c < suc (suc i)) × Over K (nodesOf t) (suc (key K (getD t w 0))) c
 
-  at : Node
-  at = at-word t w
-
-  to-words : Stands → Fine K (nodesOf t) i (at-word t w)
+  to-words : NodeFits → Fine K (nodesOf t) i (at-word t w)
   to-words f = subst (λ (x : Node). Fine K (nodesOf t) i x) (node-at t i w h e) f
 
-  pub no-label : length K ≤ getD t w 0 → Tells Stands false
+  pub no-label : length K ≤ getD t w 0 → Tells NodeFits false
   no-label q = tells-no (λ f. omega (arith, to-words f .label-known))
 
-  pub no-hi : getD t (w + 2) 0 ≡ 0 → Tells Stands false
+  pub no-hi : getD t (w + 2) 0 ≡ 0 → Tells NodeFits false
   no-hi q = tells-no (λ f. omega (arith, to-words f .hi-some))
 
-  pub no-lo : (Child (getD t (w + 1) 0) → ⊥) → Tells Stands false
+  pub no-lo : (ChildFits (getD t (w + 1) 0) → ⊥) → Tells NodeFits false
   no-lo q = tells-no (λ f. q (to-words f .lo-below, to-words f .lo-after))
 
-  pub by-hi : {r : Bool} → getD t w 0 < length K → 0 < getD t (w + 2) 0 → Child (getD t (w + 1) 0) → Tells (Child (getD t (w + 2) 0)) r → Tells Stands r
+  pub by-hi : {r : Bool} → getD t w 0 < length K → 0 < getD t (w + 2) 0 → ChildFits (getD t (w + 1) 0) → Tells (ChildFits (getD t (w + 2) 0)) r → Tells NodeFits r
   by-hi a b l d =
       tells-same
       (λ z. subst (λ (x : Node). Fine K (nodesOf t) i x) (sym (node-at t i w h e))
@@ -96,33 +94,26 @@ module _ (K t : List ℕ) (i w : ℕ) (h : i < count t) (e : w ≡ 1 + 3 * i) wh
 -- ---- the words behind the nodes
 
 -- the words from w to j - 1 are 0
-pub record Cleared (t : List ℕ) (w j : ℕ) : Type 0 where
+pub record ZerosTo (t : List ℕ) (w j : ℕ) : Type 0 where
   pub from : w ≤ j
   pub clear : (k : ℕ) → w ≤ k → k < j → getD t k 0 ≡ 0
 
-pub cleared-none : (t : List ℕ) (w : ℕ) → Cleared t w w
-cleared-none t w = record { from = omega arith; clear = λ k a b. absurd (omega arith) }
+pub zeros-none : (t : List ℕ) (w : ℕ) → ZerosTo t w w
+zeros-none t w = record { from = omega arith; clear = λ k a b. absurd (omega arith) }
 
-pub cleared-more : {t : List ℕ} {w j : ℕ} → Cleared t w j → getD t j 0 ≡ 0 → Cleared t w (j + 1)
-cleared-more {t} {w} {j} c z = record { from = omega (arith, c .from); clear = λ k a b. go k a (eq-or-lt-of-le (omega arith)) }
+pub zeros-more : {t : List ℕ} {w j : ℕ} → ZerosTo t w j → getD t j 0 ≡ 0 → ZerosTo t w (j + 1)
+zeros-more {t} {w} {j} c z = record { from = omega (arith, c .from); clear = λ k a b. go k a (eq-or-lt-of-le (omega arith)) }
   where
     go : (k : ℕ) → w ≤ k → (k ≡ j) ⊎ (k < j) → getD t k 0 ≡ 0
     go k a (inl e) = ap (λ (i : ℕ). getD t i 0) e ∙ z
     go k a (inr l) = c .clear k a l
 
-pub cleared-all : {t : List ℕ} {w j : ℕ} → Cleared t w j → length t ≤ j → (k : ℕ) → w ≤ k → getD t k 0 ≡ 0
-cleared-all {t} {w} {j} c h k a = go (eq-or-lt k)
+pub zeros-all : {t : List ℕ} {w j : ℕ} → ZerosTo t w j → length t ≤ j → (k : ℕ) → w ≤ k → getD t k 0 ≡ 0
+zeros-all {t} {w} {j} c h k a = go (decLt k j)
   where
-    eq-or-lt : (k : ℕ) → (k < j) ⊎ (j ≤ k)
-    eq-or-lt k = at (cases (ltb k j))
-      where
-        at : (ltb k j ≡ true) ⊎ (ltb k j ≡ false) → (k < j) ⊎ (j ≤ k)
-        at (inl e) = inl (ltb-true k j e)
-        at (inr e) = inr (ltb-false k j e)
-
-    go : (k < j) ⊎ (j ≤ k) → getD t k 0 ≡ 0
-    go (inl l) = c .clear k a l
-    go (inr g) = List·getD-eq-default t 0 (omega arith)
+    go : Dec (k < j) → getD t k 0 ≡ 0
+    go (yes l) = c .clear k a l
+    go (no g) = List·getD-eq-default t 0 (omega arith)
 
 -- ---- a node joins the index
 
@@ -146,13 +137,13 @@ entered-new {ns} {i} {r} {x} {heads} {next} f p e d = record {
 -- ---- the pass
 
 -- the nodes before index i stand, none of them twice, and are indexed
-pub record Passed (K t : List ℕ) (i : ℕ) (heads next : List ℕ) : Type 0 where
+pub record NodesPassed (K t : List ℕ) (i : ℕ) (heads next : List ℕ) : Type 0 where
   pub upto : i ≤ count t
   pub each : (j : ℕ) → j < i → Fine K (nodesOf t) j (getD (nodesOf t) j blank)
   pub once : (j k : ℕ) → j < i → k < i → getD (nodesOf t) j blank ≡ getD (nodesOf t) k blank → j ≡ k
   pub index : IndexedTo (nodesOf t) (i + 2) heads next
 
-pub passed-none : (K t : List ℕ) (heads next : List ℕ) → IndexedTo (nodesOf t) 2 heads next → Passed K t 0 heads next
+pub passed-none : (K t : List ℕ) (heads next : List ℕ) → IndexedTo (nodesOf t) 2 heads next → NodesPassed K t 0 heads next
 passed-none K t heads next d = record {
   upto = omega arith;
   each = λ j h. absurd (omega arith);
@@ -160,8 +151,8 @@ passed-none K t heads next d = record {
   index = d;
 }
 
-pub passed-more : {K t heads next heads′ next′ : List ℕ} {i : ℕ} {r : Bool} → Passed K t i heads next → i < count t → Fine K (nodesOf t) i (getD (nodesOf t) i blank)
-    → Entered (nodesOf t) i heads′ next′ r → r ≡ true → Passed K t (i + 1) heads′ next′
+pub passed-more : {K t heads next heads′ next′ : List ℕ} {i : ℕ} {r : Bool} → NodesPassed K t i heads next → i < count t → Fine K (nodesOf t) i (getD (nodesOf t) i blank)
+    → Entered (nodesOf t) i heads′ next′ r → r ≡ true → NodesPassed K t (i + 1) heads′ next′
 passed-more {K} {t} {heads} {next} {heads′} {next′} {i} {r} p h f n y = record {
   upto = omega arith;
   each = λ j l. every j (eq-or-lt-of-le (omega arith));
@@ -193,7 +184,7 @@ not-once {K} {t} {heads} {next} {i} {r} h n y s =
     omega (arith, w .1 .0)
 
 -- the nodes passed, the words behind them decide
-pub decided : {K t heads next : List ℕ} {i w : ℕ} {r : Bool} → Passed K t i heads next → Room t → count t ≤ i → w ≡ 3 * count t + 1
+pub decided : {K t heads next : List ℕ} {i w : ℕ} {r : Bool} → NodesPassed K t i heads next → Room t → count t ≤ i → w ≡ 3 * count t + 1
     → Tells ((j : ℕ) → w ≤ j → getD t j 0 ≡ 0) r → Checked K t heads next r
 decided {K} {t} {heads} {next} {i} {w} {r} p room all e d = record {
   says = same-test r (soundb K t) (λ z. sound-test K t (sound z)) (λ z. kept z (cases r));

@@ -1,9 +1,10 @@
 -- The laws of a table's index: it is empty at first, it takes one more number, and it goes by the nodes that it has alone. Assumes nothing.
-use mathlib.Core.Path.{_≡_, refl, sym, ap, subst, _∙_}
+use mathlib.Core.Path.{_≡_, sym, ap, subst, _∙_}
 use mathlib.Core.List.{List, _++_}
-use Prim.Native.Nat.{ℕ, zero, suc, _+_, _-_, _<_, _≤_}
+use Prim.Native.Nat.{ℕ, zero, _+_, _-_, _<_, _≤_}
 use native.Mathlib.Omega.{arith}
 use lib.ListN.{length, getD, set, length-set, List·getD-append, replicate, length-replicate}
+use Rattle.base.proofs.Wiping.{zeros}
 use Rattle.zdd.specs.Table.{Node, blank}
 use Rattle.buckets.specs.Chain.{Index}
 use Rattle.table.specs.State.{hashOf, bucket, Fresh, IndexedTo}
@@ -20,7 +21,8 @@ pub none : (ns : List Node) {heads next : List ℕ} → Fresh heads next → Ind
 none ns {heads} {next} f = record { heads-long = f .heads-long; next-long = f .next-long; index = chain.empty (bucket ns) 2 heads next (omega arith) (omega (arith, f .next-long)) (f .zero) }
 
 -- the node at index i joins
-pub more : {ns : List Node} {heads next : List ℕ} (i h m : ℕ) (x : Node) → IndexedTo ns (i + 2) heads next → m ≡ i + 2 → i < 65534 → h < 65536 → h ≡ hashOf x → getD ns i blank ≡ x
+pub more : {ns : List Node} {heads next : List ℕ} (i h m : ℕ) (x : Node) → IndexedTo ns (i + 2) heads next → m ≡ i + 2
+    → i < 65534 → h < 65536 → h ≡ hashOf x → getD ns i blank ≡ x
     → IndexedTo ns (i + 1 + 2) (set heads h m) (set next m (getD heads h 0))
 more {ns} {heads} {next} i h m x d e few lt q n =
     let z : m + 1 ≡ i + 1 + 2 = omega arith in
@@ -42,11 +44,6 @@ behind {ns} {heads} {next} ms m h d = record {
   index = chain.same (bucket ns) (bucket (ns ++ ms)) 2 m heads next
       (λ k a b. sym (ap hashOf (List·getD-append ns ms blank (k - 2) (omega arith)))) (d .index);
 }
-
-zeros : (n h : ℕ) → getD {A = ℕ} (replicate n 0) h 0 ≡ 0
-zeros zero h = refl
-zeros (suc n) zero = refl
-zeros (suc n) (suc h) = zeros n h
 
 -- two new arrays of zeros
 pub fresh : (n : ℕ) → n ≡ 65536 → Fresh (replicate n 0) (replicate n 0)

@@ -1,38 +1,22 @@
 -- The three ends of find or make: there is no room, the node is there, the node is appended. Assumes nothing.
-use mathlib.Core.Path.{_≡_, refl, sym, ap, subst, _∙_}
-use mathlib.Core.Bool.{Bool, true, false, cond}
+use mathlib.Core.Path.{_≡_, refl, sym, ap, subst, subst⁻¹, _∙_}
+use mathlib.Core.Bool.{false}
 use mathlib.Core.List.{List, [], _∷_, _++_}
-use Prim.Native.Nat.{ℕ, suc, _+_, _-_, _*_, _/_, _<_, _≤_}
+use Prim.Native.Nat.{ℕ, suc, _+_, _-_, _*_, _<_, _≤_}
 use native.Mathlib.Omega.{arith}
-use lib.Dec.{leb}
 use lib.ListN.{length, getD, set}
 use lib.Seq.{getD-at}
-use borrow.Author.Tests.{leb-true, leb-false}
-use Rattle.zdd.specs.Table.{Node, node, blank, fork, count, capacity, nodesOf, family, Fine, Sound}
+use Rattle.zdd.specs.Table.{Node, node, blank, Family, fork, count, capacity, nodesOf, family, Fine}
 use Rattle.zdd.proofs.Grow.{family-node}
+use Rattle.zdd.proofs.Tested.{capacity-most, capacity-least}
 use Rattle.zdd.proofs.Words.{length-nodes, Appended, appended-nodes, appended-sound, stored}
-use Rattle.zdd.proofs.TableLaws.{appended-new}
-use Rattle.table.specs.State.{hashOf, Room, IndexedTo, Indexed, Found, Absent, Unique}
+use Rattle.zdd.specs.Work.{Got}
+use Rattle.zdd.proofs.Got.{got-eq, got-there, got-made, got-full}
+use Rattle.table.specs.State.{hashOf, Room, IndexedTo, Indexed, Found, Absent, May, Unique}
 use Rattle.table.proofs.IndexLaws as index
 use Rattle.table.proofs.GrownLaws.{grown-refl, grown-append}
 
 -- ---- room
-
-pub capacity-most : (t : List ℕ) → (capacity t ≤ 65534) × (capacity t ≤ (length t - 1) / 3)
-unfolding capacity
-capacity-most t = go (leb ((length t - 1) / 3) 65534) refl
-  where
-    go : (b : Bool) → leb ((length t - 1) / 3) 65534 ≡ b → (cond b ((length t - 1) / 3) 65534 ≤ 65534) × (cond b ((length t - 1) / 3) 65534 ≤ (length t - 1) / 3)
-    go true q = let z : (length t - 1) / 3 ≤ 65534 = leb-true ((length t - 1) / 3) 65534 q in (z, omega arith)
-    go false q = let z : 65534 < (length t - 1) / 3 = leb-false ((length t - 1) / 3) 65534 q in (omega arith, omega arith)
-
-pub capacity-least : (t : List ℕ) (n : ℕ) → n ≤ 65534 → n ≤ (length t - 1) / 3 → n ≤ capacity t
-unfolding capacity
-capacity-least t n a b = go (leb ((length t - 1) / 3) 65534)
-  where
-    go : (c : Bool) → n ≤ cond c ((length t - 1) / 3) 65534
-    go true = b
-    go false = a
 
 pub full-few : {t : List ℕ} → Room t → 65534 ≤ count t → count t ≡ capacity t
 full-few {t} r h = omega (arith, r .fit, r .few, capacity-most t, capacity-least t (count t) (r .few) (omega (arith, r .fit)))
@@ -42,17 +26,19 @@ full-long {t} r h = omega (arith, r .fit, r .few, capacity-most t, capacity-leas
 
 -- ---- there is no room
 
+-- x may be the next node
+next-fine : {K t : List ℕ} {x : Node} → May K t x → Fine K (nodesOf t) (length (nodesOf t)) x
+next-fine {K} {t} {x} m = subst (λ (k : ℕ). Fine K (nodesOf t) k x) (sym (length-nodes t)) (m .fine)
+
 pub made-none : {t heads next : List ℕ} {x : Node} → Indexed t heads next → Absent t x → count t ≡ capacity t → Unique t t heads next x 0
 made-none {t} {heads} {next} {x} d a e K m = record {
   grown = grown-refl (m .sound);
   indexed = d;
-  known = omega arith;
-  full = λ z. (a, e);
-  must = λ b f. refl;
-  still = λ h. refl;
-  next = λ h. absurd (omega arith);
-  node = λ h. absurd (omega arith);
-  denotes = λ h. absurd (omega arith);
+  gained = record {
+    got = λ n. absurd (n refl);
+    full = λ z.
+        got-full (capacity t) (m .sound .nodes) x (next-fine m) (λ i h. a i (omega (arith, length-nodes t))) 0 (omega arith) (omega (arith, length-nodes t));
+  };
 }
 
 -- ---- the node is there
@@ -61,31 +47,26 @@ pub made-old : {t heads next : List ℕ} {x : Node} {r : ℕ} → Indexed t head
 made-old {t} {heads} {next} {x} {r} d f p K m =
     let n = f .node p in
     let i : ℕ = r - 2 in
-    let low : 2 ≤ r = n .0 in
-    let below : r < count t + 2 = n .1 .0 in
-    let same : getD (nodesOf t) i blank ≡ x = n .1 .1 in
-    let w : i < length (nodesOf t) = omega (arith, length-nodes t) in
+    let w : i < length (nodesOf t) = omega (arith, n .0, n .1 .0, length-nodes t) in
     let y : Fine K (nodesOf t) i (getD (nodesOf t) i blank) = m .sound .nodes .each i w in
-    let z : r ≡ suc (suc i) = omega arith in
+    let z : r ≡ suc (suc i) = omega (arith, n .0) in
     record {
       grown = grown-refl (m .sound);
       indexed = d;
-      known = below;
-      full = λ e. absurd (omega arith);
-      must = λ a e. absurd (a i (omega arith) same);
-      still = λ h. refl;
-      next = λ h. absurd (omega arith);
-      node = λ h. (low, same);
-      denotes = λ h.
-          ap (family (nodesOf t)) z
-          ∙ family-node (nodesOf t) i w (y .lo-below) (y .hi-below)
-          ∙ ap (λ (v : Node). fork (v .label) (family (nodesOf t) (v .hi)) (family (nodesOf t) (v .lo))) same;
+      gained = record {
+        got = λ q.
+            got-eq (ap (family (nodesOf t)) z ∙ family-node (nodesOf t) i w (y .lo-below) (y .hi-below)
+            ∙ ap (λ (v : Node). fork (v .label) (family (nodesOf t) (v .hi)) (family (nodesOf t) (v .lo))) (n .1 .1))
+            (got-there (capacity t) false r (m .sound .nodes) (omega (arith, n .1 .0, length-nodes t)));
+        full = λ e. absurd (omega arith);
+      };
     }
 
 -- ---- the node is appended
 
 -- the index of the longer table
-pub indexed-more : {t t′ heads next : List ℕ} {x : Node} (h m : ℕ) → Appended t x t′ → Indexed t heads next → count t < 65534 → 3 * count t + 3 < length t → h < 65536 → h ≡ hashOf x → m ≡ count t + 2
+pub indexed-more : {t t′ heads next : List ℕ} {x : Node} (h m : ℕ) → Appended t x t′ → Indexed t heads next
+    → count t < 65534 → 3 * count t + 3 < length t → h < 65536 → h ≡ hashOf x → m ≡ count t + 2
     → Indexed t′ (set heads h m) (set next m (getD heads h 0))
 indexed-more {t} {t′} {heads} {next} {x} h m p d few fit lt q e =
     let z : count t + 1 ≡ count t′ = omega (arith, p .counted) in
@@ -97,26 +78,22 @@ indexed-more {t} {t′} {heads} {next} {x} h m p d few fit lt q e =
           (getD-at (nodesOf t) x [] blank (count t) (length-nodes t))));
     }
 
-pub made-new : {t t′ heads′ next′ : List ℕ} {x : Node} (r : ℕ) → Appended t x t′ → count t < 65534 → 3 * count t + 3 < length t → Absent t x → Indexed t′ heads′ next′ → r ≡ count t + 2
+pub made-new : {t t′ heads′ next′ : List ℕ} {x : Node} (r : ℕ) → Appended t x t′ → count t < 65534 → 3 * count t + 3 < length t
+    → Absent t x → Indexed t′ heads′ next′ → r ≡ count t + 2
     → Unique t t′ heads′ next′ x r
 made-new {t} {t′} {heads′} {next′} {x} r p few room a d e K m =
-    let s : Sound K t′ = appended-sound (m .sound) p (omega arith) few (m .fine) a in
-    let c : count t′ ≡ count t + 1 = omega (arith, p .counted) in
-    let y : r - 2 ≡ count t = omega arith in
+    let z : suc (suc (length (nodesOf t))) ≡ r = omega (arith, length-nodes t) in
+    let F : Family = fork (x .label) (family (nodesOf t) (x .hi)) (family (nodesOf t) (x .lo)) in
     record {
-      grown = grown-append p s;
+      grown = grown-append p (appended-sound (m .sound) p (omega arith) few (m .fine) a);
       indexed = d;
-      known = omega arith;
-      full = λ z. absurd (omega arith);
-      must = λ b f. absurd (omega (arith, capacity-least t (count t + 1) (omega arith) (omega arith)));
-      still = λ h. absurd (omega arith);
-      next = λ h. (e, (c, a));
-      node = λ h. (
-        omega arith,
-        ap (λ (i : ℕ). getD (nodesOf t′) i blank) y ∙ ap (λ (ns : List Node). getD ns (count t) blank) (appended-nodes p)
-            ∙ getD-at (nodesOf t) x [] blank (count t) (length-nodes t),
-      );
-      denotes = λ h. ap (family (nodesOf t′)) e ∙ appended-new p;
+      gained = record {
+        got = λ n.
+            subst⁻¹ (λ (ns : List Node). Got K (capacity t) (nodesOf t) false r ns false F) (appended-nodes p)
+            (subst (λ (k : ℕ). Got K (capacity t) (nodesOf t) false k (nodesOf t ++ (x ∷ [])) false F) z
+            (got-made (capacity t) (m .sound .nodes) x (next-fine m) (λ i h. a i (omega (arith, length-nodes t)))));
+        full = λ q. absurd (omega arith);
+      };
     }
 
 -- the stores of make, as the code makes them

@@ -10,12 +10,12 @@ use Rattle.buckets.specs.Chain.{Last}
 use Rattle.table.specs.State.{hashOf, bucket, IndexedTo, Found}
 use Rattle.table.proofs.IndexLaws.{bucket-of}
 
-pub record Walk (ns : List Node) (m : ℕ) (x : Node) (k : ℕ) : Type 0 where
+pub record FindWalk (ns : List Node) (m : ℕ) (x : Node) (k : ℕ) : Type 0 where
   pub below : k < m
   pub own : 0 < k → (2 ≤ k) × (bucket ns k ≡ hashOf x)
   pub past : (i : ℕ) → k < i + 2 → i + 2 < m → getD ns i blank ≡ x → ⊥
 
-pub start : {ns : List Node} {m : ℕ} {heads next : List ℕ} (x : Node) (h : ℕ) → IndexedTo ns m heads next → h ≡ hashOf x → h < 65536 → Walk ns m x (getD heads h 0)
+pub start : {ns : List Node} {m : ℕ} {heads next : List ℕ} (x : Node) (h : ℕ) → IndexedTo ns m heads next → h ≡ hashOf x → h < 65536 → FindWalk ns m x (getD heads h 0)
 start {ns} {m} {heads} {next} x h d q lt =
     let e = d .index .at-heads h (omega (arith, d .heads-long)) in
     record {
@@ -24,11 +24,11 @@ start {ns} {m} {heads} {next} x h d q lt =
       past = λ i p r n. e .gap (i + 2) p (omega arith) r (bucket-of ns (i + 2) i x (omega arith) n ∙ sym q);
     }
 
-module _ {ns : List Node} {m : ℕ} {heads next : List ℕ} (x : Node) (k : ℕ) (d : IndexedTo ns m heads next) (w : Walk ns m x k) (pos : 0 < k) where
+module _ {ns : List Node} {m : ℕ} {heads next : List ℕ} (x : Node) (k : ℕ) (d : IndexedTo ns m heads next) (w : FindWalk ns m x k) (pos : 0 < k) where
   pub falls : getD next k 0 < k
   falls = d .index .at-next k (w .own pos .0) (w .below) .below
 
-  pub step : (getD ns (k - 2) blank ≡ x → ⊥) → Walk ns m x (getD next k 0)
+  pub step : (getD ns (k - 2) blank ≡ x → ⊥) → FindWalk ns m x (getD next k 0)
   step f =
       let e = subst (λ (b : ℕ). Last (bucket ns) 2 b k (getD next k 0)) (w .own pos .1) (d .index .at-next k (w .own pos .0) (w .below)) in
       record {
@@ -44,8 +44,8 @@ module _ {ns : List Node} {m : ℕ} {heads next : List ℕ} (x : Node) (k : ℕ)
       at e f i p r n (no a) (no b) = w .past i (omega arith) r n
 
 -- what the walk finds
-pub hit : {ns : List Node} {m k : ℕ} {x : Node} → Walk ns m x k → getD ns (k - 2) blank ≡ x → 0 < k → Found ns m x k
+pub hit : {ns : List Node} {m k : ℕ} {x : Node} → FindWalk ns m x k → getD ns (k - 2) blank ≡ x → 0 < k → Found ns m x k
 hit w e pos = record { node = λ p. (w .own p .0, (w .below, e)); none = λ z. absurd (omega arith) }
 
-pub miss : {ns : List Node} {m k : ℕ} {x : Node} → Walk ns m x k → k ≡ 0 → Found ns m x 0
+pub miss : {ns : List Node} {m k : ℕ} {x : Node} → FindWalk ns m x k → k ≡ 0 → Found ns m x 0
 miss w z = record { node = λ p. absurd (omega arith); none = λ e i r n. w .past i (omega arith) r n }

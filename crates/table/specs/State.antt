@@ -5,6 +5,7 @@ use mathlib.Core.List.{List}
 use Prim.Native.Nat.{ℕ, _+_, _-_, _*_, _/_, _%_, _<_, _≤_}
 use lib.ListN.{length, getD, take}
 use Rattle.zdd.specs.Table.{Node, blank, fork, count, capacity, nodesOf, family, Fine, Sound, soundb}
+use Rattle.zdd.specs.Work.{Gained}
 use Rattle.buckets.specs.Chain.{Index}
 
 -- r says whether P holds
@@ -88,16 +89,7 @@ pub record May (K t : List ℕ) (x : Node) : Type 0 where
 pub record Made (K t t′ heads′ next′ : List ℕ) (x : Node) (r : ℕ) : Type 0 where
   pub grown : Grown K t t′
   pub indexed : Indexed t′ heads′ next′
-  pub known : r < count t′ + 2
-  -- 0 is said exactly where x is missing and the table is full
-  pub full : r ≡ 0 → Absent t x × (count t ≡ capacity t)
-  pub must : Absent t x → count t ≡ capacity t → r ≡ 0
-  -- an old number changes nothing, and a new one is the next
-  pub still : r < count t + 2 → t′ ≡ t
-  pub next : count t + 2 ≤ r → (r ≡ count t + 2) × ((count t′ ≡ count t + 1) × Absent t x)
-  -- what the number stands for
-  pub node : 0 < r → (2 ≤ r) × (getD (nodesOf t′) (r - 2) blank ≡ x)
-  pub denotes : 0 < r → family (nodesOf t′) r ≡ fork (x .label) (family (nodesOf t) (x .hi)) (family (nodesOf t) (x .lo))
+  pub gained : Gained 0 K (capacity t) (nodesOf t) r (nodesOf t′) (fork (x .label) (family (nodesOf t) (x .hi)) (family (nodesOf t) (x .lo)))
 
 -- what unique ensures, whatever the keys
 abbrev pub Unique : List ℕ → List ℕ → List ℕ → List ℕ → Node → ℕ → Type 0

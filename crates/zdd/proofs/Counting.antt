@@ -3,18 +3,17 @@
 use mathlib.Core.Path.{_≡_, refl, sym, ap, ap₂, _∙_, subst, subst⁻¹}
 use mathlib.Core.Logic.{_⊎_, inl, inr, ⊎-elim}
 use mathlib.Core.Bool.{Bool, true, false, cond, _||_}
-use mathlib.Core.List.{List, [], _∷_, _++_, List·Memᴰ·head, List·Memᴰ·tail, List·Memᴰ·cases-cons, List·Memᴰ·not-nil, List·Memᴰ·append-cases, Memᴰ·append-left, Memᴰ·append-right, Memᴰ·cast, append-nil}
+use mathlib.Core.List.{List, [], _∷_, _++_, List·Memᴰ·head, List·Memᴰ·tail, List·Memᴰ·cases-cons, List·Memᴰ·not-nil, List·Memᴰ·append-cases, Memᴰ·cast}
 use Prim.Native.Nat.{ℕ, zero, suc, _+_, _≤_, _<_, zero-le, suc-le-suc}
-use native.Mathlib.Nat.{le-antisymm, le-refl, not-suc-le-zero}
+use native.Mathlib.Nat.{le-refl, not-suc-le-zero}
 use native.Mathlib.Omega.{arith}
 use lib.Dec.{eqb}
-use lib.ListN.{length, getD, length-append}
-use lib.Seq.{getD-append-add}
-use Rattle.base.proofs.Bools.{never, is-false, cases, and-left, and-right, and-both, or-cases, or-left, or-right, eqb-same}
-use Rattle.zdd.specs.Table.{Node, blank, Family, fork, families, family, eqSet, elem, key, Nodes, _∈_}
-use Rattle.zdd.proofs.Member.{Avoids, avoids-at, from-avoids, family-from, eqSet-same, eqSet-eq}
+use lib.ListN.{length, getD}
+use Rattle.base.proofs.Bools.{never, cases, and-left, and-right, and-both, or-cases, or-left, or-right, eqb-same}
+use Rattle.zdd.specs.Table.{Node, blank, Family, fork, families, family, eqSet, key, Nodes, _∈_}
+use Rattle.zdd.proofs.Member.{Avoids, avoids-rest, avoids-first, from-avoids, family-from, eqSet-same, eqSet-eq}
 use Rattle.zdd.proofs.Grow.{length-families, families-append, family-ind, downward, family-node}
-use Rattle.zdd.proofs.Canon.{family-some, canonical}
+use Rattle.zdd.proofs.Canon.{family-some}
 use Rattle.zdd.specs.Branches.{starting, others, weight, branchesTo, branches, eqFamily, amongb, fresh, missing}
 
 -- nothing stands twice
@@ -79,6 +78,17 @@ pigeonhole (x ∷ xs) ys d s =
     subst (λ (n : ℕ). suc (length xs) ≤ n) (drop-length m)
     (suc-le-suc (pigeonhole xs (drop-one m) (d .1) (λ F k. drop-keeps m F (s F (List·Memᴰ·tail k)) (λ e. d .0 (Memᴰ·cast (sym e) k)))))
 
+-- a list without repeats that is as long as one that has all of its elements has all of that one's
+pub pigeonhole-back : (xs ys : List Family) → Distinct xs → ((F : Family) → F ∈ xs → F ∈ ys) → length ys ≤ length xs → (F : Family) → F ∈ ys → F ∈ xs
+pigeonhole-back xs ys d s l F m = go (cases (amongb F xs))
+  where
+    go : (amongb F xs ≡ true) ⊎ (amongb F xs ≡ false) → F ∈ xs
+    go (inl e) = among-of F xs e
+    go (inr e) =
+        let less : length xs ≤ length (drop-one m) =
+        pigeonhole xs (drop-one m) d (λ G g. drop-keeps m G (s G g) (λ q. never (among-test F xs (Memᴰ·cast (sym q) g)) e)) in
+        absurd (omega (arith, drop-length m))
+
 -- ---- `fresh`: those of the list that are not known, each once
 
 pub fresh-sound : (l known : List Family) (F : Family) → F ∈ fresh known l → (F ∈ l) × (F ∈ known → ⊥)
@@ -125,7 +135,8 @@ fresh-distinct (x ∷ xs) known = go (amongb x known) (fresh-distinct xs known) 
 
 -- ---- the counts: `new` are different families, unknown to the table, and branch families of F
 
-module _ (ns : List Node) (new : List Family) (F : Family) (distinct : Distinct new) (unknown : (G : Family) → G ∈ new → G ∈ families ns → ⊥) (below : (G : Family) → G ∈ new → G ∈ branches F) where
+module _ (ns : List Node) (new : List Family) (F : Family) (distinct : Distinct new)
+    (unknown : (G : Family) → G ∈ new → G ∈ families ns → ⊥) (below : (G : Family) → G ∈ new → G ∈ branches F) where
   into : (G : Family) → G ∈ new → G ∈ fresh (families ns) (branches F)
   into G m = ⊎-elim (λ k. absurd (unknown G m k)) (λ n. n) (fresh-all (branches F) (families ns) G (below G m))
 
@@ -133,13 +144,6 @@ module _ (ns : List Node) (new : List Family) (F : Family) (distinct : Distinct 
   pub at-most : length new ≤ missing ns F
   unfolding missing
   at-most = pigeonhole new (fresh (families ns) (branches F)) distinct into
-
-  -- as many, where with the known ones they are all
-  pub exactly : ((G : Family) → G ∈ branches F → (G ∈ families ns) ⊎ (G ∈ new)) → length new ≡ missing ns F
-  unfolding missing
-  exactly all =
-      le-antisymm at-most (pigeonhole (fresh (families ns) (branches F)) new (fresh-distinct (branches F) (families ns)) (λ G m.
-      let s = fresh-sound (branches F) (families ns) G m in ⊎-elim (λ k. absurd (s .1 k)) (λ n. n) (all G (s .0))))
 
   -- fewer, where one more is neither known nor among them
   pub fewer : (G : Family) → G ∈ branches F → (G ∈ families ns → ⊥) → (G ∈ new → ⊥) → length new < missing ns F
@@ -218,38 +222,27 @@ branches-cons p s F =
 
 -- ---- a node's branch families are its own and those of its children
 
-starting-none : (p : ℕ) (F : Family) → ((t : List ℕ) → elem (p ∷ t) F ≡ false) → starting p F ≡ []
-unfolding starting elem eqSet
+starting-none : (p : ℕ) (F : Family) → Avoids p F → starting p F ≡ []
+unfolding starting
 starting-none p [] h = refl
-starting-none p ([] ∷ F) h = starting-none p F h
-starting-none p ((q ∷ t) ∷ F) h = go (eqb p q) refl (starting-none p F (λ u. rest u))
-  where
-    rest : (u : List ℕ) → elem (p ∷ u) F ≡ false
-    rest u = is-false (elem (p ∷ u) F) (λ e. never (or-right (eqSet (p ∷ u) (q ∷ t)) (elem (p ∷ u) F) e) (h u))
+starting-none p ([] ∷ F) h = starting-none p F (avoids-rest p [] F h)
+starting-none p ((q ∷ t) ∷ F) h =
+    ap (λ (b : Bool). cond b (t ∷ starting p F) (starting p F)) (avoids-first p q t F h) ∙ starting-none p F (avoids-rest p (q ∷ t) F h)
 
-    go : (b : Bool) → eqb p q ≡ b → starting p F ≡ [] → cond b (t ∷ starting p F) (starting p F) ≡ []
-    go true e ih = absurd (never (or-left (eqSet (p ∷ t) (q ∷ t)) (elem (p ∷ t) F) (and-both (eqb p q) (eqSet t t) e (eqSet-same t))) (h t))
-    go false e ih = ih
-
-others-all : (p : ℕ) (F : Family) → ((t : List ℕ) → elem (p ∷ t) F ≡ false) → others p F ≡ F
-unfolding others elem eqSet
+others-all : (p : ℕ) (F : Family) → Avoids p F → others p F ≡ F
+unfolding others
 others-all p [] h = refl
-others-all p ([] ∷ F) h = ap (λ (G : Family). [] ∷ G) (others-all p F h)
-others-all p ((q ∷ t) ∷ F) h = go (eqb p q) refl (others-all p F (λ u. rest u))
-  where
-    rest : (u : List ℕ) → elem (p ∷ u) F ≡ false
-    rest u = is-false (elem (p ∷ u) F) (λ e. never (or-right (eqSet (p ∷ u) (q ∷ t)) (elem (p ∷ u) F) e) (h u))
-
-    go : (b : Bool) → eqb p q ≡ b → others p F ≡ F → cond b (others p F) ((q ∷ t) ∷ others p F) ≡ (q ∷ t) ∷ F
-    go true e ih = absurd (never (or-left (eqSet (p ∷ t) (q ∷ t)) (elem (p ∷ t) F) (and-both (eqb p q) (eqSet t t) e (eqSet-same t))) (h t))
-    go false e ih = ap (λ (G : Family). (q ∷ t) ∷ G) ih
+others-all p ([] ∷ F) h = ap (λ (G : Family). [] ∷ G) (others-all p F (avoids-rest p [] F h))
+others-all p ((q ∷ t) ∷ F) h =
+    ap (λ (b : Bool). cond b (others p F) ((q ∷ t) ∷ others p F)) (avoids-first p q t F h)
+    ∙ ap (λ (G : Family). (q ∷ t) ∷ G) (others-all p F (avoids-rest p (q ∷ t) F h))
 
 starting-fork : (p : ℕ) (F1 F0 : Family) → Avoids p F0 → starting p (fork p F1 F0) ≡ F1
-starting-fork p [] F0 a = starting-none p F0 (avoids-at p F0 a)
+starting-fork p [] F0 a = starting-none p F0 a
 starting-fork p (s ∷ F1) F0 a = starting-first p s (fork p F1 F0) ∙ ap (λ (G : Family). s ∷ G) (starting-fork p F1 F0 a)
 
 others-fork : (p : ℕ) (F1 F0 : Family) → Avoids p F0 → others p (fork p F1 F0) ≡ F0
-others-fork p [] F0 a = others-all p F0 (avoids-at p F0 a)
+others-fork p [] F0 a = others-all p F0 a
 others-fork p (s ∷ F1) F0 a = others-first p s (fork p F1 F0) ∙ others-fork p F1 F0 a
 
 pub branches-fork : (p : ℕ) (F1 F0 : Family) → (F1 ≡ [] → ⊥) → Avoids p F0 → branches (fork p F1 F0) ≡ fork p F1 F0 ∷ (branches F1 ++ branches F0)
@@ -293,173 +286,49 @@ nth-member [] k h = absurd (not-suc-le-zero h)
 nth-member (F ∷ l) zero h = List·Memᴰ·head refl
 nth-member (F ∷ l) (suc k) h = List·Memᴰ·tail (nth-member l k (omega arith))
 
-pub family-member : (xs : List Node) (j : ℕ) → j < suc (suc (length xs)) → family xs j ∈ families xs
+member-nth : (l : List Family) (G : Family) → G ∈ l → (k : ℕ) × (k < length l) × (G ≡ getD l k [])
+member-nth [] G m = absurd (List·Memᴰ·not-nil m)
+member-nth (F ∷ l) G m =
+    ⊎-elim {C = (k : ℕ) × (k < length (F ∷ l)) × (G ≡ getD (F ∷ l) k [])}
+    (λ e. (0, omega arith, e)) (λ n. let r = member-nth l G n in (suc (r .0), omega (arith, r .1), r .2)) (List·Memᴰ·cases-cons m)
+
+-- the families of a table are those of its numbers
+pub number-in : (ns : List Node) (k : ℕ) → k < suc (suc (length ns)) → family ns k ∈ families ns
 unfolding family families
-family-member xs j l = nth-member (families xs) j (omega (arith, length-families xs))
-
--- THEOREM: nodes ms behind the nodes ns of a sound table that then has the number k are at least as many as ns lacks for k's family
-pub least-growth : {K : List ℕ} (ns ms : List Node) → Nodes K (ns ++ ms) → (k : ℕ) → k < suc (suc (length (ns ++ ms)))
-    → missing ns (family (ns ++ ms) k) ≤ length ms
-unfolding missing
-least-growth {K} ns ms n k h =
-    subst (λ (c : ℕ). length new ≤ c) (rest .2)
-    (pigeonhole new (rest .0) (fresh-distinct (branches (family (ns ++ ms) k)) (families ns)) (λ G m.
-    let s = fresh-sound (branches (family (ns ++ ms) k)) (families ns) G m in
-    let j = branch-known n k h G (s .0) in
-    let i : G ∈ families ns ++ rest .0 =
-    subst (λ (l : List Family). G ∈ l) (rest .1) (Memᴰ·cast (j .2) (member (j .0) (j .1))) in
-    ⊎-elim (λ c. absurd (s .1 c)) (λ c. c) (List·Memᴰ·append-cases (families ns) i)))
-  where
-    new : List Family
-    new = fresh (families ns) (branches (family (ns ++ ms) k))
-
-    rest : (l : List Family) × (families (ns ++ ms) ≡ families ns ++ l) × (length l ≡ length ms)
-    rest = families-append ns ms
-
-    member : (j : ℕ) → j < suc (suc (length (ns ++ ms))) → family (ns ++ ms) j ∈ families (ns ++ ms)
-    member j l = family-member (ns ++ ms) j l
-
--- a table lacks nothing for a family that it holds
-pub known-missing : {K : List ℕ} (ns : List Node) → Nodes K ns → (k : ℕ) → k < suc (suc (length ns)) → missing ns (family ns k) ≡ 0
-known-missing {K} ns n k h =
-    let e : ns ++ [] ≡ ns = append-nil ns in
-    let g : missing ns (family (ns ++ []) k) ≤ 0 =
-    least-growth ns [] (subst⁻¹ (λ (l : List Node). Nodes K l) e n) k (subst⁻¹ (λ (l : List Node). k < suc (suc (length l))) e h) in
-    ap (λ (l : List Node). missing ns (family l k)) (sym e) ∙ le-antisymm g zero-le
-
--- ---- branch families of branch families
-
-pub hi-under : (p : ℕ) (s : List ℕ) (F G : Family) → G ∈ branches (starting p ((p ∷ s) ∷ F)) → G ∈ branches ((p ∷ s) ∷ F)
-hi-under p s F G m = subst⁻¹ (λ (l : List Family). G ∈ l) (branches-cons p s F) (List·Memᴰ·tail (Memᴰ·append-left _ m))
-
-pub lo-under : (p : ℕ) (s : List ℕ) (F G : Family) → G ∈ branches (others p ((p ∷ s) ∷ F)) → G ∈ branches ((p ∷ s) ∷ F)
-lo-under p s F G m =
-    subst⁻¹ (λ (l : List Family). G ∈ l) (branches-cons p s F) (List·Memᴰ·tail (Memᴰ·append-right (branches (starting p ((p ∷ s) ∷ F))) m))
-
-pub branches-empty : (F : Family) → branches ([] ∷ F) ≡ []
-unfolding branches branchesTo weight
-branches-empty F = refl
-
-closed-at : (n : ℕ) (F : Family) → weight F ≤ n → (G H : Family) → G ∈ branches F → H ∈ branches G → H ∈ branches F
-unfolding weight
-closed-at zero [] w G H g h = absurd (List·Memᴰ·not-nil (subst (λ (l : List Family). G ∈ l) branches-nil g))
-closed-at zero (s ∷ F) w G H g h = absurd (not-suc-le-zero w)
-closed-at (suc n) [] w G H g h = absurd (List·Memᴰ·not-nil (subst (λ (l : List Family). G ∈ l) branches-nil g))
-closed-at (suc n) ([] ∷ F) w G H g h = absurd (List·Memᴰ·not-nil (subst (λ (l : List Family). G ∈ l) (branches-empty F) g))
-closed-at (suc n) ((p ∷ s) ∷ F) w G H g h =
-    let a = weight-hi p s F in
-    let b = weight-lo p s F in
-    ⊎-elim (λ e. subst (λ (X : Family). H ∈ branches X) e h)
-    (λ m. ⊎-elim
-    (λ x. hi-under p s F H (closed-at n (starting p ((p ∷ s) ∷ F)) (omega arith) G H x h))
-    (λ y. lo-under p s F H (closed-at n (others p ((p ∷ s) ∷ F)) (omega arith) G H y h))
-    (List·Memᴰ·append-cases (branches (starting p ((p ∷ s) ∷ F))) m))
-    (List·Memᴰ·cases-cons (subst (λ (l : List Family). G ∈ l) (branches-cons p s F) g))
-
--- the branch families of a branch family of F are branch families of F
-pub branches-closed : (F G H : Family) → G ∈ branches F → H ∈ branches G → H ∈ branches F
-branches-closed F = closed-at (weight F) F (le-refl (weight F))
-
--- ---- the growth of a table whose new nodes all serve F
-
-index-of : (l : List Family) (F : Family) → F ∈ l → (k : ℕ) × (k < length l) × (F ≡ getD l k [])
-index-of [] F m = absurd (List·Memᴰ·not-nil m)
-index-of (G ∷ l) F m =
-    ⊎-elim {C = (k : ℕ) × (k < length (G ∷ l)) × (F ≡ getD (G ∷ l) k [])}
-    (λ e. (0, omega arith, e)) (λ n. let r = index-of l F n in (suc (r .0), omega (arith, r .1), r .2)) (List·Memᴰ·cases-cons m)
-
-distinct-at : (l : List Family) → ((i j : ℕ) → i < length l → j < length l → getD l i [] ≡ getD l j [] → i ≡ j) → Distinct l
-distinct-at [] f = tt
-distinct-at (F ∷ l) f = (
-  λ m. let r = index-of l F m in let z : 0 ≡ suc (r .0) = f 0 (suc (r .0)) (omega arith) (omega (arith, r .1)) (r .2) in omega arith,
-  distinct-at l (λ i j a b e. let z : suc i ≡ suc j = f (suc i) (suc j) (omega arith) (omega arith) e in omega arith),
-)
-
-distinct-right : {A : Type 0} (a b : List A) → Distinct (a ++ b) → Distinct b × ((x : A) → x ∈ b → x ∈ a → ⊥)
-distinct-right [] b d = (d, λ x m n. List·Memᴰ·not-nil n)
-distinct-right (y ∷ a) b d =
-    let r = distinct-right a b (d .1) in
-    (r .0, λ x m n. ⊎-elim (λ e. d .0 (Memᴰ·append-right a (Memᴰ·cast (sym e) m))) (λ k. r .1 x m k) (List·Memᴰ·cases-cons n))
-
-families-distinct : {K : List ℕ} {ns : List Node} → Nodes K ns → Distinct (families ns)
-unfolding family
-families-distinct {K} {ns} n =
-    distinct-at (families ns) (λ i j a b e. canonical n i j (omega (arith, length-families ns)) (omega (arith, length-families ns)) e)
-
-module _ {K : List ℕ} (ns ms : List Node) (n : Nodes K (ns ++ ms)) (F : Family)
-    (serve : (j : ℕ) → suc (suc (length ns)) ≤ j → j < suc (suc (length (ns ++ ms))) → family (ns ++ ms) j ∈ branches F) where
-  news : (l : List Family) × (families (ns ++ ms) ≡ families ns ++ l) × (length l ≡ length ms)
-  news = families-append ns ms
-
-  news-apart : Distinct (news .0) × ((G : Family) → G ∈ news .0 → G ∈ families ns → ⊥)
-  news-apart = distinct-right (families ns) (news .0) (subst Distinct (news .1) (families-distinct n))
-
-  news-serve : (G : Family) → G ∈ news .0 → G ∈ branches F
-  unfolding family
-  news-serve G m =
-      let r = index-of (news .0) G m in
-      let j : ℕ = length (families ns) + r .0 in
-      let e : family (ns ++ ms) j ≡ G =
-      ap (λ (l : List Family). getD l j []) (news .1) ∙ getD-append-add (families ns) (news .0) (r .0) [] ∙ sym (r .2) in
-      subst (λ (X : Family). X ∈ branches F) e
-      (serve j (omega (arith, length-families ns)) (omega (arith, r .1, length-families ns, news .2, length-append ns ms)))
-
-  -- no more are made than are missing
-  pub growth-at-most : length ms ≤ missing ns F
-  growth-at-most =
-      subst (λ (c : ℕ). c ≤ missing ns F) (news .2) (at-most ns (news .0) F (news-apart .0) (news-apart .1) news-serve)
-
-  -- THEOREM: as many, once F has a number
-  pub growth-exactly : (k : ℕ) → k < suc (suc (length (ns ++ ms))) → family (ns ++ ms) k ≡ F → length ms ≡ missing ns F
-  growth-exactly k h e = le-antisymm growth-at-most (subst (λ (X : Family). missing ns X ≤ length ms) e (least-growth ns ms n k h))
-
-  -- THEOREM: fewer, while a branch family of F has none: a table without room is then full
-  pub growth-full : (G : Family) → G ∈ branches F → (G ∈ families (ns ++ ms) → ⊥) → length ms < missing ns F
-  growth-full G g d =
-      subst (λ (c : ℕ). c < missing ns F) (news .2)
-      (fewer ns (news .0) F (news-apart .0) (news-apart .1) news-serve G g
-      (λ m. d (subst⁻¹ (λ (l : List Family). G ∈ l) (news .1) (Memᴰ·append-left (news .0) m)))
-      (λ m. d (subst⁻¹ (λ (l : List Family). G ∈ l) (news .1) (Memᴰ·append-right (families ns) m))))
-
--- ---- a table that grew by just the missing nodes
-
--- a list without repeats that is as long as one that has all of its elements has all of that one's
-pub pigeonhole-back : (xs ys : List Family) → Distinct xs → ((F : Family) → F ∈ xs → F ∈ ys) → length ys ≤ length xs → (F : Family) → F ∈ ys → F ∈ xs
-pigeonhole-back xs ys d s l F m = go (cases (amongb F xs))
-  where
-    go : (amongb F xs ≡ true) ⊎ (amongb F xs ≡ false) → F ∈ xs
-    go (inl e) = among-of F xs e
-    go (inr e) =
-        let less : length xs ≤ length (drop-one m) =
-        pigeonhole xs (drop-one m) d (λ G g. drop-keeps m G (s G g) (λ q. never (among-test F xs (Memᴰ·cast (sym q) g)) e)) in
-        absurd (omega (arith, drop-length m))
-
--- THEOREM: nodes ms behind ns, as many as ns lacks for the family of k: what a number denotes was denoted before, or is a branch family of k's
-pub growth-serves : {K : List ℕ} (ns ms : List Node) → Nodes K (ns ++ ms) → (k : ℕ) → k < suc (suc (length (ns ++ ms)))
-    → length ms ≡ missing ns (family (ns ++ ms) k) → (G : Family) → G ∈ families (ns ++ ms) → (G ∈ families ns) ⊎ (G ∈ branches (family (ns ++ ms) k))
-unfolding missing
-growth-serves {K} ns ms n k h e G g =
-    ⊎-elim (λ a. inl a)
-    (λ b. inr (fresh-sound (branches F) (families ns) G
-    (pigeonhole-back (fresh (families ns) (branches F)) (l .0) (fresh-distinct (branches F) (families ns)) into-new (omega (arith, l .2)) G b) .0))
-    (List·Memᴰ·append-cases (families ns) (subst (λ (q : List Family). G ∈ q) (l .1) g))
-  where
-    F : Family
-    F = family (ns ++ ms) k
-
-    l : (l : List Family) × (families (ns ++ ms) ≡ families ns ++ l) × (length l ≡ length ms)
-    l = families-append ns ms
-
-    into-new : (H : Family) → H ∈ fresh (families ns) (branches F) → H ∈ l .0
-    into-new H m =
-        let s = fresh-sound (branches F) (families ns) H m in
-        let j = branch-known n k h H (s .0) in
-        ⊎-elim (λ c. absurd (s .1 c)) (λ c. c)
-        (List·Memᴰ·append-cases (families ns) (subst (λ (q : List Family). H ∈ q) (l .1) (Memᴰ·cast (j .2) (family-member (ns ++ ms) (j .0) (j .1)))))
+number-in ns k h = nth-member (families ns) k (omega (arith, length-families ns))
 
 pub number-of : (ns : List Node) (G : Family) → G ∈ families ns → (k : ℕ) × (k < suc (suc (length ns))) × (G ≡ family ns k)
 unfolding family
-number-of ns G m = let r = index-of (families ns) G m in (r .0, omega (arith, r .1, length-families ns), r .2)
+number-of ns G m = let r = member-nth (families ns) G m in (r .0, omega (arith, r .1, length-families ns), r .2)
 
-pub number-in : (ns : List Node) (k : ℕ) → k < suc (suc (length ns)) → family ns k ∈ families ns
-number-in ns k h = family-member ns k h
+-- nodes ms behind the nodes ns of a sound table that then has the number k
+module _ {K : List ℕ} (ns ms : List Node) (n : Nodes K (ns ++ ms)) (k : ℕ) (h : k < suc (suc (length (ns ++ ms)))) where
+  lacked : List Family
+  lacked = fresh (families ns) (branches (family (ns ++ ms) k))
+
+  added : (l : List Family) × (families (ns ++ ms) ≡ families ns ++ l) × (length l ≡ length ms)
+  added = families-append ns ms
+
+  lacked-added : (G : Family) → G ∈ lacked → G ∈ added .0
+  unfolding lacked
+  lacked-added G m =
+      let s = fresh-sound (branches (family (ns ++ ms) k)) (families ns) G m in
+      let j = branch-known n k h G (s .0) in
+      ⊎-elim (λ c. absurd (s .1 c)) (λ c. c)
+      (List·Memᴰ·append-cases (families ns) (subst (λ (l : List Family). G ∈ l) (added .1) (Memᴰ·cast (j .2) (number-in (ns ++ ms) (j .0) (j .1)))))
+
+  -- THEOREM: they are at least as many as ns lacks for k's family
+  pub least-growth : missing ns (family (ns ++ ms) k) ≤ length ms
+  unfolding missing lacked
+  least-growth =
+      subst (λ (c : ℕ). length lacked ≤ c) (added .2)
+      (pigeonhole lacked (added .0) (fresh-distinct (branches (family (ns ++ ms) k)) (families ns)) lacked-added)
+
+  -- THEOREM: where they are just as many, what a number denotes was denoted before, or is a branch family of k's
+  pub growth-serves : length ms ≡ missing ns (family (ns ++ ms) k) → (G : Family) → G ∈ families (ns ++ ms) → (G ∈ families ns) ⊎ (G ∈ branches (family (ns ++ ms) k))
+  unfolding missing lacked
+  growth-serves e G g =
+      ⊎-elim (λ a. inl a)
+      (λ b. inr (fresh-sound (branches (family (ns ++ ms) k)) (families ns) G
+      (pigeonhole-back lacked (added .0) (fresh-distinct (branches (family (ns ++ ms) k)) (families ns)) lacked-added (omega (arith, added .2)) G b) .0))
+      (List·Memᴰ·append-cases (families ns) (subst (λ (l : List Family). G ∈ l) (added .1) g))

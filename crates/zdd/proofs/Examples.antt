@@ -1,11 +1,11 @@
 -- Small tables, computed. Assumes nothing.
-use mathlib.Core.Path.{_≡_, refl}
+use mathlib.Core.Path.{_≡_, refl, sym, ap, _∙_}
 use mathlib.Core.Bool.{true, false}
-use mathlib.Core.List.{List, [], _∷_}
+use mathlib.Core.List.{List, [], _∷_, map}
 use Prim.Native.Nat.{ℕ}
-use Rattle.zdd.specs.Table.{node, nodesOf, family, order, sets, elem, filter, soundb, Sound, Keys}
-use Rattle.zdd.proofs.Keyed.{keysb, keys-iff}
-use Rattle.zdd.proofs.Tested.{sound-of}
+use lib.ListN.{List·getD-map}
+use Rattle.zdd.specs.Table.{Node, node, nodesOf, family, order, sets, elem, filter, onceb, soundb, Sound, Keys}
+use Rattle.zdd.proofs.Tested.{sound-of, once-of}
 use Rattle.zdd.specs.Operations.{union, combine}
 
 -- label 1 comes first, then 2, then 0
@@ -48,9 +48,13 @@ sound = refl
 is-sound : Sound keys table
 is-sound = sound-of keys table sound
 
+-- no key twice, by the test for nodes
+by-key : ℕ → Node
+by-key k = node k 0 0
+
 keyed : Keys keys
-unfolding keysb
-keyed = keys-iff keys .0 refl
+unfolding onceb by-key
+keyed = record { apart = λ p q a b e. once-of (map by-key keys) refl p q a b (List·getD-map by-key keys p 0 ∙ ap by-key e ∙ sym (List·getD-map by-key keys q 0)) }
 
 -- ---- refused: no word 0; a count past the words; a label past the keys; a child that is no smaller number; hi 0; a child that begins
 -- no later; a triple twice; a word behind the nodes

@@ -15,9 +15,9 @@ use Rattle.zdd.proofs.Extend.{nodes-append}
 use Rattle.zdd.proofs.Words.{length-nodes}
 use Rattle.zdd.specs.Branches.{missing}
 use Rattle.zdd.proofs.Nowaste.{nowaste-length, nowaste-keeps, nowaste-old}
-use Rattle.zdd.specs.Work.{Split, Got}
-use Rattle.zdd.proofs.Room.{worked-start, worked-when, worked-eq, worked-calm, worked-made, worked-full, count-exactly, full-exactly}
-use Rattle.zdd.proofs.Split.{worked-split, worked-split-lo}
+use Rattle.zdd.specs.Work.{Split, Worked, Got}
+use Rattle.zdd.proofs.Room.{worked-start, worked-under, worked-then, worked-when, worked-eq, worked-calm, worked-made, worked-full, count-exactly, full-exactly}
+use Rattle.zdd.proofs.Split.{split-hi, split-lo, worked-split}
 
 pub got-eq : {K : List ℕ} {c k : ℕ} {ns ns′ : List Node} {b b′ : Bool} {F G : Family} → F ≡ G → Got K c ns b k ns′ b′ F → Got K c ns b k ns′ b′ G
 got-eq e g = record { sound = g .sound; known = g .known; work = worked-eq e (g .work); holds = λ q. g .holds q ∙ e }
@@ -43,38 +43,31 @@ module _ {K : List ℕ} (c : ℕ) {ns : List Node} (n : Nodes K ns) (x : Node) (
   pub got-full : (k : ℕ) → k < suc (suc (length ns)) → c ≤ length ns → Got K c ns false k ns true (fork (x .label) (family ns (x .hi)) (family ns (x .lo)))
   got-full k h r = record { sound = n; known = h; work = worked-full n x f c fresh r; holds = λ e. absurd (never refl e) }
 
+-- the parts, whatever their order, and then the node
+got-fork : {K : List ℕ} {c p k : ℕ} {ns n ns′ : List Node} {b d b′ : Bool} {R R1 R0 G : Family} → Split K R p R1 R0 → Worked c ns b n d R
+    → (d ≡ false → G ≡ fork p R1 R0) → Got K c n d k ns′ b′ G → Got K c ns b k ns′ b′ R
+got-fork s w parts g = record {
+  sound = g .sound;
+  known = g .known;
+  work = worked-split s w (worked-when parts (g .work));
+  holds = λ e. g .holds e ∙ parts (worked-calm (g .work) e) ∙ sym (s .is);
+}
+
 -- hi, then lo, then the node
 pub got-split : {K : List ℕ} {c p h l k : ℕ} {ns n1 n0 ns′ : List Node} {b b1 b0 b′ : Bool} {R R1 R0 : Family} → Split K R p R1 R0
     → Got K c ns b h n1 b1 R1 → Got K c n1 b1 l n0 b0 R0 → Got K c n0 b0 k ns′ b′ (fork p (family n0 h) (family n0 l)) → Got K c ns b k ns′ b′ R
-got-split {K} {c} {p} {h} {l} {k} {ns} {n1} {n0} {ns′} {b} {b1} {b0} {b′} {R} {R1} {R0} s g1 g0 g = record {
-  sound = g .sound;
-  known = g .known;
-  work = worked-split s (g1 .work) (g0 .work) (worked-when parts (g .work));
-  holds = λ e. g .holds e ∙ parts (worked-calm (g .work) e) ∙ sym (s .is);
-}
-  where
-    parts : b0 ≡ false → fork p (family n0 h) (family n0 l) ≡ fork p R1 R0
-    parts e = ap₂ (fork p) (nowaste-keeps (g0 .work .nowaste) h (g1 .known) ∙ g1 .holds (worked-calm (g0 .work) e)) (g0 .holds e)
+got-split {p = p} {h = h} s g1 g0 g =
+    got-fork s (worked-then (worked-under (g1 .work) (split-hi s)) (worked-under (g0 .work) (split-lo s)))
+    (λ e. ap₂ (fork p) (nowaste-keeps (g0 .work .nowaste) h (g1 .known) ∙ g1 .holds (worked-calm (g0 .work) e)) (g0 .holds e)) g
 
 -- lo, then hi, then the node
 pub got-split-lo : {K : List ℕ} {c p h l k : ℕ} {ns n1 n0 ns′ : List Node} {b b1 b0 b′ : Bool} {R R1 R0 : Family} → Split K R p R1 R0
     → Got K c ns b l n0 b0 R0 → Got K c n0 b0 h n1 b1 R1 → Got K c n1 b1 k ns′ b′ (fork p (family n1 h) (family n1 l)) → Got K c ns b k ns′ b′ R
-got-split-lo {K} {c} {p} {h} {l} {k} {ns} {n1} {n0} {ns′} {b} {b1} {b0} {b′} {R} {R1} {R0} s g0 g1 g = record {
-  sound = g .sound;
-  known = g .known;
-  work = worked-split-lo s (g0 .work) (g1 .work) (worked-when parts (g .work));
-  holds = λ e. g .holds e ∙ parts (worked-calm (g .work) e) ∙ sym (s .is);
-}
-  where
-    parts : b1 ≡ false → fork p (family n1 h) (family n1 l) ≡ fork p R1 R0
-    parts e = ap₂ (fork p) (g1 .holds e) (nowaste-keeps (g1 .work .nowaste) l (g0 .known) ∙ g0 .holds (worked-calm (g1 .work) e))
+got-split-lo {p = p} {l = l} s g0 g1 g =
+    got-fork s (worked-then (worked-under (g0 .work) (split-lo s)) (worked-under (g1 .work) (split-hi s)))
+    (λ e. ap₂ (fork p) (g1 .holds e) (nowaste-keeps (g1 .work .nowaste) l (g0 .known) ∙ g0 .holds (worked-calm (g1 .work) e))) g
 
 -- the number of hi is 0: no node, and the number is lo's
-pub got-none : {K : List ℕ} {c p l : ℕ} {ns n1 n0 : List Node} {b b1 b0 : Bool} {R R1 R0 : Family} → Split K R p R1 R0
-    → Got K c ns b 0 n1 b1 R1 → Got K c n1 b1 l n0 b0 R0 → Got K c ns b l n0 b0 R
-got-none {K} {c} {p} {l} {ns} {n1} {n0} {b} {b1} {b0} s g1 g0 =
-    got-split s g1 g0 (got-eq (ap (λ (F : Family). fork p F (family n0 l)) (sym (family-zero n0))) (got-there c b0 l (g0 .sound) (g0 .known)))
-
 pub got-none-lo : {K : List ℕ} {c p l : ℕ} {ns n1 n0 : List Node} {b b1 b0 : Bool} {R R1 R0 : Family} → Split K R p R1 R0
     → Got K c ns b l n0 b0 R0 → Got K c n0 b0 0 n1 b1 R1 → Got K c ns b l n1 b1 R
 got-none-lo {K} {c} {p} {l} {ns} {n1} {n0} {b} {b1} {b0} s g0 g1 =

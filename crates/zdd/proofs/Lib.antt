@@ -3,7 +3,6 @@ pub mod Grow
 pub mod Member
 pub mod Canon
 pub mod Sorting
-pub mod Keyed
 pub mod Listing
 pub mod Tested
 pub mod Extend

@@ -1,6 +1,6 @@
 -- THEOREM: every family of a sound table is a part of all sets, in their order; so families with the same sets are equal. Assumes nothing.
 use mathlib.Core.Path.{_≡_, refl, sym, ap, ap₂, _∙_, subst}
-use mathlib.Core.Bool.{Bool, true, false, cond, _&&_, _||_}
+use mathlib.Core.Bool.{Bool, true, false, cond, _&&_, _||_, and-false}
 use mathlib.Core.List.{List, [], _∷_, _++_, map, Sublistᴰ, Sublistᴰ·slnil, Sublistᴰ·cons, Sublistᴰ·cons-cons, Sublistᴰ·nil-sublist, Sublistᴰ·append, Sublistᴰ·refl, Sublistᴰ·trans, Sublistᴰ·cases-cons}
 use mathlib.Core.Logic.{_⊎_, inl, inr}
 use Prim.Native.Nat.{ℕ, suc, _<_}
@@ -26,10 +26,10 @@ filter-same P Q (t ∷ F) h =
     (h t (or-left (eqSet t t) (elem t F) (eqSet-same t)))
     (filter-same P Q F (λ u e. h u (or-right (eqSet u t) (elem u F) e)))
 
-pub filter-none : (F : Family) → filter (λ t. false) F ≡ []
+pub filter-none : {A : Type 0} (l : List A) → filter (λ (a : A). false) l ≡ []
 unfolding filter
 filter-none [] = refl
-filter-none (t ∷ F) = filter-none F
+filter-none (a ∷ l) = filter-none l
 
 pub filter-part : (P : List ℕ → Bool) (F : Family) → Sublistᴰ (filter P F) F
 unfolding filter
@@ -42,11 +42,7 @@ filter-part P (t ∷ F) = go (P t) (filter-part P F)
 
 pub elem-filter : (P : List ℕ → Bool) (t : List ℕ) (F : Family) → elem t (filter P F) ≡ (P t && elem t F)
 unfolding filter elem
-elem-filter P t [] = none (P t)
-  where
-    none : (b : Bool) → false ≡ (b && false)
-    none true = refl
-    none false = refl
+elem-filter P t [] = sym (and-false (P t))
 elem-filter P t (u ∷ F) = go (P u) (P t) (eqSet t u) refl (λ e. ap P (sym (eqSet-eq t u e))) (elem-filter P t F)
   where
     mix : (c d x : Bool) → (d ≡ true → true ≡ c) → (d || (c && x)) ≡ (c && (d || x))
@@ -133,16 +129,27 @@ once-append (f ∷ F) G o q d = (
   once-append F G (o .1) q (λ t e. d t (or-right (eqSet t f) (elem t F) e)),
 )
 
--- a set of `allSets ps` begins with a label of ps
-all-has : (ps : List ℕ) (q : ℕ) (t : List ℕ) → elem (q ∷ t) (allSets ps) ≡ true → has q ps ≡ true
+pub has-first : (p : ℕ) (t : List ℕ) → has p (p ∷ t) ≡ true
+unfolding has
+has-first p t = or-left (eqb p p) (has p t) (eqb-same p)
+
+-- a set of `allSets ps` has labels of ps only
+pub all-labels : (ps t : List ℕ) (r : ℕ) → elem t (allSets ps) ≡ true → has r t ≡ true → has r ps ≡ true
 unfolding allSets has elem
-all-has [] q t e = absurd (never e refl)
-all-has (p ∷ ps) q t e = go (fork-cases p q t (allSets ps) (allSets ps) e) (all-has ps q t)
+all-labels [] [] r e h = absurd (never h refl)
+all-labels [] (q ∷ u) r e h = absurd (never e refl)
+all-labels (p ∷ ps) [] r e h = absurd (never h refl)
+all-labels (p ∷ ps) (q ∷ u) r e h = go (fork-cases p q u (allSets ps) (allSets ps) e) (all-labels ps u r) (all-labels ps (q ∷ u) r)
   where
-    go : ((q ≡ p) × (elem t (allSets ps) ≡ true)) ⊎ (elem (q ∷ t) (allSets ps) ≡ true)
-        → (elem (q ∷ t) (allSets ps) ≡ true → has q ps ≡ true) → (eqb q p || has q ps) ≡ true
-    go (inl a) f = or-left (eqb q p) (has q ps) (eq-eqb q p (a .0))
-    go (inr a) f = or-right (eqb q p) (has q ps) (f a)
+    go : ((q ≡ p) × (elem u (allSets ps) ≡ true)) ⊎ (elem (q ∷ u) (allSets ps) ≡ true)
+        → (elem u (allSets ps) ≡ true → has r u ≡ true → has r ps ≡ true)
+        → (elem (q ∷ u) (allSets ps) ≡ true → has r (q ∷ u) ≡ true → has r ps ≡ true) → (eqb r p || has r ps) ≡ true
+    go (inl a) f g = at (or-cases (eqb r q) (has r u) h)
+      where
+        at : (eqb r q ≡ true) ⊎ (has r u ≡ true) → (eqb r p || has r ps) ≡ true
+        at (inl x) = or-left (eqb r p) (has r ps) (eq-eqb r p (eqb-true r q x ∙ a .0))
+        at (inr x) = or-right (eqb r p) (has r ps) (f (a .1) x)
+    go (inr a) f g = or-right (eqb r p) (has r ps) (g a h)
 
 all-once : (K ps : List ℕ) → Sorted K ps → Once (allSets ps)
 unfolding allSets elem
@@ -155,7 +162,7 @@ all-once K (p ∷ ps) s =
     apart (q ∷ t) e =
         is-false (elem (q ∷ t) (allSets ps)) (λ g.
         let same : q ≡ p = eqb-true q p (and-left (eqb q p) (elem t (allSets ps)) (sym (elem-cons-map p q t (allSets ps)) ∙ e)) in
-        let less : key K p < key K q = s .0 q (all-has ps q t g) in
+        let less : key K p < key K q = s .0 q (all-labels ps (q ∷ t) q g (has-first q t)) in
         let eq : key K q ≡ key K p = ap (key K) same in
         omega arith)
 

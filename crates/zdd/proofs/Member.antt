@@ -1,15 +1,15 @@
 -- Membership of a set in a family, and families whose sets begin late. Assumes nothing.
 use mathlib.Core.Path.{_≡_, refl, sym, ap, ap₂, _∙_, subst}
-use mathlib.Core.Bool.{Bool, true, false, _&&_, _||_}
-use mathlib.Core.List.{List, [], _∷_, _++_, map}
-use mathlib.Core.Logic.{_⊎_, inl, inr}
+use mathlib.Core.Bool.{Bool, true, false, _&&_, _||_, and-false, or-assoc, and-or-distrib-left}
+use mathlib.Core.List.{List, [], _∷_, _++_, map, List·Memᴰ·head, List·Memᴰ·tail}
+use mathlib.Core.Logic.{_⊎_, inl, inr, ⊎-elim}
 use Prim.Native.Nat.{ℕ, suc, _≤_, _<_}
 use native.Mathlib.Omega.{arith}
 use lib.Dec.{eqb}
 use lib.ListN.{length, getD}
 use borrow.Author.Tests.{eqb-true}
-use Rattle.base.proofs.Bools.{never, is-false, and-left, and-right, and-both, or-cases, or-left, eqb-same}
-use Rattle.zdd.specs.Table.{Node, blank, Family, fork, family, key, Over, Nodes, eqSet, elem}
+use Rattle.base.proofs.Bools.{never, is-false, and-left, and-right, and-both, or-cases, or-neither, or-left, eqb-same}
+use Rattle.zdd.specs.Table.{Node, blank, Family, fork, family, key, Over, Nodes, eqSet, elem, _∈_}
 use Rattle.zdd.proofs.Grow.{family-ind, downward}
 use Rattle.zdd.specs.Work.{From}
 
@@ -26,6 +26,13 @@ eqSet-eq (p ∷ s) [] e = absurd (never e refl)
 eqSet-eq (p ∷ s) (q ∷ t) e =
     ap₂ (λ (x : ℕ) (xs : List ℕ). x ∷ xs) (eqb-true p q (and-left (eqb p q) (eqSet s t) e)) (eqSet-eq s t (and-right (eqb p q) (eqSet s t) e))
 
+-- what passes the test stands there
+pub elem-in : (t : List ℕ) (F : Family) → elem t F ≡ true → t ∈ F
+unfolding elem
+elem-in t [] e = absurd (never e refl)
+elem-in t (u ∷ F) e =
+    ⊎-elim (λ (x : eqSet t u ≡ true). List·Memᴰ·head (eqSet-eq t u x)) (λ (x : elem t F ≡ true). List·Memᴰ·tail (elem-in t F x)) (or-cases (eqSet t u) (elem t F) e)
+
 -- the first set of a family is in it
 pub elem-head : (t : List ℕ) (F : Family) → elem t (t ∷ F) ≡ true
 unfolding elem
@@ -34,11 +41,7 @@ elem-head t F = or-left (eqSet t t) (elem t F) (eqSet-same t)
 pub elem-append : (t : List ℕ) (F G : Family) → elem t (F ++ G) ≡ (elem t F || elem t G)
 unfolding elem
 elem-append t [] G = refl
-elem-append t (u ∷ F) G = assoc (eqSet t u) (elem t (F ++ G)) (elem t F) (elem t G) (elem-append t F G)
-  where
-    assoc : (a b c d : Bool) → b ≡ (c || d) → (a || b) ≡ ((a || c) || d)
-    assoc true b c d e = refl
-    assoc false b c d e = e
+elem-append t (u ∷ F) G = ap (λ (b : Bool). eqSet t u || b) (elem-append t F G) ∙ sym (or-assoc (eqSet t u) (elem t F) (elem t G))
 
 -- the sets with p in front
 pub elem-nil-map : (p : ℕ) (F : Family) → elem [] (map (λ (t : List ℕ). p ∷ t) F) ≡ false
@@ -48,17 +51,9 @@ elem-nil-map p (u ∷ F) = elem-nil-map p F
 
 pub elem-cons-map : (p q : ℕ) (t : List ℕ) (F : Family) → elem (q ∷ t) (map (λ (t : List ℕ). p ∷ t) F) ≡ (eqb q p && elem t F)
 unfolding elem
-elem-cons-map p q t [] = none (eqb q p)
-  where
-    none : (a : Bool) → false ≡ (a && false)
-    none true = refl
-    none false = refl
+elem-cons-map p q t [] = sym (and-false (eqb q p))
 elem-cons-map p q t (u ∷ F) =
-    ap (λ (b : Bool). (eqb q p && eqSet t u) || b) (elem-cons-map p q t F) ∙ spread (eqb q p) (eqSet t u) (elem t F)
-  where
-    spread : (a b c : Bool) → ((a && b) || (a && c)) ≡ (a && (b || c))
-    spread true b c = refl
-    spread false b c = refl
+    ap (λ (b : Bool). (eqb q p && eqSet t u) || b) (elem-cons-map p q t F) ∙ sym (and-or-distrib-left (eqb q p) (eqSet t u) (elem t F))
 
 pub elem-fork-nil : (p : ℕ) (F1 F0 : Family) → elem [] (fork p F1 F0) ≡ elem [] F0
 elem-fork-nil p F1 F0 =
@@ -86,6 +81,16 @@ Avoids p F = (t : List ℕ) → elem (p ∷ t) F ≡ false
 pub avoids-at : (p : ℕ) (F : Family) → Avoids p F → (t : List ℕ) → elem (p ∷ t) F ≡ false
 unfolding Avoids
 avoids-at p F a = a
+
+-- then the first set does not, nor do the others
+pub avoids-rest : (p : ℕ) (t : List ℕ) (F : Family) → Avoids p (t ∷ F) → Avoids p F
+unfolding Avoids elem
+avoids-rest p t F h u = or-neither (eqSet (p ∷ u) t) (elem (p ∷ u) F) (h u) .1
+
+pub avoids-first : (p q : ℕ) (t : List ℕ) (F : Family) → Avoids p ((q ∷ t) ∷ F) → eqb p q ≡ false
+unfolding Avoids elem eqSet
+avoids-first p q t F h =
+    is-false (eqb p q) (λ e. never (or-left (eqSet (p ∷ t) (q ∷ t)) (elem (p ∷ t) F) (and-both (eqb p q) (eqSet t t) e (eqSet-same t))) (h t))
 
 pub from-at : (K : List ℕ) (b : ℕ) (F : Family) → From K b F → (q : ℕ) (t : List ℕ) → elem (q ∷ t) F ≡ true → b ≤ key K q
 unfolding From

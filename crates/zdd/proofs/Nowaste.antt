@@ -4,7 +4,7 @@
 use mathlib.Core.Path.{_≡_, refl, sym, ap, _∙_, subst, subst⁻¹}
 use mathlib.Core.Logic.{_⊎_, inl, inr, ⊎-elim}
 use mathlib.Core.List.{List, [], _∷_, _++_, append-nil, append-assoc, List·Memᴰ·head, List·Memᴰ·tail, List·Memᴰ·cases-cons, List·Memᴰ·not-nil, List·Memᴰ·append-cases, Memᴰ·append-left, Memᴰ·cast}
-use Prim.Native.Nat.{ℕ, zero, suc, _+_, _-_, _≤_, _<_}
+use Prim.Native.Nat.{ℕ, zero, suc, _+_, _≤_, _<_}
 use native.Mathlib.Nat.{le-antisymm}
 use native.Mathlib.Decide.{decLt}
 use native.Mathlib.Omega.{arith}
@@ -13,12 +13,12 @@ use lib.Seq.{take-append-seam}
 use Rattle.zdd.specs.Table.{Node, blank, Family, fork, families, family, key, Fine, Nodes, _∈_}
 use Rattle.zdd.proofs.Member.{Avoids, from-avoids, family-from}
 use Rattle.zdd.specs.Work.{Under, Nowaste, Short}
-use Rattle.zdd.proofs.Grow.{length-families, family-append, families-append, family-new}
+use Rattle.zdd.proofs.Grow.{family-append, families-append, family-new}
 use Rattle.zdd.proofs.Canon.{family-some, canonical}
 use Rattle.zdd.proofs.Extend.{nodes-append}
 use Rattle.zdd.specs.Branches.{branches, fresh, missing}
-use Rattle.zdd.proofs.Counting.{Distinct, fresh-sound, fresh-distinct, at-most, fewer, branches-nil, branches-one, family-member, least-growth}
-use Rattle.zdd.proofs.Under.{under-self, fork-branch, under-hi, under-lo}
+use Rattle.zdd.proofs.Counting.{Distinct, fresh-sound, fresh-distinct, at-most, fewer, number-in, number-of, least-growth}
+use Rattle.zdd.proofs.Under.{under-self, fork-branch}
 
 -- ---- no waste: how it goes together
 
@@ -52,22 +52,6 @@ nowaste-then {ns} {ns′} {ns″} {F} w v = record {
     go : (k : ℕ) → suc (suc (length ns)) ≤ k → k < suc (suc (length ns″)) → Dec (k < suc (suc (length ns′))) → family ns″ k ∈ branches F
     go k a b (yes h) = subst⁻¹ (λ (G : Family). G ∈ branches F) (nowaste-keeps v k h) (w .needed k a h)
     go k a b (no h) = v .needed k (omega arith) b
-
--- for a family that has no branch family nothing is made
-pub nowaste-none : {ns ns′ : List Node} {F : Family} → Nowaste ns ns′ F → branches F ≡ [] → ns′ ≡ ns
-nowaste-none {ns} {ns′} {F} w e = go (w .new) (w .grown)
-  where
-    go : (l : List Node) → ns′ ≡ ns ++ l → ns′ ≡ ns
-    go [] g = g ∙ append-nil ns
-    go (x ∷ l) g =
-        absurd (List·Memᴰ·not-nil (subst (λ (b : List Family). family ns′ (suc (suc (length ns))) ∈ b) e
-        (w .needed (suc (suc (length ns))) (omega arith) (omega (arith, ap length g, length-append ns (x ∷ l))))))
-
-pub nowaste-nil : {ns ns′ : List Node} → Nowaste ns ns′ [] → ns′ ≡ ns
-nowaste-nil w = nowaste-none w branches-nil
-
-pub nowaste-one : {ns ns′ : List Node} → Nowaste ns ns′ ([] ∷ []) → ns′ ≡ ns
-nowaste-one w = nowaste-none w branches-one
 
 -- a node that may stand behind ns: its parts
 module _ {K : List ℕ} {ns : List Node} (n : Nodes K ns) (x : Node) (f : Fine K ns (length ns) x) where
@@ -104,12 +88,6 @@ module _ {K : List ℕ} {ns : List Node} (n : Nodes K ns) (x : Node) (f : Fine K
 
   pub short-made : ((i : ℕ) → i < length ns → getD ns i blank ≡ x → ⊥) → Short ns (fork (x .label) (family ns (x .hi)) (family ns (x .lo)))
   short-made fresh = record { lacking = fork (x .label) (family ns (x .hi)) (family ns (x .lo)); branch = fine-branch; absent = absent-family fresh }
-
--- a step: for F1, then for F0, then the node itself
-pub nowaste-step : (p : ℕ) (F1 F0 : Family) {ns n1 n0 ns′ : List Node} → Avoids p F0
-    → Nowaste ns n1 F1 → Nowaste n1 n0 F0 → Nowaste n0 ns′ (fork p F1 F0) → Nowaste ns ns′ (fork p F1 F0)
-nowaste-step p F1 F0 a w1 w0 w =
-    nowaste-then (nowaste-under w1 (under-hi p F1 F0 a)) (nowaste-then (nowaste-under w0 (under-lo p F1 F0 a)) w)
 
 -- ---- short: how it is kept
 
@@ -155,24 +133,11 @@ distinct-append (x ∷ xs) ys d e f = (
   distinct-append xs ys (d .1) e (λ a m. f a (List·Memᴰ·tail m)),
 )
 
-member-nth : (l : List Family) (G : Family) → G ∈ l → (k : ℕ) × (k < length l) × (G ≡ getD l k [])
-member-nth [] G m = absurd (List·Memᴰ·not-nil m)
-member-nth (F ∷ l) G m = go (member-nth l G) (List·Memᴰ·cases-cons m)
-  where
-    go : (G ∈ l → (k : ℕ) × (k < length l) × (G ≡ getD l k [])) → (G ≡ F) ⊎ (G ∈ l) → (k : ℕ) × (k < length (F ∷ l)) × (G ≡ getD (F ∷ l) k [])
-    go ih (inl e) = (0, omega arith, e)
-    go ih (inr c) = let t = ih c in (suc (t .0), omega (arith, t .1), t .2)
-
--- a family of the table has a number
-pub member-number : (ns : List Node) (G : Family) → G ∈ families ns → (k : ℕ) × (k < suc (suc (length ns))) × (G ≡ family ns k)
-unfolding family
-member-number ns G m = let t = member-nth (families ns) G m in (t .0, omega (arith, t .1, length-families ns), t .2)
-
 -- a table that is short of F lacks something for F
 pub short-missing : {ns : List Node} {F : Family} → Short ns F → 0 < missing ns F
 short-missing {ns} {F} s =
     fewer ns [] F tt (λ G m. absurd (List·Memᴰ·not-nil m)) (λ G m. absurd (List·Memᴰ·not-nil m)) (s .lacking) (s .branch)
-    (λ m. let t = member-number ns (s .lacking) m in s .absent (t .0) (t .1) (sym (t .2)))
+    (λ m. let t = number-of ns (s .lacking) m in s .absent (t .0) (t .1) (sym (t .2)))
     (λ m. List·Memᴰ·not-nil m)
 
 module _ {K : List ℕ} {ns ns′ : List Node} {F : Family} (n : Nodes K ns′) (w : Nowaste ns ns′ F) where
@@ -201,7 +166,7 @@ module _ {K : List ℕ} {ns ns′ : List Node} {F : Family} (n : Nodes K ns′) 
   added-new : (G : Family) → G ∈ added → G ∈ families ns → ⊥
   added-new G m c =
       let t = added-in G m in
-      let u = member-number ns G c in
+      let u = number-of ns G c in
       let l : length ns′ ≡ length ns + length (w .new) = nowaste-length w in
       let q : t .0 ≡ u .0 = canonical n (t .0) (u .0) (t .2) (omega (arith, u .1)) (sym (t .3) ∙ u .2 ∙ sym (nowaste-keeps w (u .0) (u .1))) in
       omega (arith, t .1, u .1)
@@ -223,7 +188,7 @@ module _ {K : List ℕ} {ns ns′ : List Node} {F : Family} (n : Nodes K ns′) 
       (at-most ns (added ++ rest) F
       (distinct-append added rest added-distinct (fresh-distinct (branches G) (families ns′)) (λ H a r.
       let t = added-in H a in
-      s H r .1 (Memᴰ·cast (t .3) (family-member ns′ (t .0) (t .2)))))
+      s H r .1 (Memᴰ·cast (t .3) (number-in ns′ (t .0) (t .2)))))
       (λ H m. ⊎-elim (added-new H) (λ r c. s H r .1 (known-more H c)) (List·Memᴰ·append-cases added m))
       (λ H m. ⊎-elim (added-under H) (λ r. u .each H (s H r .0)) (List·Memᴰ·append-cases added m)))
     where
@@ -249,10 +214,3 @@ module _ {K : List ℕ} {ns ns′ : List Node} {F : Family} (n : Nodes K ns′) 
   -- THEOREM: fewer, where the table is still short of F
   pub made-fewer : Short ns′ F → length (w .new) < missing ns F
   made-fewer s = omega (arith, still (under-self F), short-missing s)
-
-  -- with room for c nodes: F is full where they are all taken and the table is short of F, and it is not where F has a number
-  pub full-short : (c : ℕ) → c ≤ length ns′ → Short ns′ F → c - length ns < missing ns F
-  full-short c h s = omega (arith, made-fewer s, nowaste-length w)
-
-  pub full-not : (c a : ℕ) → length ns′ ≤ c → a < suc (suc (length ns′)) → family ns′ a ≡ F → missing ns F ≤ c - length ns
-  full-not c a h b e = omega (arith, made-exactly a b e, nowaste-length w)

@@ -9,7 +9,7 @@ use native.Mathlib.Omega.{arith}
 use lib.Dec.{eqb}
 use lib.ListN.{length, getD}
 use borrow.Author.Tests.{eqb-true}
-use Rattle.base.proofs.Bools.{never}
+use Rattle.base.proofs.Bools.{never, drop-test}
 use Rattle.zdd.specs.Table.{Node, blank, Family, fork, family, key, Over, Fine, Nodes, Keys, elem, sets}
 use Rattle.zdd.proofs.Grow.{family-node}
 use Rattle.zdd.proofs.Member.{avoids-at, from-at, from-of, from-nil, from-avoids, family-from, elem-fork-nil, elem-fork-cons}
@@ -35,10 +35,6 @@ module _ (op : Bool → Bool → Bool) (K : List ℕ) (off : op false false ≡ 
       elem-filter (λ t. op (elem t F) (elem t G)) t (sets K)
       ∙ drop-test (op (elem t F) (elem t G)) (elem t (sets K)) (λ e. go (one-of (elem t F) (elem t G) e))
     where
-      drop-test : (a b : Bool) → (a ≡ true → b ≡ true) → (a && b) ≡ a
-      drop-test true b h = h refl
-      drop-test false b h = refl
-
       go : (elem t F ≡ true) ⊎ (elem t G ≡ true) → elem t (sets K) ≡ true
       go (inl e) = listed-elem K F f t e
       go (inr e) = listed-elem K G g t e

@@ -14,7 +14,7 @@ use Rattle.base.proofs.Bools.{never, is-false, and-left, and-right, or-cases, o
 use Rattle.zdd.specs.Table.{Family, key, eqSet, elem, allSets, sets, order, Keys, has}
 use Rattle.zdd.proofs.Member.{eqSet-same, elem-append, elem-nil-map, elem-cons-map}
 use Rattle.zdd.proofs.Sorting.{Sorted, order-sorted}
-use Rattle.zdd.proofs.Listing.{Listed, listed-part, part-elem}
+use Rattle.zdd.proofs.Listing.{all-labels, Listed, listed-part, part-elem}
 use Rattle.zdd.specs.ListingOrder.{Earlier, Descends}
 
 -- the k-th set of a family is in it
@@ -56,31 +56,10 @@ front p F (q ∷ t) e =
     let b : (eqb q p && elem t F) ≡ true = sym (elem-cons-map p q t F) ∙ e in
     (t, ap (λ (x : ℕ). x ∷ t) (eqb-true q p (and-left (eqb q p) (elem t F) b)), and-right (eqb q p) (elem t F) b)
 
--- a set of `allSets ps` has labels of ps only
-inside : (ps s : List ℕ) (q : ℕ) → elem s (allSets ps) ≡ true → has q s ≡ true → has q ps ≡ true
-unfolding allSets elem has
-inside [] [] q e h = absurd (never h refl)
-inside [] (p ∷ s) q e h = absurd (never e refl)
-inside (p ∷ ps) s q e h =
-    go (or-cases (elem s (map (λ (t : List ℕ). p ∷ t) (allSets ps))) (elem s (allSets ps)) (sym (elem-append s (map (λ (t : List ℕ). p ∷ t) (allSets ps)) (allSets ps)) ∙ e))
-    (λ t m k. inside ps t q m k)
-  where
-    with-front : (r : (t : List ℕ) × (s ≡ p ∷ t) × (elem t (allSets ps) ≡ true)) → ((t : List ℕ) → elem t (allSets ps) ≡ true → has q t ≡ true → has q ps ≡ true)
-        → (eqb q p ≡ true) ⊎ (has q (r .0) ≡ true) → (eqb q p || has q ps) ≡ true
-    with-front r ih (inl a) = or-left (eqb q p) (has q ps) a
-    with-front r ih (inr a) = or-right (eqb q p) (has q ps) (ih (r .0) (r .2) a)
-
-    go : (elem s (map (λ (t : List ℕ). p ∷ t) (allSets ps)) ≡ true) ⊎ (elem s (allSets ps) ≡ true)
-        → ((t : List ℕ) → elem t (allSets ps) ≡ true → has q t ≡ true → has q ps ≡ true) → (eqb q p || has q ps) ≡ true
-    go (inl a) ih =
-        let r = front p (allSets ps) s a in
-        with-front r ih (or-cases (eqb q p) (has q (r .0)) (sym (ap (has q) (r .1)) ∙ h))
-    go (inr a) ih = or-right (eqb q p) (has q ps) (ih s a h)
-
 module _ (K : List ℕ) (p : ℕ) (ps : List ℕ) (later : (r : ℕ) → has r ps ≡ true → key K p < key K r) where
   -- a label up to p is in no set of ps
   without : (s : List ℕ) → elem s (allSets ps) ≡ true → (q : ℕ) → key K q < suc (key K p) → has q s ≡ false
-  without s e q l = is-false (has q s) (λ h. let z : key K p < key K q = later q (inside ps s q e h) in omega arith)
+  without s e q l = is-false (has q s) (λ h. let z : key K p < key K q = later q (all-labels ps s q e h) in omega arith)
 
   -- two sets with p in front
   both-have : (F : Family) → ((t : List ℕ) → elem t F ≡ true → elem t (allSets ps) ≡ true) → Descends K F → Descends K (map (λ (t : List ℕ). p ∷ t) F)
@@ -93,7 +72,7 @@ module _ (K : List ℕ) (p : ℕ) (ps : List ℕ) (later : (r : ℕ) → has r p
     where
       step : (t : List ℕ) → Earlier K s t → Earlier K (p ∷ s) (p ∷ t)
       step t e =
-          let z : key K p < key K (e .first) = later (e .first) (inside ps s (e .first) (w s (or-left (eqSet s s) (elem s F) (eqSet-same s))) (e .here)) in
+          let z : key K p < key K (e .first) = later (e .first) (all-labels ps s (e .first) (w s (or-left (eqSet s s) (elem s F) (eqSet-same s))) (e .here)) in
           let n : eqb (e .first) p ≡ false = ne-eqb (e .first) p (λ q. let k = ap (key K) q in omega arith) in
           record {
             first = e .first;

@@ -13,19 +13,8 @@ use Rattle.zdd.specs.Work.{From, Split}
 use Rattle.zdd.proofs.Member.{from-nil, family-from}
 use Rattle.zdd.proofs.Listing.{Listed, listed-nil, family-listed}
 use Rattle.zdd.specs.Operations.{combine, including, excluding}
-use Rattle.zdd.proofs.Operations.{from-combine, combine-fork, nodes-same, nodes-left, nodes-right}
+use Rattle.zdd.proofs.Operations.{from-combine, nodes-same, nodes-left, nodes-right}
 use Rattle.zdd.proofs.Restrict.{including-after, excluding-after, including-other, excluding-other, including-same, excluding-same}
-
--- two families split by one label: a label that only one has splits the other into [] and itself
-pub split-combine : (op : Bool → Bool → Bool) (K : List ℕ) → op false false ≡ false → Keys K → (p : ℕ) → p < length K → (F1 F0 G1 G0 : Family)
-    → Listed K F1 → Listed K F0 → Listed K G1 → Listed K G0
-    → From K (suc (key K p)) F1 → From K (suc (key K p)) F0 → From K (suc (key K p)) G1 → From K (suc (key K p)) G0
-    → Split K (combine op K (fork p F1 F0) (fork p G1 G0)) p (combine op K F1 G1) (combine op K F0 G0)
-split-combine op K off k p h F1 F0 G1 G0 l1 l0 m1 m0 f1 f0 g1 g0 = record {
-  is = combine-fork op K off k p h F1 F0 G1 G0 l1 l0 m1 m0 f1 f0 g1 g0;
-  hi-from = from-combine op K off (suc (key K p)) F1 G1 l1 m1 f1 g1;
-  lo-from = from-combine op K off (suc (key K p)) F0 G0 l0 m0 f0 g0;
-}
 
 module _ {K : List ℕ} (k : Keys K) {ns : List Node} (n : Nodes K ns) where
   -- the parts of the node at index i

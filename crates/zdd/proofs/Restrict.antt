@@ -1,19 +1,19 @@
 -- The sets of a family that hold a label, and those that do not, by the first label. Assumes nothing.
 use mathlib.Core.Path.{_≡_, refl, sym, ap, ap₂, _∙_, subst}
-use mathlib.Core.Bool.{Bool, true, false, not, _&&_, _||_, and-true}
+use mathlib.Core.Bool.{Bool, true, false, not, _&&_, _||_, and-true, and-false, and-or-distrib-right}
 use mathlib.Core.List.{List, [], _∷_}
 use mathlib.Core.Logic.{_⊎_, inl, inr}
 use Prim.Native.Nat.{ℕ, suc, _≤_, _<_}
 use native.Mathlib.Omega.{arith}
 use lib.Dec.{eqb}
 use lib.ListN.{length}
-use borrow.Author.Tests.{eqb-true, eq-eqb}
-use Rattle.base.proofs.Bools.{never, is-false, and-left, or-cases, or-left, or-right, eqb-same}
+use borrow.Author.Tests.{eqb-true}
+use Rattle.base.proofs.Bools.{never, is-false, and-left, or-cases, drop-test}
 use Rattle.zdd.specs.Table.{Family, fork, key, Keys, elem, filter, allSets, sets, order, has}
 use Rattle.zdd.proofs.Sorting.{Sorted, order-sorted}
 use Rattle.zdd.specs.Work.{From, Split}
 use Rattle.zdd.proofs.Member.{from-at, from-of, from-nil, fork-cases, elem-fork-nil, elem-fork-cons}
-use Rattle.zdd.proofs.Listing.{Listed, listed-fork, listed-filter, listed-elem, listed-same, elem-filter, filter-same, filter-none}
+use Rattle.zdd.proofs.Listing.{has-first, all-labels, Listed, listed-fork, listed-filter, listed-elem, listed-same, elem-filter, filter-same, filter-none}
 use Rattle.zdd.specs.Operations.{including, excluding}
 
 -- ---- the sets of F that pass a test
@@ -29,10 +29,6 @@ pub elem-keep : (P : List ℕ → Bool) (K : List ℕ) (F : Family) → Listed K
 unfolding keep
 elem-keep P K F f t =
     elem-filter (λ t. elem t F && P t) t (sets K) ∙ drop-test (elem t F && P t) (elem t (sets K)) (λ e. listed-elem K F f t (and-left (elem t F) (P t) e))
-  where
-    drop-test : (a b : Bool) → (a ≡ true → b ≡ true) → (a && b) ≡ a
-    drop-test true b h = h refl
-    drop-test false b h = refl
 
 pub from-keep : (P : List ℕ → Bool) (K : List ℕ) (b : ℕ) (F : Family) → Listed K F → From K b F → From K b (keep P K F)
 from-keep P K b F l f =
@@ -50,16 +46,9 @@ keep-fork P K k q h F1 F0 l1 l0 f1 f0 =
     P1 : List ℕ → Bool
     P1 t = P (q ∷ t)
 
-    spread : (a b x : Bool) → ((a || b) && x) ≡ ((a && x) || (b && x))
-    spread true true true = refl
-    spread true true false = refl
-    spread true false true = refl
-    spread true false false = refl
-    spread false b x = refl
-
     by-label : (c a b x y : Bool) → (c ≡ true → x ≡ y) → (((c && a) || b) && x) ≡ ((c && (a && y)) || (b && x))
     by-label false a b x y e = refl
-    by-label true a b x y e = spread a b x ∙ ap (λ (z : Bool). (a && z) || (b && x)) (e refl)
+    by-label true a b x y e = and-or-distrib-right a b x ∙ ap (λ (z : Bool). (a && z) || (b && x)) (e refl)
 
     same : (t : List ℕ) → (elem t (fork q F1 F0) && P t) ≡ elem t (fork q (keep P1 K F1) (keep P K F0))
     same [] =
@@ -86,30 +75,9 @@ keep-all P K k F f h =
 pub keep-none : (P : List ℕ → Bool) (K : List ℕ) (F : Family) → ((t : List ℕ) → elem t F ≡ true → P t ≡ false) → keep P K F ≡ []
 unfolding keep
 keep-none P K F h =
-    filter-same (λ t. elem t F && P t) (λ t. false) (sets K) (λ t m. both-same (elem t F) (P t) false (h t) ∙ none (elem t F)) ∙ filter-none (sets K)
-  where
-    none : (a : Bool) → (a && false) ≡ false
-    none true = refl
-    none false = refl
+    filter-same (λ t. elem t F && P t) (λ t. false) (sets K) (λ t m. both-same (elem t F) (P t) false (h t) ∙ and-false (elem t F)) ∙ filter-none (sets K)
 
 -- ---- a set of a listed family that begins after p does not hold p
-
-all-labels : (ps t : List ℕ) (r : ℕ) → elem t (allSets ps) ≡ true → has r t ≡ true → has r ps ≡ true
-unfolding allSets has elem
-all-labels [] [] r e h = absurd (never h refl)
-all-labels [] (q ∷ u) r e h = absurd (never e refl)
-all-labels (p ∷ ps) [] r e h = absurd (never h refl)
-all-labels (p ∷ ps) (q ∷ u) r e h = go (fork-cases p q u (allSets ps) (allSets ps) e) (all-labels ps u r) (all-labels ps (q ∷ u) r)
-  where
-    go : ((q ≡ p) × (elem u (allSets ps) ≡ true)) ⊎ (elem (q ∷ u) (allSets ps) ≡ true)
-        → (elem u (allSets ps) ≡ true → has r u ≡ true → has r ps ≡ true)
-        → (elem (q ∷ u) (allSets ps) ≡ true → has r (q ∷ u) ≡ true → has r ps ≡ true) → (eqb r p || has r ps) ≡ true
-    go (inl a) f g = at (or-cases (eqb r q) (has r u) h)
-      where
-        at : (eqb r q ≡ true) ⊎ (has r u ≡ true) → (eqb r p || has r ps) ≡ true
-        at (inl x) = or-left (eqb r p) (has r ps) (eq-eqb r p (eqb-true r q x ∙ a .0))
-        at (inr x) = or-right (eqb r p) (has r ps) (f (a .1) x)
-    go (inr a) f g = or-right (eqb r p) (has r ps) (g a h)
 
 all-later : (K ps : List ℕ) → Sorted K ps → (q : ℕ) (u : List ℕ) (r : ℕ) → elem (q ∷ u) (allSets ps) ≡ true → has r u ≡ true → key K q < key K r
 unfolding allSets elem
@@ -142,10 +110,6 @@ late K k p F l f (q ∷ u) e = is-false (eqb p q || has p u) (λ h. go (or-cases
 has-other : (p q : ℕ) (t : List ℕ) → eqb p q ≡ false → has p (q ∷ t) ≡ has p t
 unfolding has
 has-other p q t e = ap (λ (b : Bool). b || has p t) e
-
-has-first : (p : ℕ) (t : List ℕ) → has p (p ∷ t) ≡ true
-unfolding has
-has-first p t = or-left (eqb p p) (has p t) (eqb-same p)
 
 lacks : ℕ → List ℕ → Bool
 lacks p t = not (has p t)

@@ -3,20 +3,19 @@
 use mathlib.Core.Path.{_≡_, refl, sym, ap, _∙_, subst, subst⁻¹}
 use mathlib.Core.Bool.{Bool, true, false, cond}
 use mathlib.Core.List.{List, [], _∷_, _++_}
-use Prim.Native.Nat.{ℕ, _+_, _-_, _*_, _/_, _≤_, _<_}
+use Prim.Native.Nat.{ℕ, _+_, _-_, _/_, _≤_, _<_}
 use native.Mathlib.Omega.{arith}
 use lib.Dec.{leb, ltb}
 use lib.ListN.{length, getD}
-use borrow.Author.Tests.{leb-true, leb-false, le-leb, lt-leb, lt-ltb, le-ltb}
+use borrow.Author.Tests.{lt-ltb, le-ltb}
 use Rattle.base.proofs.Bools.{never, is-false}
 use Rattle.zdd.specs.Table.{Node, blank, Family, fork, count, capacity, nodesOf, family, Fine, Nodes, Sound}
-use Rattle.zdd.proofs.Member.{Avoids}
-use Rattle.zdd.proofs.Words.{length-nodes, Appended, appended-nodes}
+use Rattle.zdd.proofs.Words.{length-nodes}
 use Rattle.zdd.proofs.Tested.{capacity-fits}
 use Rattle.zdd.specs.Branches.{missing}
 use Rattle.zdd.specs.Work.{Under, Nowaste, Short, Worked}
-use Rattle.zdd.proofs.Under.{under-eq, under-hi, under-lo}
-use Rattle.zdd.proofs.Nowaste.{nowaste-start, nowaste-under, nowaste-then, nowaste-made, nowaste-length, short-under, short-same, short-made, made-at-most, made-exactly, made-fewer}
+use Rattle.zdd.proofs.Under.{under-eq}
+use Rattle.zdd.proofs.Nowaste.{nowaste-start, nowaste-under, nowaste-then, nowaste-made, nowaste-length, short-under, short-same, short-made, made-exactly, made-fewer}
 
 -- ---- work with a flag that says that there was no room: b before, b′ after; c is the room. Once it is set nothing is made
 
@@ -44,11 +43,6 @@ worked-then {c} {ns} {ns′} {ns″} {b} {b′} {b″} {F} w v = record {
         let i : ns″ ≡ ns′ = v .idle q .0 in
         (short-same i (s .0), subst⁻¹ (λ (l : List Node). c ≤ length l) i (s .1))
     go false q e f = v .short q f
-
--- a step: for F1, then for F0, then for the fork
-pub worked-step : (p : ℕ) (F1 F0 : Family) {c : ℕ} {ns n1 n0 ns′ : List Node} {b b1 b0 b′ : Bool} → Avoids p F0
-    → Worked c ns b n1 b1 F1 → Worked c n1 b1 n0 b0 F0 → Worked c n0 b0 ns′ b′ (fork p F1 F0) → Worked c ns b ns′ b′ (fork p F1 F0)
-worked-step p F1 F0 a w1 w0 w = worked-then (worked-under w1 (under-hi p F1 F0 a)) (worked-then (worked-under w0 (under-lo p F1 F0 a)) w)
 
 module _ {K : List ℕ} {ns : List Node} (n : Nodes K ns) (x : Node) (f : Fine K ns (length ns) x) (c : ℕ) where
   -- the node is made
@@ -80,65 +74,11 @@ worked-when {c} {ns} {ns′} {b} {b′} {F} {G} f w = go b refl
       short = λ e g. absurd (never q e);
     }
 
--- ---- find-or-make, over words
-
-module _ {K : List ℕ} (t : List ℕ) (s : Sound K t) (x : Node) (f : Fine K (nodesOf t) (count t) x) (c : ℕ) where
-  fine-words : Fine K (nodesOf t) (length (nodesOf t)) x
-  fine-words = subst (λ (k : ℕ). Fine K (nodesOf t) k x) (sym (length-nodes t)) f
-
-  -- the node is made
-  pub words-made : {t′ : List ℕ} → Appended t x t′
-      → Worked c (nodesOf t) false (nodesOf t′) false (fork (x .label) (family (nodesOf t) (x .hi)) (family (nodesOf t) (x .lo)))
-  words-made a =
-      subst⁻¹ (λ (l : List Node). Worked c (nodesOf t) false l false (fork (x .label) (family (nodesOf t) (x .hi)) (family (nodesOf t) (x .lo)))) (appended-nodes a)
-      (worked-made (s .nodes) x fine-words c)
-
-  -- the node is not there, and there is no room for it
-  pub words-full : ((i : ℕ) → i < count t → getD (nodesOf t) i blank ≡ x → ⊥) → c ≤ count t
-      → Worked c (nodesOf t) false (nodesOf t) true (fork (x .label) (family (nodesOf t) (x .hi)) (family (nodesOf t) (x .lo)))
-  words-full fresh h =
-      worked-full (s .nodes) x fine-words c (λ i l. fresh i (omega (arith, length-nodes t))) (omega (arith, length-nodes t))
-
 -- ---- the room of a table
 
 pub same-capacity : (t u : List ℕ) → length t ≡ length u → capacity t ≡ capacity u
 unfolding capacity
 same-capacity t u e = ap (λ (n : ℕ). cond (leb ((n - 1) / 3) 65534) ((n - 1) / 3) 65534) e
-
--- as code computes it
-pub capacity-words : (t : List ℕ) → (length t - 1) / 3 ≤ 65534 → capacity t ≡ (length t - 1) / 3
-unfolding capacity
-capacity-words t h = ap (λ (b : Bool). cond b ((length t - 1) / 3) 65534) (le-leb ((length t - 1) / 3) 65534 h)
-
-pub capacity-most : (t : List ℕ) → 65534 < (length t - 1) / 3 → capacity t ≡ 65534
-unfolding capacity
-capacity-most t h = ap (λ (b : Bool). cond b ((length t - 1) / 3) 65534) (lt-leb ((length t - 1) / 3) 65534 h)
-
--- below capacity three words are free, as `Words.appended-sound` asks
-pub room : (t : List ℕ) → count t < capacity t → (3 + 3 * count t < length t) × (count t < 65534)
-unfolding capacity
-room t h = go (leb ((length t - 1) / 3) 65534) refl h
-  where
-    go : (b : Bool) → leb ((length t - 1) / 3) 65534 ≡ b → count t < cond b ((length t - 1) / 3) 65534 → (3 + 3 * count t < length t) × (count t < 65534)
-    go true q h = let z : (length t - 1) / 3 ≤ 65534 = leb-true ((length t - 1) / 3) 65534 q in (omega arith, omega arith)
-    go false q h = let z : 65534 < (length t - 1) / 3 = leb-false ((length t - 1) / 3) 65534 q in (omega arith, h)
-
--- where they are not free, or 65534 nodes are there, the table is at capacity
-pub no-room-words : (t : List ℕ) → length t ≤ 3 + 3 * count t → capacity t ≤ count t
-unfolding capacity
-no-room-words t h = go (leb ((length t - 1) / 3) 65534) refl
-  where
-    go : (b : Bool) → leb ((length t - 1) / 3) 65534 ≡ b → cond b ((length t - 1) / 3) 65534 ≤ count t
-    go true q = omega arith
-    go false q = let z : 65534 < (length t - 1) / 3 = leb-false ((length t - 1) / 3) 65534 q in omega arith
-
-pub no-room-most : (t : List ℕ) → 65534 ≤ count t → capacity t ≤ count t
-unfolding capacity
-no-room-most t h = go (leb ((length t - 1) / 3) 65534) refl
-  where
-    go : (b : Bool) → leb ((length t - 1) / 3) 65534 ≡ b → cond b ((length t - 1) / 3) 65534 ≤ count t
-    go true q = let z : (length t - 1) / 3 ≤ 65534 = leb-true ((length t - 1) / 3) 65534 q in omega arith
-    go false q = h
 
 -- ---- the counts, over words: t before, t′ after
 
@@ -148,9 +88,6 @@ module _ (t : List ℕ) {K t′ : List ℕ} {F : Family} (s : Sound K t′) (lon
 
   within : count t′ ≤ capacity t
   within = subst (λ (c : ℕ). count t′ ≤ c) (same-capacity t′ t long) (capacity-fits t′ (s .room) (s .few))
-
-  pub count-at-most : count t′ ≤ count t + missing (nodesOf t) F
-  count-at-most = omega (arith, grown-count, made-at-most (s .nodes) w)
 
   -- THEOREM: the answer has a number: the nodes made are exactly the missing ones, and 'full' is not said
   pub count-exactly : (a : ℕ) → a < count t′ + 2 → family (nodesOf t′) a ≡ F → count t′ ≡ count t + missing (nodesOf t) F

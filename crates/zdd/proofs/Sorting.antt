@@ -94,7 +94,3 @@ order-sorted K k = sorted-to K k (length K) (omega arith)
 pub order-all : (K : List ℕ) (r : ℕ) → r < length K → has r (order K) ≡ true
 unfolding order
 order-all K r h = order-has K (length K) r h
-
-pub order-known : (K : List ℕ) (r : ℕ) → has r (order K) ≡ true → r < length K
-unfolding order
-order-known K r e = order-below K (length K) r e

@@ -8,11 +8,10 @@ use native.Mathlib.Omega.{arith}
 use lib.ListN.{length, getD}
 use Rattle.zdd.specs.Table.{Node, blank, Family, fork, family, key, Over, Fine, Nodes, elem}
 use Rattle.zdd.proofs.Grow.{family-node}
-use Rattle.zdd.proofs.Member.{Avoids, from-at, from-avoids, elem-head}
-use Rattle.zdd.specs.Work.{From, Under, Nowaste, Worked, Split}
+use Rattle.zdd.proofs.Member.{from-at, elem-head}
+use Rattle.zdd.specs.Work.{From, Under, Worked, Split}
 use Rattle.zdd.proofs.Canon.{family-some}
 use Rattle.zdd.proofs.Under.{under-trans, under-eq, after-hi, after-lo}
-use Rattle.zdd.proofs.Nowaste.{nowaste-under, nowaste-then}
 use Rattle.zdd.proofs.Room.{worked-under, worked-then}
 
 module _ {K : List ℕ} {R : Family} {p : ℕ} {R1 R0 : Family} (s : Split K R p R1 R0) where
@@ -23,25 +22,9 @@ module _ {K : List ℕ} {R : Family} {p : ℕ} {R1 R0 : Family} (s : Split K R p
   pub split-lo : Under R0 R
   split-lo = under-trans (after-lo K p R1 R0 (s .lo-from)) (under-eq (sym (s .is)))
 
-  pub split-avoids : Avoids p R0
-  split-avoids = from-avoids K (suc (key K p)) p R0 (s .lo-from) (omega arith)
-
-  -- where R1 has no set the whole is R0
-  pub split-none : R1 ≡ [] → R ≡ R0
-  split-none e = s .is ∙ ap (λ (F : Family). fork p F R0) e
-
-  -- hi first, then lo, then the node
-  pub nowaste-split : {ns n1 n0 ns′ : List Node} → Nowaste ns n1 R1 → Nowaste n1 n0 R0 → Nowaste n0 ns′ (fork p R1 R0) → Nowaste ns ns′ R
-  nowaste-split w1 w0 w = nowaste-then (nowaste-under w1 split-hi) (nowaste-then (nowaste-under w0 split-lo) (nowaste-under w (under-eq (sym (s .is)))))
-
-  pub worked-split : {c : ℕ} {ns n1 n0 ns′ : List Node} {b b1 b0 b′ : Bool}
-      → Worked c ns b n1 b1 R1 → Worked c n1 b1 n0 b0 R0 → Worked c n0 b0 ns′ b′ (fork p R1 R0) → Worked c ns b ns′ b′ R
-  worked-split w1 w0 w = worked-then (worked-under w1 split-hi) (worked-then (worked-under w0 split-lo) (worked-under w (under-eq (sym (s .is)))))
-
-  -- lo first
-  pub worked-split-lo : {c : ℕ} {ns n0 n1 ns′ : List Node} {b b0 b1 b′ : Bool}
-      → Worked c ns b n0 b0 R0 → Worked c n0 b0 n1 b1 R1 → Worked c n1 b1 ns′ b′ (fork p R1 R0) → Worked c ns b ns′ b′ R
-  worked-split-lo w0 w1 w = worked-then (worked-under w0 split-lo) (worked-then (worked-under w1 split-hi) (worked-under w (under-eq (sym (s .is)))))
+  -- work on the parts and then on the node is work on the whole
+  pub worked-split : {c : ℕ} {ns n0 ns′ : List Node} {b b0 b′ : Bool} → Worked c ns b n0 b0 R → Worked c n0 b0 ns′ b′ (fork p R1 R0) → Worked c ns b ns′ b′ R
+  worked-split w v = worked-then w (worked-under v (under-eq (sym (s .is))))
 
 -- ---- the other way of `family-from`: a number whose sets begin late has a late label
 

@@ -1,13 +1,13 @@
 -- What code that reads and writes the words of a sound table needs, by the numbers k of the nodes. Assumes nothing.
-use mathlib.Core.Path.{_≡_, ap, ap₂, _∙_, subst}
-use mathlib.Core.List.{List, [], _∷_}
+use mathlib.Core.Path.{_≡_, ap, _∙_, subst}
+use mathlib.Core.List.{List}
 use Prim.Native.Nat.{ℕ, zero, suc, _+_, _-_, _*_, _≤_, _<_}
 use native.Mathlib.Omega.{arith}
 use lib.ListN.{length, getD}
-use Rattle.zdd.specs.Table.{Node, blank, fork, count, nodesOf, family, key, Over, Fine, Sound, Keys, sets, elem, filter}
-use Rattle.zdd.proofs.Grow.{family-append, family-node, family-new}
-use Rattle.zdd.proofs.Words.{at-word, node-at, length-nodes, Appended, appended-nodes, sound-canonical}
-use Rattle.zdd.proofs.Listing.{Listed, listed-same, family-listed, family-filtered}
+use Rattle.zdd.specs.Table.{Node, blank, fork, count, nodesOf, family, key, Over, Fine, Sound, Keys}
+use Rattle.zdd.proofs.Grow.{family-node}
+use Rattle.zdd.proofs.Words.{at-word, node-at, length-nodes}
+use Rattle.zdd.proofs.Listing.{Listed, family-listed}
 
 -- a child's condition, by the child's number
 pub over-of-key : (K : List ℕ) (ns : List Node) (b c : ℕ) → (2 ≤ c → b ≤ key K (getD ns (c - 2) blank .label)) → Over K ns b c
@@ -40,28 +40,5 @@ family-at {K} {ws} s k a l h e =
     ∙ family-node (nodesOf ws) i w (f .lo-below) (f .hi-below)
     ∙ ap (λ (x : Node). fork (x .label) (family (nodesOf ws) (x .hi)) (family (nodesOf ws) (x .lo))) (node-at ws i a (omega arith) e)
 
--- after a node is appended
-pub appended-old : {ws vs : List ℕ} {x : Node} → Appended ws x vs → (k : ℕ) → k < count ws + 2 → family (nodesOf vs) k ≡ family (nodesOf ws) k
-appended-old {ws} {vs} {x} p k h =
-    ap (λ (l : List Node). family l k) (appended-nodes p) ∙ family-append (nodesOf ws) (x ∷ []) k (omega (arith, length-nodes ws))
-
-pub appended-new : {ws vs : List ℕ} {x : Node} → Appended ws x vs
-    → family (nodesOf vs) (count ws + 2) ≡ fork (x .label) (family (nodesOf ws) (x .hi)) (family (nodesOf ws) (x .lo))
-appended-new {ws} {vs} {x} p =
-    let z : count ws + 2 ≡ suc (suc (length (nodesOf ws))) = omega (arith, length-nodes ws) in
-    ap₂ family (appended-nodes p) z ∙ family-new (nodesOf ws) x
-
--- THEOREM: each family of a sound table is a filter of all sets, in their order
-pub sound-filtered : {K ws : List ℕ} → Keys K → Sound K ws → (k : ℕ) → k < count ws + 2
-    → family (nodesOf ws) k ≡ filter (λ t. elem t (family (nodesOf ws) k)) (sets K)
-sound-filtered {K} {ws} a s k h = family-filtered a (s .nodes) k (omega (arith, length-nodes ws))
-
 pub sound-listed : {K ws : List ℕ} → Keys K → Sound K ws → (k : ℕ) → k < count ws + 2 → Listed K (family (nodesOf ws) k)
 sound-listed {K} {ws} a s k h = family-listed a (s .nodes) k (omega (arith, length-nodes ws))
-
--- THEOREM: two numbers of a sound table whose families have the same sets are one number
-pub sound-same : {K ws : List ℕ} → Keys K → Sound K ws → (i j : ℕ) → i < count ws + 2 → j < count ws + 2
-    → ((t : List ℕ) → elem t (family (nodesOf ws) i) ≡ elem t (family (nodesOf ws) j)) → i ≡ j
-sound-same {K} {ws} k s i j a b e =
-    sound-canonical s i j a b
-    (listed-same K k (family (nodesOf ws) i) (family (nodesOf ws) j) (sound-listed k s i a) (sound-listed k s j b) e)

@@ -115,7 +115,7 @@ has-of x (y ∷ ys) e = go (or-cases (eqNode x y) (hasNode x ys) e) (has-of x ys
     go (inl a) f = (0, omega arith, sym (eqNode-eq x y a))
     go (inr a) f = let r = f a in (suc (r .0), omega (arith, r .1), r .2)
 
-once-of : (xs : List Node) → onceb xs ≡ true → (i j : ℕ) → i < length xs → j < length xs → getD xs i blank ≡ getD xs j blank → i ≡ j
+pub once-of : (xs : List Node) → onceb xs ≡ true → (i j : ℕ) → i < length xs → j < length xs → getD xs i blank ≡ getD xs j blank → i ≡ j
 unfolding onceb
 once-of [] e i j a b q = absurd (not-suc-le-zero a)
 once-of (x ∷ xs) e zero zero a b q = refl
@@ -174,22 +174,29 @@ rest-test ws n f = zeros-test (drop (suc n) ws) (λ k. getD-drop (suc n) ws k 0 
 
 -- ---- the table
 
+-- the capacity is the lesser of two numbers
+pub capacity-most : (t : List ℕ) → (capacity t ≤ 65534) × (capacity t ≤ (length t - 1) / 3)
+unfolding capacity
+capacity-most t = go (leb ((length t - 1) / 3) 65534) refl
+  where
+    go : (b : Bool) → leb ((length t - 1) / 3) 65534 ≡ b → (cond b ((length t - 1) / 3) 65534 ≤ 65534) × (cond b ((length t - 1) / 3) 65534 ≤ (length t - 1) / 3)
+    go true q = let z : (length t - 1) / 3 ≤ 65534 = leb-true ((length t - 1) / 3) 65534 q in (z, omega arith)
+    go false q = let z : 65534 < (length t - 1) / 3 = leb-false ((length t - 1) / 3) 65534 q in (omega arith, omega arith)
+
+pub capacity-least : (t : List ℕ) (n : ℕ) → n ≤ 65534 → n ≤ (length t - 1) / 3 → n ≤ capacity t
+unfolding capacity
+capacity-least t n a b = go (leb ((length t - 1) / 3) 65534)
+  where
+    go : (c : Bool) → n ≤ cond c ((length t - 1) / 3) 65534
+    go true = b
+    go false = a
+
 -- within capacity: as many triples as the words behind word 0 have
 pub fits-capacity : (ws : List ℕ) → 0 < length ws → count ws ≤ capacity ws → (3 * count ws < length ws) × (count ws ≤ 65534)
-unfolding capacity
-fits-capacity ws h e = go (leb ((length ws - 1) / 3) 65534) refl e
-  where
-    go : (b : Bool) → leb ((length ws - 1) / 3) 65534 ≡ b → count ws ≤ cond b ((length ws - 1) / 3) 65534 → (3 * count ws < length ws) × (count ws ≤ 65534)
-    go true q e = let z : (length ws - 1) / 3 ≤ 65534 = leb-true ((length ws - 1) / 3) 65534 q in (omega arith, omega arith)
-    go false q e = let z : 65534 < (length ws - 1) / 3 = leb-false ((length ws - 1) / 3) 65534 q in (omega arith, e)
+fits-capacity ws h e = let m = capacity-most ws in (omega (arith, m .1), omega (arith, m .0))
 
 pub capacity-fits : (ws : List ℕ) → 3 * count ws < length ws → count ws ≤ 65534 → count ws ≤ capacity ws
-unfolding capacity
-capacity-fits ws h e = go (leb ((length ws - 1) / 3) 65534)
-  where
-    go : (b : Bool) → count ws ≤ cond b ((length ws - 1) / 3) 65534
-    go true = omega arith
-    go false = e
+capacity-fits ws h e = capacity-least ws (count ws) e (omega arith)
 
 pub sound-of : (K ws : List ℕ) → soundb K ws ≡ true → Sound K ws
 unfolding soundb

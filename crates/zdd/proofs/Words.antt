@@ -8,9 +8,8 @@ use native.Mathlib.Nat.{not-suc-le-zero, le-of-suc-le-suc, eq-or-lt-of-le}
 use native.Mathlib.Omega.{arith}
 use lib.ListN.{length, getD, drop, set, length-set, length-append, List·getD-append}
 use lib.Seq.{getD-drop, getD-at, ext-getD, getD-set-same, getD-set-other}
-use Rattle.zdd.specs.Table.{Node, node, blank, count, triples, nodesOf, family, Fine, Nodes, Sound}
+use Rattle.zdd.specs.Table.{Node, node, blank, count, triples, nodesOf, Fine, Nodes, Sound}
 use Rattle.zdd.proofs.Extend.{nodes-append}
-use Rattle.zdd.proofs.Canon.{canonical}
 
 length-triples : (n : ℕ) (ws : List ℕ) → length (triples n ws) ≡ n
 unfolding triples
@@ -45,11 +44,6 @@ node-at ws i a h e = triple-at (count ws) (drop 1 ws) i (3 * i) h refl ∙ drop-
 -- the count is within the capacity
 pub within-capacity : {K ws : List ℕ} → Sound K ws → count ws ≤ (length ws - 1) / 3
 within-capacity {K} {ws} s = omega (arith, s .room)
-
--- THEOREM: in a sound table two numbers with one family are one number
-pub sound-canonical : {K ws : List ℕ} → Sound K ws → (i j : ℕ) → i < count ws + 2 → j < count ws + 2
-    → family (nodesOf ws) i ≡ family (nodesOf ws) j → i ≡ j
-sound-canonical {K} {ws} s i j a b e = canonical (s .nodes) i j (omega (arith, length-nodes ws)) (omega (arith, length-nodes ws)) e
 
 -- ---- a node is appended
 

@@ -46,3 +46,8 @@ pub record Got (K : List ℕ) (c : ℕ) (ns : List Node) (b : Bool) (k : ℕ) (n
   pub known : k < suc (suc (length ns′))
   pub work : Worked c ns b ns′ b′ F
   pub holds : b′ ≡ false → family ns′ k ≡ F
+
+-- what a function whose result is one number says, no flag before: r is the number that was got for F, or it is n: there was no room
+pub record Gained (n : ℕ) (K : List ℕ) (c : ℕ) (ns : List Node) (r : ℕ) (ns′ : List Node) (F : Family) : Type 0 where
+  pub got : (r ≡ n → ⊥) → Got K c ns false r ns′ false F
+  pub full : r ≡ n → Got K c ns false 0 ns′ true F

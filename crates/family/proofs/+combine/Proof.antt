@@ -12,7 +12,7 @@ use Rattle.family.proofs.combine.Kinds as combine-kinds
 use Rattle.family.proofs.+combine.Lts-combine as combine-lts
 use Rattle.family.proofs.cut.Reads as cut-reads
 use Rattle.family.proofs.ended.Reads as ended-reads
-use Rattle.family.proofs.full.Reads as full-reads
+use Rattle.base.proofs.widened.Reads as widened-reads
 use Rattle.family.proofs.make.Reads as make-reads
 use Rattle.family.proofs.pack.Reads as pack-reads
 use Rattle.family.proofs.place.Reads as place-reads
@@ -43,8 +43,8 @@ combine-claims t = (
   combine.Post,
   make-reads.Asked,
   make-reads.Learnt,
-  full-reads.Asked,
-  full-reads.Learnt,
+  widened-reads.Asked,
+  widened-reads.Learnt,
 )
 
 combine-place-requires : (t : ℕ) → combine-lts.Need-place-requires (combine-claims t) (combine-at t) combine.Post
@@ -112,17 +112,18 @@ combine-make-requires t c κs = (c .before .before .before .before .before .befo
 combine-returns-4 : (t : ℕ) → combine-lts.Need-returns-4 (combine-claims t) (combine-at t) combine.Post
 combine-returns-4 t c =
     let here = c .before .before .before .before .before .before .before .before .before .before .before .before in let combine2 = here .combine2 in
-    let if2 = here .before .before .before .before .before .if2 in let combine′ = here .before .before .before .before .before .before .before .before .before .before .combine in
-    let cut′ = here .before .before .before .before .before .before .before .before .before .before .before .before .before .before .before .cut in
-    let args = here .before .before .before .before .before .before .before .before .before .before .before .before .before .before .before .before .before .before .before .before .before .before .before .before .before .args in
-    let pre = here .before .before .before .before .before .before .before .before .before .before .before .before .before .before .before .before .before .before .before .before .before .before .before .before .before .pre in
+    let if2 = here .before .before .before .before .before .if2 in let back = here .before .before .before .before .before .before .before .before .before .before in
+    let combine′ = back .combine in let cut′ = back .before .before .before .before .before .cut in
+    let far = back .before .before .before .before .before .before .before .before .before .before .before .before .before .before .before in let args = far .args in
+    let pre = far .pre in
     last-none (args .op) (pre .1 .0) (pre .1 .1 .1) (cut′ .ensures) (combine′ .ensures .0) (omega (arith, combine′ .ensures .0 .small, if2 .left)) (combine2 .ensures .0)
     (omega (arith, combine2 .ensures .0 .small, c .before .before .before .before .before .before .before .if3 .left)) (c .before .before .before .make .ensures) (c .if4 .taken)
 
 combine-mul-memo : (t : ℕ) → combine-lts.Need-mul-memo (combine-claims t) (combine-at t) combine.Post
 combine-mul-memo t c =
-    let here = c .before .before .before .before .before .before .before .before .before .before .before .before .before .before .before .before .before .before .before .before .before .before .before .before .before .before .before .before .before .before .before .before .before in
-    let pack′ = here .pack in let pre = here .before .before .before .before .pre in
+    let here = c .before .before .before .before .before .before .before .before .before .before .before .before .before .before .before .before .before .before in
+    let back = here .before .before .before .before .before .before .before .before .before .before .before .before .before .before .before in let pack′ = back .pack in
+    let pre = back .before .before .before .before .pre in
     omega (
       arith,
       packed-small (pack′ .ensures) (omega (arith, (pre .1 .1 .1) .0, (pre .1 .1 .1) .1, (pre .1 .0) .sound .few))
@@ -131,19 +132,21 @@ combine-mul-memo t c =
 
 combine-add-memo : (t : ℕ) → combine-lts.Need-add-memo (combine-claims t) (combine-at t) combine.Post
 combine-add-memo t c =
-    let here = c .before .before .before .before .before .before .before .before .before .before .before .before .before .before .before .before .before .before .before .before .before .before .before .before .before .before .before .before .before .before .before .before .before .before in
-    let pack′ = here .pack in let pre = here .before .before .before .before .pre in
+    let here = c .before .before .before .before .before .before .before .before .before .before .before .before .before .before .before .before .before .before in
+    let back = here .before .before .before .before .before .before .before .before .before .before .before .before .before .before .before .before in
+    let pack′ = back .pack in let pre = back .before .before .before .before .pre in
     omega (
       arith,
-      c .full .ensures,
+      c .widened .ensures,
       packed-small (pack′ .ensures) (omega (arith, (pre .1 .1 .1) .0, (pre .1 .1 .1) .1, (pre .1 .0) .sound .few))
           (omega (arith, (pre .1 .1 .1) .0, (pre .1 .1 .1) .1, (pre .1 .0) .sound .few)),
     )
 
 combine-mul-memo-2 : (t : ℕ) → combine-lts.Need-mul-memo-2 (combine-claims t) (combine-at t) combine.Post
 combine-mul-memo-2 t c =
-    let here = c .before .before .before .before .before .before .before .before .before .before .before .before .before .before .before .before .before .before .before .before .before .before .before .before .before .before .before .before .before .before .before .before .before in
-    let place′ = here .place in let good = here .before .before .before .before .before .good in
+    let here = c .before .before .before .before .before .before .before .before .before .before .before .before .before .before .before .before .before .before in
+    let back = here .before .before .before .before .before .before .before .before .before .before .before .before .before .before .before in let place′ = back .place in
+    let good = back .before .before .before .before .before .good in
     omega (arith, place′ .ensures, good .1 .1 .1 .1 .0 .1)
 
 combine-slice-write-memo : (t : ℕ) → combine-lts.Need-slice-write-memo (combine-claims t) (combine-at t) combine.Post
@@ -159,18 +162,16 @@ combine-same-length-9 t c =
 
 combine-returns-5 : (t : ℕ) → combine-lts.Need-returns-5 (combine-claims t) (combine-at t) combine.Post
 combine-returns-5 t c =
-    let here = c .before .before .before .before .before .before .before .before in let if3 = here .if3 in let combine2 = here .before .before .before .before .before .combine2 in
-    let if2 = here .before .before .before .before .before .before .before .before .before .before .if2 in
-    let memo = here .before .before .before .before .before .before .before .before .before .before .before .before .memo in
-    let combine′ = here .before .before .before .before .before .before .before .before .before .before .before .before .before .before .before .combine in
-    let cut′ = here .before .before .before .before .before .before .before .before .before .before .before .before .before .before .before .before .before .before .before .before .cut in
-    let place′ = here .before .before .before .before .before .before .before .before .before .before .before .before .before .before .before .before .before .before .before .before .before .before .before .before .before .place in
-    let pack′ = here .before .before .before .before .before .before .before .before .before .before .before .before .before .before .before .before .before .before .before .before .before .before .before .before .before .before .pack in
-    let args = here .before .before .before .before .before .before .before .before .before .before .before .before .before .before .before .before .before .before .before .before .before .before .before .before .before .before .before .before .before .before .args in
-    let pre = here .before .before .before .before .before .before .before .before .before .before .before .before .before .before .before .before .before .before .before .before .before .before .before .before .before .before .before .before .before .before .pre in
+    let if3 = c .before .before .before .before .before .before .before .before .if3 in
+    let here = c .before .before .before .before .before .before .before .before .before .before .before .before .before in let combine2 = here .combine2 in
+    let if2 = here .before .before .before .before .before .if2 in let memo = here .before .before .before .before .before .before .before .memo in
+    let back = here .before .before .before .before .before .before .before .before .before .before in let combine′ = back .combine in
+    let cut′ = back .before .before .before .before .before .cut in let far = back .before .before .before .before .before .before .before .before .before .before in
+    let place′ = far .place in let pack′ = far .before .pack in let args = far .before .before .before .before .before .args in
+    let pre = far .before .before .before .before .before .pre in
     last-stored (args .op) (pre .1 .0) (pre .1 .1 .1) (cut′ .ensures) (combine′ .ensures .0) (omega (arith, combine′ .ensures .0 .small, if2 .left)) (combine2 .ensures .0)
     (omega (arith, combine2 .ensures .0 .small, if3 .left)) (c .before .before .before .before .make .ensures) _ _ (pack′ .ensures)
-    (omega (arith, place′ .ensures, memo .given, c .before .before .before .before .before .before .before .before .before .before .memo2 .given)) (omega (arith, c .full .ensures .0))
+    (omega (arith, place′ .ensures, memo .given, c .before .before .before .before .before .before .before .before .before .before .memo2 .given)) (omega (arith, c .widened .ensures .0))
     (combine2 .ensures .1 (omega (arith, combine2 .ensures .0 .small, if3 .left)))
 
 pub +combine-spec : {M : Type 1} → statement M
@@ -187,8 +188,8 @@ pub +combine-spec : {M : Type 1} → statement M
   combine.Post,
   make-reads.Asked,
   make-reads.Learnt,
-  full-reads.Asked,
-  full-reads.Learnt,
+  widened-reads.Asked,
+  widened-reads.Learnt,
 )
     (combine-at t)
     combine.Post

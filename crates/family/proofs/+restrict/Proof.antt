@@ -183,11 +183,10 @@ restrict-returns-5 : (t : ℕ) → restrict-lts.Need-returns-5 (restrict-claims 
 restrict-returns-5 t c =
     let here = c .before .before .before .before .before .before .before .before .before .before in let restrict2 = here .restrict2 in
     let if3 = here .before .before .before .before .before .if3 in let restrict′ = here .before .before .before .before .before .before .before .before .restrict in
-    let if2 = here .before .before .before .before .before .before .before .before .before .before .before .before .before .if2 in
-    let wide′ = here .before .before .before .before .before .before .before .before .before .before .before .before .before .before .before .before .before .wide in
-    let if1 = here .before .before .before .before .before .before .before .before .before .before .before .before .before .before .before .before .before .before .if1 in
-    let soon′ = here .before .before .before .before .before .before .before .before .before .before .before .before .before .before .before .before .before .before .before .soon in
-    let pre = here .before .before .before .before .before .before .before .before .before .before .before .before .before .before .before .before .before .before .before .before .before .before .before .before .pre in
+    let back = here .before .before .before .before .before .before .before .before .before .before .before .before .before in let if2 = back .if2 in
+    let wide′ = back .before .before .before .before .wide in let if1 = back .before .before .before .before .before .if1 in
+    let soon′ = back .before .before .before .before .before .before .soon in
+    let far = back .before .before .before .before .before .before .before .before .before .before .before in let pre = far .pre in
     last-none (open-of (3 * wide′ .result - 5) (pre .1 .0) (pre .1 .1 .0) (pre .1 .1 .1) (soon′ .ensures) (if1 .left) (omega (arith, wide′ .ensures))) (λ e. omega (arith, if2 .left))
     (restrict′ .ensures .0) (omega (arith, restrict′ .ensures .0 .small, if3 .left)) (restrict2 .ensures .0)
     (omega (arith, restrict2 .ensures .0 .small, c .before .before .before .before .before .before .before .if4 .left)) (c .before .before .before .make2 .ensures) (c .if5 .taken)
@@ -196,11 +195,10 @@ restrict-add-memo : (t : ℕ) → restrict-lts.Need-add-memo (restrict-claims t)
 restrict-add-memo t c =
     let here = c .before .before .before .before .before .before .before .before .before .before in let restrict2 = here .restrict2 in
     let if3 = here .before .before .before .before .before .if3 in let restrict′ = here .before .before .before .before .before .before .before .before .restrict in
-    let if2 = here .before .before .before .before .before .before .before .before .before .before .before .before .before .if2 in
-    let wide′ = here .before .before .before .before .before .before .before .before .before .before .before .before .before .before .before .before .before .wide in
-    let if1 = here .before .before .before .before .before .before .before .before .before .before .before .before .before .before .before .before .before .before .if1 in
-    let soon′ = here .before .before .before .before .before .before .before .before .before .before .before .before .before .before .before .before .before .before .before .soon in
-    let pre = here .before .before .before .before .before .before .before .before .before .before .before .before .before .before .before .before .before .before .before .before .before .before .before .before .pre in
+    let back = here .before .before .before .before .before .before .before .before .before .before .before .before .before in let if2 = back .if2 in
+    let wide′ = back .before .before .before .before .wide in let if1 = back .before .before .before .before .before .if1 in
+    let soon′ = back .before .before .before .before .before .before .soon in
+    let far = back .before .before .before .before .before .before .before .before .before .before .before in let pre = far .pre in
     omega (
       arith,
       last-small (open-of (3 * wide′ .result - 5) (pre .1 .0) (pre .1 .1 .0) (pre .1 .1 .1) (soon′ .ensures) (if1 .left) (omega (arith, wide′ .ensures)))
@@ -210,26 +208,27 @@ restrict-add-memo t c =
 
 restrict-mul-memo : (t : ℕ) → restrict-lts.Need-mul-memo (restrict-claims t) (restrict-at t) restrict.Post
 restrict-mul-memo t c =
-    let here = c .before .before .before .before .before .before .before .before .before .before .before .before .before .before .before .before .before .before .before .before .before .before .before .before .before .before .before in
-    let wide′ = here .wide in let pre = here .before .before .before .before .before .before .before .pre in
+    let here = c .before .before .before .before .before .before .before .before .before .before .before .before .before .before .before .before .before .before in
+    let back = here .before .before .before .before .before .before .before .before .before in let wide′ = back .wide in
+    let pre = back .before .before .before .before .before .before .before .pre in
     omega (arith, wide′ .ensures, pre .1 .1 .1 .0, pre .1 .0 .sound .few)
 
 restrict-element-write-memo : (t : ℕ) → restrict-lts.Need-element-write-memo (restrict-claims t) (restrict-at t) restrict.Post
 restrict-element-write-memo t c =
-    let here = c .before .before .before .before .before .before .before .before .before .before .before .before .before .before .before .before .before .before .before .before .before .before .before .before .before .before .before in
-    let wide′ = here .wide in let pre = here .before .before .before .before .before .before .before .pre in
+    let here = c .before .before .before .before .before .before .before .before .before .before .before .before .before .before .before .before .before .before in
+    let back = here .before .before .before .before .before .before .before .before .before in let wide′ = back .wide in
+    let pre = back .before .before .before .before .before .before .before .pre in
     omega (arith, wide′ .ensures, pre .1 .1 .1 .0, pre .1 .0 .sound .few)
 
 restrict-returns-6 : (t : ℕ) → restrict-lts.Need-returns-6 (restrict-claims t) (restrict-at t) restrict.Post
 restrict-returns-6 t c =
-    let here = c .before .before .before .before .before .before .before in let if4 = here .if4 in let restrict2 = here .before .before .before .restrict2 in
-    let if3 = here .before .before .before .before .before .before .before .before .if3 in
-    let restrict′ = here .before .before .before .before .before .before .before .before .before .before .before .restrict in
-    let if2 = here .before .before .before .before .before .before .before .before .before .before .before .before .before .before .before .before .if2 in
-    let wide′ = here .before .before .before .before .before .before .before .before .before .before .before .before .before .before .before .before .before .before .before .before .wide in
-    let if1 = here .before .before .before .before .before .before .before .before .before .before .before .before .before .before .before .before .before .before .before .before .before .if1 in
-    let soon′ = here .before .before .before .before .before .before .before .before .before .before .before .before .before .before .before .before .before .before .before .before .before .before .soon in
-    let pre = here .before .before .before .before .before .before .before .before .before .before .before .before .before .before .before .before .before .before .before .before .before .before .before .before .before .before .before .pre in
+    let if4 = c .before .before .before .before .before .before .before .if4 in
+    let here = c .before .before .before .before .before .before .before .before .before .before in let restrict2 = here .restrict2 in
+    let if3 = here .before .before .before .before .before .if3 in let restrict′ = here .before .before .before .before .before .before .before .before .restrict in
+    let back = here .before .before .before .before .before .before .before .before .before .before .before .before .before in let if2 = back .if2 in
+    let wide′ = back .before .before .before .before .wide in let if1 = back .before .before .before .before .before .if1 in
+    let soon′ = back .before .before .before .before .before .before .soon in
+    let far = back .before .before .before .before .before .before .before .before .before .before .before in let pre = far .pre in
     last-stored (open-of (3 * wide′ .result - 5) (pre .1 .0) (pre .1 .1 .0) (pre .1 .1 .1) (soon′ .ensures) (if1 .left) (omega (arith, wide′ .ensures))) (λ e. omega (arith, if2 .left))
     (restrict′ .ensures .0) (omega (arith, restrict′ .ensures .0 .small, if3 .left)) (restrict2 .ensures .0) (omega (arith, restrict2 .ensures .0 .small, if4 .left))
     (c .before .before .before .make2 .ensures) _ _ (wide′ .ensures) refl (restrict2 .ensures .1 (omega (arith, restrict2 .ensures .0 .small, if4 .left)))

@@ -1,6 +1,6 @@
 use mathlib.Core.Path.{refl}
 use native.Mathlib.Omega.{arith}
-use Rattle.family.proofs.GivesLaws.{makes-done, makes-full}
+use Rattle.family.proofs.GivesLaws.{produced-done, produced-full}
 use borrow.Author.Needs.{needs}
 use Rattle.family.proofs.combination.Statement.{statement}
 use Rattle.family.proofs.combination.Tie as tie
@@ -14,11 +14,11 @@ rollback-requires c κs = c .before .before .before .before .before .before .rem
 returns : tie.Need-returns
 returns c =
     let pre = c .before .before .before .before .before .before .before .before .before .before .before .before .before .before .before .before .before .before .pre in
-    makes-full (c .before .before .before .before .before .before .before .before .before .remembering .ensures) (c .before .before .before .before .if1 .taken) (pre .0 .sound) refl
+    produced-full (c .before .before .before .before .before .before .before .before .before .remembering .ensures) (c .before .before .before .before .if1 .taken) (pre .0 .sound) refl
     (c .before .before .rollback .ensures)
 
 returns-2 : tie.Need-returns-2
-returns-2 c = makes-done (c .before .before .before .before .before .remembering .ensures) (λ e. omega (arith, c .if1 .left))
+returns-2 c = produced-done (c .before .before .before .before .before .remembering .ensures) (λ e. omega (arith, c .if1 .left))
 
 pub combination-spec : {M : Type 1} → statement M
 combination-spec =

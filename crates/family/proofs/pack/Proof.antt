@@ -5,10 +5,10 @@ use Rattle.family.proofs.pack.Statement.{statement}
 use Rattle.family.proofs.pack.Tie as tie
 
 returns : tie.Need-returns
-returns c = packed-turned _ _ _ (c .before .before .before .if1 .taken) (omega (arith, c .before .full .ensures .0, c .full2 .ensures .0))
+returns c = packed-turned _ _ _ (c .before .before .before .if1 .taken) (omega (arith, c .before .widened .ensures .0, c .widened2 .ensures .0))
 
 returns-2 : tie.Need-returns-2
-returns-2 c = packed-straight _ _ _ (omega (arith, c .before .full3 .ensures .0, c .full4 .ensures .0))
+returns-2 c = packed-straight _ _ _ (omega (arith, c .before .widened3 .ensures .0, c .widened4 .ensures .0))
 
 pub pack-spec : {M : Type 1} → statement M
 pack-spec =

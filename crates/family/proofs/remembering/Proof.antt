@@ -3,8 +3,8 @@ use lib.Seq.{length-take-le}
 use native.Mathlib.Omega.{arith}
 use Prim.Native.Nat.{ℕ}
 use lib.ListN.{length-replicate}
-use Rattle.family.proofs.CombineLaws.{stored-fresh}
-use Rattle.family.proofs.RestrictLaws.{zeros}
+use Rattle.family.proofs.CombineLaws.{remembered-fresh}
+use Rattle.base.proofs.Wiping.{zeros}
 use borrow.Author.Needs.{needs}
 use Rattle.family.proofs.remembering.Statement.{statement}
 use Rattle.family.proofs.remembering.Tie as tie
@@ -12,7 +12,7 @@ use Rattle.family.proofs.remembering.Tie as tie
 combine-requires : tie.Need-combine-requires
 combine-requires c κs =
     let pre = c .before .before .before .before .before .before .before .before .pre in
-    (pre .0, (stored-fresh _ _ _ _ (omega (arith, length-replicate {A = ℕ} 65536 0)) (λ i. zeros 65536 i), pre .1))
+    (pre .0, (remembered-fresh _ _ _ _ (omega (arith, length-replicate {A = ℕ} 65536 0)) (λ i. zeros 65536 i), pre .1))
 
 slice-aggregate-afresh : tie.Need-slice-aggregate-afresh
 slice-aggregate-afresh c =

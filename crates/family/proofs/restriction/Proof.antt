@@ -2,8 +2,9 @@ use Prim.Native.Nat.{ℕ}
 use mathlib.Core.Path.{refl}
 use native.Mathlib.Omega.{arith}
 use lib.ListN.{length-replicate}
-use Rattle.family.proofs.RestrictLaws.{zeros, kept-fresh}
-use Rattle.family.proofs.GivesLaws.{makes-done, makes-full}
+use Rattle.base.proofs.Wiping.{zeros}
+use Rattle.family.proofs.RestrictLaws.{kept-fresh}
+use Rattle.family.proofs.GivesLaws.{produced-done, produced-full}
 use borrow.Author.Needs.{needs}
 use Rattle.family.proofs.restriction.Statement.{statement}
 use Rattle.family.proofs.restriction.Tie as tie
@@ -22,11 +23,11 @@ rollback-requires c κs = c .before .before .before .before .restrict .ensures .
 returns : tie.Need-returns
 returns c =
     let pre = c .before .before .before .before .before .before .before .before .before .before .before .before .before .before .before .pre in
-    makes-full (c .before .before .before .before .before .before .before .restrict .ensures .0) (c .before .before .before .before .if1 .taken) (pre .0 .sound) refl
+    produced-full (c .before .before .before .before .before .before .before .restrict .ensures .0) (c .before .before .before .before .if1 .taken) (pre .0 .sound) refl
     (c .before .before .rollback .ensures)
 
 returns-2 : tie.Need-returns-2
-returns-2 c = makes-done (c .before .before .before .restrict .ensures .0) (λ e. omega (arith, c .if1 .left))
+returns-2 c = produced-done (c .before .before .before .restrict .ensures .0) (λ e. omega (arith, c .if1 .left))
 
 pub restriction-spec : {M : Type 1} → statement M
 restriction-spec =

@@ -1,4 +1,4 @@
-use Rattle.query.proofs.Walks.{Walk, walk-start, walk-end, walk-inside, here, walk-hi, walk-lo}
+use Rattle.query.proofs.Walks.{PickWalk, walk-start, walk-end, walk-inside, here, walk-hi, walk-lo}
 use Rattle.query.proofs.Parts.{branch}
 use Rattle.query.specs.Questions.{familyAt, nth}
 use lib.ListN.{length}
@@ -10,7 +10,7 @@ use Rattle.query.proofs.measure.Statement.{statement}
 use Rattle.query.proofs.measure.Tie as tie
 
 abbrev Inv-loop : tie.InvT-loop
-Inv-loop t a k work node₀ rest₀ n₀ node rest n = Walk t a node rest n × (rest ≤ k) × (length (nth (familyAt t a) k) ≡ n + length (nth (familyAt t node) rest))
+Inv-loop t a k work node₀ rest₀ n₀ node rest n = PickWalk t a node rest n × (rest ≤ k) × (length (nth (familyAt t a) k) ≡ n + length (nth (familyAt t node) rest))
 
 abbrev μ-loop : tie.MeasureT-loop
 μ-loop t a k work node₀ rest₀ n₀ node rest n = node

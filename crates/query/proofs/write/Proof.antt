@@ -1,5 +1,5 @@
 use Rattle.query.proofs.Pages.{Page, page-start, page-room, page-more, page-end}
-use Rattle.query.proofs.Walks.{Walk, walk-start, walk-end, walk-inside, here, walk-hi, walk-lo}
+use Rattle.query.proofs.Walks.{PickWalk, walk-start, walk-end, walk-inside, here, walk-hi, walk-lo}
 use Rattle.query.proofs.Parts.{branch}
 use Rattle.query.specs.Questions.{familyAt, nth}
 use native.Mathlib.Omega.{arith}
@@ -9,7 +9,7 @@ use Rattle.query.proofs.write.Statement.{statement}
 use Rattle.query.proofs.write.Tie as tie
 
 abbrev Inv-loop : tie.InvT-loop
-Inv-loop t a k work page₀ node₀ left₀ n₀ page node left n = Walk t a node left n × (left ≤ k) × Page (nth (familyAt t a) k) page₀ page n (nth (familyAt t node) left)
+Inv-loop t a k work page₀ node₀ left₀ n₀ page node left n = PickWalk t a node left n × (left ≤ k) × Page (nth (familyAt t a) k) page₀ page n (nth (familyAt t node) left)
 
 abbrev μ-loop : tie.MeasureT-loop
 μ-loop t a k work page₀ node₀ left₀ n₀ page node left n = node

@@ -1,5 +1,5 @@
 use Rattle.table.proofs.IndexLaws as index
-use Rattle.table.proofs.CheckLaws.{Passed, passed-none, passed-more, refused, not-fine, not-once, decided}
+use Rattle.table.proofs.CheckLaws.{NodesPassed, passed-none, passed-more, refused, not-fine, not-once, decided}
 use Rattle.zdd.specs.Table.{nodesOf}
 use borrow.Author.Tests.{not-true, not-false}
 use native.Mathlib.Omega.{arith}
@@ -9,7 +9,7 @@ use Rattle.table.proofs.check.Statement.{statement}
 use Rattle.table.proofs.check.Tie as tie
 
 abbrev Inv-loop : tie.InvT-loop
-Inv-loop t keys heads₀ next₀ n i₀ heads next i = Passed keys t i heads next
+Inv-loop t keys heads₀ next₀ n i₀ heads next i = NodesPassed keys t i heads next
 
 abbrev μ-loop : tie.MeasureT-loop
 μ-loop t keys heads₀ next₀ n i₀ heads next i = n - i

@@ -1,4 +1,4 @@
-use Rattle.table.proofs.Walk.{Walk, start, falls, step, hit, miss}
+use Rattle.table.proofs.Walk.{FindWalk, start, falls, step, hit, miss}
 use Rattle.zdd.specs.Table.{nodesOf, node}
 use native.Mathlib.Omega.{arith}
 use borrow.Author.Needs.{needs}
@@ -6,7 +6,7 @@ use Rattle.table.proofs.find.Statement.{statement}
 use Rattle.table.proofs.find.Tie as tie
 
 abbrev Inv-loop : tie.InvT-loop
-Inv-loop t heads next m h label lo hi k₀ k = Walk (nodesOf t) m (node label lo hi) k
+Inv-loop t heads next m h label lo hi k₀ k = FindWalk (nodesOf t) m (node label lo hi) k
 
 abbrev μ-loop : tie.MeasureT-loop
 μ-loop t heads next m h label lo hi k₀ k = k

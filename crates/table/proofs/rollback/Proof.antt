@@ -1,4 +1,4 @@
-use Rattle.table.proofs.RollLaws.{Wiped, wiped-none, wiped-more, rolled}
+use Rattle.table.proofs.RollLaws.{WipedFrom, wiped-none, wiped-more, rolled}
 use lib.ListN.{length-set}
 use native.Mathlib.Omega.{arith}
 use Prim.Native.Nat.{_+_, _-_}
@@ -7,7 +7,7 @@ use Rattle.table.proofs.rollback.Statement.{statement}
 use Rattle.table.proofs.rollback.Tie as tie
 
 abbrev Inv-loop : tie.InvT-loop
-Inv-loop t₀ n end j₀ t j = Wiped t₀ j₀ j t
+Inv-loop t₀ n end j₀ t j = WipedFrom t₀ j₀ j t
 
 abbrev μ-loop : tie.MeasureT-loop
 μ-loop t₀ n end j₀ t j = end + 1 - j
