@@ -9,6 +9,7 @@ use native.Mathlib.Omega.{arith}
 use contract.Lifetimes.{Lfts}
 use denote.Triple.Clauses.{AtExit}
 use borrow.Fn.Kinds.{Dens, resT, endedOf}
+use Rattle.exact_cover.specs.Problem.{problemOf}
 use Rattle.statement.specs.Refusals.{firstOf, oversize, stray, unsound, checkRefusal}
 use Rattle.statement.specs.Replies.{Reply, refused, reply, soundnessReply}
 use Rattle.statement.specs.Postconditions.{CheckPost}
@@ -21,7 +22,7 @@ use Rattle.bids.proofs.Refused.{accepted-sized, accepted-listed}
 
 -- what `engine::check` ensures is `CheckPost` of M, the packages and the table that it is lent
 check-ensures : (κs : Lfts 2) (a : Dens κs check.ps) (r : resT check.r κs .Denot) (e : AtExit (endedOf 2 check.ps check.r) κs)
-    → check-reads.Learnt κs a r e → CheckPost (a .1 .0 .now) (a .0) (a .1 .1 .0 .now) r
+    → check-reads.Learnt κs a r e → CheckPost (problemOf (a .1 .0 .now)) (a .0) (a .1 .1 .0 .now) r
 check-ensures κs a r e p = p
 
 -- by the tests of the check: o and s are the first two, u the third
@@ -44,7 +45,8 @@ module _ (b : List ℕ) (κs : Lfts 2) (a : Dens κs check.ps) (r : resT check.r
   -- THEOREM
   pub unfit-is-one-or-two : (unfit b ≡ true) ↔ ((soundnessReply r ≡ refused 1) ⊎ (soundnessReply r ≡ refused 2))
   unfolding unfit checkRefusal
-  unfit-is-one-or-two = one-or-two (oversize (schools b + slots b) (packagesOf b)) (stray (schools b + slots b) (packagesOf b)) (unsound (packagesOf b) (a .1 .1 .0 .now)) (soundnessReply r)
+  unfit-is-one-or-two = one-or-two (oversize (schools b + slots b) (problemOf (packagesOf b))) (stray (schools b + slots b) (problemOf (packagesOf b)))
+      (unsound (problemOf (packagesOf b)) (a .1 .1 .0 .now)) (soundnessReply r)
       (rw (items, lent) at (check-ensures κs a r e said .result))
 
   -- THEOREM

@@ -38,12 +38,12 @@ getD-listed f (suc n) k p = go (ℕ-discrete k n) (λ q. getD-listed f n k q)
     go (no e) ih = List·getD-append (listed f n) (f n ∷ []) 0 k (omega (arith, length-listed f n)) ∙ ih (omega arith)
 
 -- the engine's refusal 2, package by package
-all-fit : (m : ℕ) (S : List ℕ) → ((k : ℕ) → k < length S → (0 < getD S k 0) × (getD S k 0 < 2 ^ m)) → engine.stray m S ≡ false
-unfolding engine.stray belowb
+all-fit : (m : ℕ) (xs : List ℕ) → ((k : ℕ) → k < length xs → (0 < getD xs k 0) × (getD xs k 0 < 2 ^ m)) → engine.strayIn m xs ≡ false
+unfolding engine.strayIn belowb
 all-fit m [] f = refl
-all-fit m (x ∷ S) f =
+all-fit m (x ∷ xs) f =
     let h = f 0 (omega arith) in
-    rw (ne-eqb x 0 (λ e. omega arith), lt-ltb x (2 ^ m) (h .1)) (all-fit m S (λ k q. f (suc k) (omega arith)))
+    rw (ne-eqb x 0 (λ e. omega arith), lt-ltb x (2 ^ m) (h .1)) (all-fit m xs (λ k q. f (suc k) (omega arith)))
 
 module _ (b : List ℕ) (listed-all : stray b (schools b) (slots b) (packages b) ≡ false) where
   kept : (k : ℕ) → k < packages b → (schoolOf b (schools b) k < schools b) × (slotsOf b (schools b) k < 2 ^ slots b)
@@ -71,7 +71,7 @@ module _ (b : List ℕ) (listed-all : stray b (schools b) (slots b) (packages b)
 
   -- 28 never applies
   pub fit : {s t n : ℕ} → Sized b s t n → unfit b ≡ false
-  unfolding unfit engine.oversize packagesOf
+  unfolding unfit engine.oversize engine.stray packagesOf
   fit p =
       let l = length-listed (itemsOf b (schools b)) (packages b) in
       rw (

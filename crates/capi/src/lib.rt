@@ -1,6 +1,7 @@
 // The public calls for C, as exported functions on numbers, slices and structs by value: include/mogedorn.h describes them. Each has the contract of the
 // engine's call, of the answer that its struct stands for (specs/Structs), and none has a `requires`, since nothing checks a C caller.
 ghost use lib.ListN.{length};
+ghost use Rattle.exact_cover.specs.Problem.{problemOf};
 ghost use Rattle.statement.specs.Replies.{soundnessReply, countReply, pickReply, placeReply, cheapestReply};
 ghost use Rattle.statement.specs.Postconditions.{CheckPost, CountPost, PickPost, PlacePost, CheapestPost, CoverPost, EitherPost, BothPost, OnlyPost, WithPost, WithoutPost};
 ghost use Rattle.bids.specs.Contract.{readReply, ReadPost};
@@ -180,7 +181,7 @@ fn reading(b: Reading) -> Bids
 
 #[no_mangle]
 pub extern "C" fn mogedorn_check(m: u32, packages: &[u64], t: &[u32]) -> u32
-    ensures { λ r. ⌜ CheckPost (now (packages .entry)) m (now (t .entry)) (soundnessOf r) ⌝ }
+    ensures { λ r. ⌜ CheckPost (problemOf (now (packages .entry))) m (now (t .entry)) (soundnessOf r) ⌝ }
 {
     let s = engine::check(m, packages, t);
     soundness(s)
@@ -194,7 +195,7 @@ pub extern "C" fn mogedorn_count(
     answer: u32,
     work: &mut [u64],
 ) -> Number
-    ensures { λ r. ⌜ CountPost (now (packages .entry)) m (now (t .entry)) answer (length (now (work .entry))) (countedOf r) ⌝ }
+    ensures { λ r. ⌜ CountPost (problemOf (now (packages .entry))) m (now (t .entry)) answer (length (now (work .entry))) (countedOf r) ⌝ }
     ensures { λ r. ⌜ BlankNumber r ⌝ }
 {
     let c = engine::count(m, packages, t, answer, work);
@@ -211,7 +212,7 @@ pub extern "C" fn mogedorn_pick(
     work: &mut [u64],
     page: &mut [u16],
 ) -> Timetable
-    ensures { λ r. ⌜ PickPost (now (packages .entry)) m (now (t .entry)) answer k (length (now (work .entry))) (now (page .entry)) (pickedOf r) (now (page .exit)) ⌝ }
+    ensures { λ r. ⌜ PickPost (problemOf (now (packages .entry))) m (now (t .entry)) answer k (length (now (work .entry))) (now (page .entry)) (pickedOf r) (now (page .exit)) ⌝ }
     ensures { λ r. ⌜ BlankPick r ⌝ }
 {
     let p = engine::pick(m, packages, t, answer, k, work, page);
@@ -227,7 +228,7 @@ pub extern "C" fn mogedorn_place(
     list: &[u16],
     work: &mut [u64],
 ) -> Number
-    ensures { λ r. ⌜ PlacePost (now (packages .entry)) m (now (t .entry)) answer (now (list .entry)) (length (now (work .entry))) (placedOf r) ⌝ }
+    ensures { λ r. ⌜ PlacePost (problemOf (now (packages .entry))) m (now (t .entry)) answer (now (list .entry)) (length (now (work .entry))) (placedOf r) ⌝ }
     ensures { λ r. ⌜ BlankNumber r ⌝ }
 {
     let p = engine::place(m, packages, t, answer, list, work);
@@ -244,7 +245,7 @@ pub extern "C" fn mogedorn_cheapest(
     work: &mut [u64],
     page: &mut [u16],
 ) -> Timetable
-    ensures { λ r. ⌜ CheapestPost (now (packages .entry)) m (now (costs .entry)) (now (t .entry)) answer (length (now (work .entry))) (now (page .entry)) (pricedOf r) (now (page .exit)) ⌝ }
+    ensures { λ r. ⌜ CheapestPost (problemOf (now (packages .entry))) m (now (costs .entry)) (now (t .entry)) answer (length (now (work .entry))) (now (page .entry)) (pricedOf r) (now (page .exit)) ⌝ }
     ensures { λ r. ⌜ BlankTimetable r ⌝ }
 {
     let p = engine::cheapest(m, packages, costs, t, answer, work, page);
@@ -260,7 +261,7 @@ pub extern "C" fn mogedorn_cover(
     limit: u32,
     work: &mut [u64],
 ) -> Report
-    ensures { λ r. ⌜ CoverPost (now (packages .entry)) m (now (t .entry)) d limit (length (now (work .entry))) (reportOf r) (now (t .exit)) ⌝ }
+    ensures { λ r. ⌜ CoverPost (problemOf (now (packages .entry))) m (now (t .entry)) d limit (length (now (work .entry))) (reportOf r) (now (t .exit)) ⌝ }
     ensures { λ r. ⌜ BlankReport r ⌝ }
 {
     let r = engine::cover(m, packages, t, d, limit, work);
@@ -276,7 +277,7 @@ pub extern "C" fn mogedorn_either(
     b: u32,
     work: &mut [u64],
 ) -> Report
-    ensures { λ r. ⌜ EitherPost (now (packages .entry)) m (now (t .entry)) a b (length (now (work .entry))) (reportOf r) (now (t .exit)) ⌝ }
+    ensures { λ r. ⌜ EitherPost (problemOf (now (packages .entry))) m (now (t .entry)) a b (length (now (work .entry))) (reportOf r) (now (t .exit)) ⌝ }
     ensures { λ r. ⌜ BlankReport r ⌝ }
 {
     let r = engine::either(m, packages, t, a, b, work);
@@ -292,7 +293,7 @@ pub extern "C" fn mogedorn_both(
     b: u32,
     work: &mut [u64],
 ) -> Report
-    ensures { λ r. ⌜ BothPost (now (packages .entry)) m (now (t .entry)) a b (length (now (work .entry))) (reportOf r) (now (t .exit)) ⌝ }
+    ensures { λ r. ⌜ BothPost (problemOf (now (packages .entry))) m (now (t .entry)) a b (length (now (work .entry))) (reportOf r) (now (t .exit)) ⌝ }
     ensures { λ r. ⌜ BlankReport r ⌝ }
 {
     let r = engine::both(m, packages, t, a, b, work);
@@ -308,7 +309,7 @@ pub extern "C" fn mogedorn_only(
     b: u32,
     work: &mut [u64],
 ) -> Report
-    ensures { λ r. ⌜ OnlyPost (now (packages .entry)) m (now (t .entry)) a b (length (now (work .entry))) (reportOf r) (now (t .exit)) ⌝ }
+    ensures { λ r. ⌜ OnlyPost (problemOf (now (packages .entry))) m (now (t .entry)) a b (length (now (work .entry))) (reportOf r) (now (t .exit)) ⌝ }
     ensures { λ r. ⌜ BlankReport r ⌝ }
 {
     let r = engine::only(m, packages, t, a, b, work);
@@ -324,7 +325,7 @@ pub extern "C" fn mogedorn_with(
     p: u32,
     work: &mut [u64],
 ) -> Report
-    ensures { λ r. ⌜ WithPost (now (packages .entry)) m (now (t .entry)) a p (length (now (work .entry))) (reportOf r) (now (t .exit)) ⌝ }
+    ensures { λ r. ⌜ WithPost (problemOf (now (packages .entry))) m (now (t .entry)) a p (length (now (work .entry))) (reportOf r) (now (t .exit)) ⌝ }
     ensures { λ r. ⌜ BlankReport r ⌝ }
 {
     let r = engine::with(m, packages, t, a, p, work);
@@ -340,7 +341,7 @@ pub extern "C" fn mogedorn_without(
     p: u32,
     work: &mut [u64],
 ) -> Report
-    ensures { λ r. ⌜ WithoutPost (now (packages .entry)) m (now (t .entry)) a p (length (now (work .entry))) (reportOf r) (now (t .exit)) ⌝ }
+    ensures { λ r. ⌜ WithoutPost (problemOf (now (packages .entry))) m (now (t .entry)) a p (length (now (work .entry))) (reportOf r) (now (t .exit)) ⌝ }
     ensures { λ r. ⌜ BlankReport r ⌝ }
 {
     let r = engine::without(m, packages, t, a, p, work);

@@ -1,5 +1,6 @@
 -- THEOREM: the soundness check and count say of the words that the code makes of the kiosk's list what they say of the table whose words are the
 -- number of nodes and then the triples', however long the list is. Assumes nothing.
+use Rattle.exact_cover.specs.Problem.{Problem, problemOf}
 use mathlib.Core.Path.{_≡_, refl, sym, ap, _∙_, subst}
 use mathlib.Core.Bool.{Bool, true, false, cond, not}
 use mathlib.Core.List.{List, [], _∷_}
@@ -62,10 +63,10 @@ no-room K u e = is-false (soundb K u) (λ h. let s = sound-of K u h in omega (ar
 
 -- ---- the calls on such tables
 
-check-alike : {S : List ℕ} {m : ℕ} {u v : List ℕ} {r : Soundness} → Alike (keysOf S) u v → CheckPost S m u r → CheckPost S m v r
+check-alike : {Q : Problem} {m : ℕ} {u v : List ℕ} {r : Soundness} → Alike (keysOf Q) u v → CheckPost Q m u r → CheckPost Q m v r
 unfolding checkRefusal unsound
-check-alike {S} {m} {u} {v} {r} a p = record {
-  result = p .result ∙ ap (λ (b : Bool). reply (firstOf ((oversize m S, 1) ∷ (stray m S, 2) ∷ (not b, 4) ∷ [])) tt) (a .sound);
+check-alike {Q} {m} {u} {v} {r} a p = record {
+  result = p .result ∙ ap (λ (b : Bool). reply (firstOf ((oversize m Q, 1) ∷ (stray m Q, 2) ∷ (not b, 4) ∷ [])) tt) (a .sound);
 }
 
 -- refused by 4 or before it, whatever stands behind
@@ -76,23 +77,23 @@ shut true s ts ts′ x x′ = refl
 shut false true ts ts′ x x′ = refl
 shut false false ts ts′ x x′ = refl
 
-count-alike : {S : List ℕ} {m : ℕ} {u v : List ℕ} {a words : ℕ} {r : Counted} → Alike (keysOf S) u v → CountPost S m u a words r → CountPost S m v a words r
+count-alike : {Q : Problem} {m : ℕ} {u v : List ℕ} {a words : ℕ} {r : Counted} → Alike (keysOf Q) u v → CountPost Q m u a words r → CountPost Q m v a words r
 unfolding countRefusal unsound unknownAnswer
-count-alike {S} {m} {u} {v} {a} {words} {r} k p = record { result = p .result ∙ by-test (soundb (keysOf S) u) good bad }
+count-alike {Q} {m} {u} {v} {a} {words} {r} k p = record { result = p .result ∙ by-test (soundb (keysOf Q) u) good bad }
   where
     behind : ℕ → List TableNode → List (Bool × ℕ)
     behind c ns = (leb (c + 2) a, 5) ∷ (shortWork (a + 1) words, 8) ∷ (uncountable (family ns a), 11) ∷ []
 
     -- what count says where the table is sound or not, and has c nodes, ns
     says : Bool → ℕ → List TableNode → Reply ℕ
-    says b c ns = reply (firstOf ((oversize m S, 1) ∷ (stray m S, 2) ∷ (not b, 4) ∷ behind c ns)) (length (family ns a))
+    says b c ns = reply (firstOf ((oversize m Q, 1) ∷ (stray m Q, 2) ∷ (not b, 4) ∷ behind c ns)) (length (family ns a))
 
-    good : soundb (keysOf S) u ≡ true → says (soundb (keysOf S) u) (count u) (nodesOf u) ≡ says (soundb (keysOf S) v) (count v) (nodesOf v)
+    good : soundb (keysOf Q) u ≡ true → says (soundb (keysOf Q) u) (count u) (nodesOf u) ≡ says (soundb (keysOf Q) v) (count v) (nodesOf v)
     good e = λ i. says (k .sound i) (k .counts e i) (k .nodes e i)
 
-    bad : soundb (keysOf S) u ≡ false → says (soundb (keysOf S) u) (count u) (nodesOf u) ≡ says (soundb (keysOf S) v) (count v) (nodesOf v)
+    bad : soundb (keysOf Q) u ≡ false → says (soundb (keysOf Q) u) (count u) (nodesOf u) ≡ says (soundb (keysOf Q) v) (count v) (nodesOf v)
     bad e =
-        ap (λ (b : Bool). says b (count u) (nodesOf u)) e ∙ shut (oversize m S) (stray m S) (behind (count u) (nodesOf u)) (behind (count v) (nodesOf v))
+        ap (λ (b : Bool). says b (count u) (nodesOf u)) e ∙ shut (oversize m Q) (stray m Q) (behind (count u) (nodesOf u)) (behind (count v) (nodesOf v))
         (length (family (nodesOf u) a)) (length (family (nodesOf v) a))
         ∙ ap (λ (b : Bool). says b (count v) (nodesOf v)) (sym e ∙ k .sound)
 
@@ -165,12 +166,12 @@ zeros zero j = refl
 zeros (suc n) zero = refl
 zeros (suc n) (suc j) = zeros n j
 
-module _ (S : List ℕ) (m n : ℕ) (ns : List Node) where
-  made : (k : ℕ) → k ≡ 196603 → Alike (keysOf S) (headed (filled (replicate k 0) ns (length ns)) n (length ns)) (tableOf n (nodesIn ns))
-  made k e = alike (replicate k 0) (length-replicate k 0 ∙ e) (zeros k) (keysOf S) n ns
+module _ (Q : Problem) (m n : ℕ) (ns : List Node) where
+  made : (k : ℕ) → k ≡ 196603 → Alike (keysOf Q) (headed (filled (replicate k 0) ns (length ns)) n (length ns)) (tableOf n (nodesIn ns))
+  made k e = alike (replicate k 0) (length-replicate k 0 ∙ e) (zeros k) (keysOf Q) n ns
 
-  pub check-same : (r : Soundness) → CheckPost S m (headed (filled (replicate 196603 0) ns (length ns)) n (length ns)) r → KioskCheckPost S m n (nodesIn ns) r
+  pub check-same : (r : Soundness) → CheckPost Q m (headed (filled (replicate 196603 0) ns (length ns)) n (length ns)) r → KioskCheckPost Q m n (nodesIn ns) r
   check-same r p = check-alike (made 196603 refl) p
 
-  pub count-same : (a words : ℕ) (r : Counted) → CountPost S m (headed (filled (replicate 196603 0) ns (length ns)) n (length ns)) a words r → KioskCountPost S m n (nodesIn ns) a words r
+  pub count-same : (a words : ℕ) (r : Counted) → CountPost Q m (headed (filled (replicate 196603 0) ns (length ns)) n (length ns)) a words r → KioskCountPost Q m n (nodesIn ns) a words r
   count-same a words r p = count-alike (made 196603 refl) p

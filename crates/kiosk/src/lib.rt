@@ -4,6 +4,7 @@
 // The three functions that take a `&[Node]` are walks by hand: `flatten`, `check` and `count`. What is decided is decided below them, on words.
 ghost use mathlib.Core.Path.{_≡_};
 ghost use lib.ListN.{length};
+ghost use Rattle.exact_cover.specs.Problem.{problemOf};
 ghost use Rattle.statement.specs.Postconditions.{CheckPost, CountPost};
 ghost use Rattle.statement.specs.Kiosk.{KioskCheckPost, KioskCountPost};
 ghost use Rattle.kiosk.specs.Triples.{nodesIn};
@@ -81,7 +82,7 @@ fn head(words: &mut [u32; 196603], n: u32, len: usize)
 
 // The soundness check of the words.
 fn check_words(m: u32, packages: &[u64], n: u32, len: usize, words: &mut [u32; 196603]) -> Soundness
-    ensures { λ r. ⌜ CheckPost (now (packages .entry)) m (headed (now (words .entry)) n len) r ⌝ }
+    ensures { λ r. ⌜ CheckPost (problemOf (now (packages .entry))) m (headed (now (words .entry)) n len) r ⌝ }
 {
     head(&mut *words, n, len);
     engine::check(m, packages, &words[..])
@@ -97,7 +98,7 @@ fn count_words(
     answer: u32,
     work: &mut [u64],
 ) -> Counted
-    ensures { λ r. ⌜ CountPost (now (packages .entry)) m (headed (now (words .entry)) n len) answer (length (now (work .entry))) r ⌝ }
+    ensures { λ r. ⌜ CountPost (problemOf (now (packages .entry))) m (headed (now (words .entry)) n len) answer (length (now (work .entry))) r ⌝ }
 {
     head(&mut *words, n, len);
     engine::count(m, packages, &words[..], answer, work)
@@ -105,7 +106,7 @@ fn count_words(
 
 // The soundness check: 1, 2, 4 or sound.
 pub fn check(m: u32, packages: &[u64], n: u32, nodes: &[Node]) -> Soundness
-    ensures { λ r. ⌜ KioskCheckPost (now (packages .entry)) m n (nodesIn (now (nodes .entry))) r ⌝ }
+    ensures { λ r. ⌜ KioskCheckPost (problemOf (now (packages .entry))) m n (nodesIn (now (nodes .entry))) r ⌝ }
 {
     let mut words = [0u32; 196603];
     flatten(nodes, &mut words);
@@ -121,7 +122,7 @@ pub fn count(
     answer: u32,
     work: &mut [u64],
 ) -> Counted
-    ensures { λ r. ⌜ KioskCountPost (now (packages .entry)) m n (nodesIn (now (nodes .entry))) answer (length (now (work .entry))) r ⌝ }
+    ensures { λ r. ⌜ KioskCountPost (problemOf (now (packages .entry))) m n (nodesIn (now (nodes .entry))) answer (length (now (work .entry))) r ⌝ }
 {
     let mut words = [0u32; 196603];
     flatten(nodes, &mut words);

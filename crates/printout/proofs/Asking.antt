@@ -31,7 +31,11 @@ use Rattle.statement.specs.declared.Placed.{Placed}
 use Rattle.statement.specs.declared.Report.{Report}
 use Rattle.statement.specs.Examples.{allItems}
 use Rattle.statement.specs.Replies.{Reply, gives, refused, reply, outcomeReply, pickReply, placeReply, cheapestReply}
-use Rattle.statement.specs.Refusals.{firstOf, oversize, stray, unsound, uncountable, coverRefusal, countRefusal, pickRefusal, placeRefusal, cheapestRefusal}
+use Rattle.exact_cover.specs.Problem.{Problem, Rows}
+use Rattle.statement.specs.declared.Call.the-variants.{Cover}
+use Rattle.statement.specs.Calls.{callRefusal}
+use Rattle.statement.specs.Refusals.{Fit, firstOf, unsound, uncountable, countRefusal, pickRefusal, placeRefusal, cheapestRefusal}
+use Rattle.statement.proofs.Admission.{fit-of, fit-passes, table-passes}
 use Rattle.statement.specs.Postconditions.{Makes, Answered, PickPost, PlacePost, CheapestPost, written}
 use Rattle.statement.proofs.FirstOf.{pass, none, passed}
 use Rattle.statement.proofs.TestLaws.{reply-gives, all-priced, answer-known, enough, countable, not-past, something, page-fits}
@@ -42,13 +46,13 @@ use Rattle.printout.specs.Program.{Askable, Listable}
 
 -- ---- a timetable has at most as many packages as there are items
 
-covers-short : (S : List ℕ) → ((p : ℕ) → p < length S → 0 < row S p) → (m D : ℕ) (t : List ℕ) → D < 2 ^ 64 → Ascends S (length S) m t → covers S D t ≡ true → length t ≤ size D
-covers-short S some m D [] w a c = omega arith
-covers-short S some m D (p ∷ t) w a c =
-    let e : insideb (row S p) D && covers S (without D (row S p)) t ≡ true = sym (covers-cons S D p t w) ∙ c in
-    let i : insideb (row S p) D ≡ true = and-left (insideb (row S p) D) (covers S (without D (row S p)) t) e in
-    let r = covers-short S some (suc (rank S p)) (without D (row S p)) t (without-lt 64 (row S p) w) (a .2) (and-right (insideb (row S p) D) (covers S (without D (row S p)) t) e) in
-    omega (arith, r, falls D (row S p) (some p (a .0)) i)
+covers-short : (Q : Problem) → ((p : ℕ) → p < length (Q .packages) → 0 < row Q p) → (m D : ℕ) (t : List ℕ) → D < 2 ^ 64 → Ascends Q (length (Q .packages)) m t → covers Q D t ≡ true → length t ≤ size D
+covers-short Q some m D [] w a c = omega arith
+covers-short Q some m D (p ∷ t) w a c =
+    let e : insideb (row Q p) D && covers Q (without D (row Q p)) t ≡ true = sym (covers-cons Q D p t w) ∙ c in
+    let i : insideb (row Q p) D ≡ true = and-left (insideb (row Q p) D) (covers Q (without D (row Q p)) t) e in
+    let r = covers-short Q some (suc (rank Q p)) (without D (row Q p)) t (without-lt 64 (row Q p) w) (a .2) (and-right (insideb (row Q p) D) (covers Q (without D (row Q p)) t) e) in
+    omega (arith, r, falls D (row Q p) (some p (a .0)) i)
 
 member : (s : List ℕ) (F : Family) → elem s F ≡ true → List·Memᴰ s F
 unfolding elem
@@ -59,12 +63,12 @@ member s (t ∷ F) e = go (or-cases (eqSet s t) (elem s F) e) (member s F)
     go (inl q) ih = List·Memᴰ·head (eqSet-eq s t q)
     go (inr q) ih = List·Memᴰ·tail (ih q)
 
-pub covering-short : (S : List ℕ) → Rows S → (D : ℕ) → D < 2 ^ 64 → (s : List ℕ) → elem s (covering S D) ≡ true → length s ≤ 64
+pub covering-short : (Q : Problem) → Rows Q → (D : ℕ) → D < 2 ^ 64 → (s : List ℕ) → elem s (covering Q D) ≡ true → length s ≤ 64
 unfolding covering
-covering-short S R D w s e =
-    let f : covers S D s && elem s (sets (keysOf S)) ≡ true = sym (elem-filter (covers S D) s (sets (keysOf S))) ∙ e in
-    let a : Ascends S (length S) 0 s = sets-member S s (R .few) .0 (member s (sets (keysOf S)) (and-right (covers S D s) (elem s (sets (keysOf S))) f)) in
-    let l = covers-short S (R .some) 0 D s w a (and-left (covers S D s) (elem s (sets (keysOf S))) f) in
+covering-short Q R D w s e =
+    let f : covers Q D s && elem s (sets (keysOf Q)) ≡ true = sym (elem-filter (covers Q D) s (sets (keysOf Q))) ∙ e in
+    let a : Ascends Q (length (Q .packages)) 0 s = sets-member Q s (R .few) .0 (member s (sets (keysOf Q)) (and-right (covers Q D s) (elem s (sets (keysOf Q))) f)) in
+    let l = covers-short Q (R .some) 0 D s w a (and-left (covers Q D s) (elem s (sets (keysOf Q))) f) in
     omega (arith, l, size-le 64 D w)
 
 -- ---- where a timetable of a family stands
@@ -103,27 +107,27 @@ no-refusal e = absurd (let z : _≡_ {A = ℕ} 0 1 = cc in omega arith)
 pub page-left : (s page : List ℕ) {page′ : List ℕ} {k n : ℕ} → n ≡ length s → k ≡ 0 → page′ ≡ written k s page → take n page′ ≡ s
 page-left s page e z p = ap₂ take e (p ∙ ap (λ (i : ℕ). written i s page) z) ∙ take-at s (drop (length s) page) (length s) refl
 
-pub count-left : {S : List ℕ} {m : ℕ} {t : List ℕ} {a words : ℕ} → Askable S m t a words
-    → countRefusal S m t a words ≡ firstOf ((uncountable (familyAt t a), 11) ∷ [])
+pub count-left : {Q : Problem} {m : ℕ} {t : List ℕ} {a words : ℕ} → Askable Q m t a words
+    → countRefusal Q m t a words ≡ firstOf ((uncountable (familyAt t a), 11) ∷ [])
 unfolding countRefusal
-count-left {a = a} {words} A =
-    pass 1 _ (A .sized) ∙ pass 2 _ (A .clean) ∙ pass 4 _ (A .sound) ∙ pass 5 _ (A .known) ∙ pass 8 _ (enough (a + 1) words (omega (arith, A .room)))
+count-left {t = t} {a} {words} A =
+    table-passes t _ (A .fit) (A .sound) ∙ pass 5 _ (A .known) ∙ pass 8 _ (enough (a + 1) words (omega (arith, A .room)))
 
-module _ {S : List ℕ} {m : ℕ} {t : List ℕ} {a words : ℕ} (Q : Listable S m t a words) where
-  abbrev A : Askable S m t a words
-  A = Q .askable
+module _ {Q : Problem} {m : ℕ} {t : List ℕ} {a words : ℕ} (L : Listable Q m t a words) where
+  abbrev A : Askable Q m t a words
+  A = L .askable
 
   abbrev F : Family
   F = familyAt t a
 
-  pick-given : (k : ℕ) (page : List ℕ) → k < length F → length (nth F k) ≤ length page → pickRefusal S m t a k words page ≡ 0
+  pick-given : (k : ℕ) (page : List ℕ) → k < length F → length (nth F k) ≤ length page → pickRefusal Q m t a k words page ≡ 0
   unfolding pickRefusal
   pick-given k page l h =
-      pass 1 _ (A .sized) ∙ pass 2 _ (A .clean) ∙ pass 4 _ (A .sound) ∙ pass 5 _ (A .known) ∙ pass 8 _ (enough (a + 1) words (omega (arith, A .room)))
-      ∙ pass 11 _ (countable F (Q .few)) ∙ pass 12 _ (not-past F k l) ∙ pass 15 _ (page-fits page (nth F k) h) ∙ none
+      table-passes t _ (A .fit) (A .sound) ∙ pass 5 _ (A .known) ∙ pass 8 _ (enough (a + 1) words (omega (arith, A .room)))
+      ∙ pass 11 _ (countable F (L .few)) ∙ pass 12 _ (not-past F k l) ∙ pass 15 _ (page-fits page (nth F k) h) ∙ none
 
   -- what pick leaves; n is what was read off its answer
-  pub picked-page : {k n : ℕ} {page page′ : List ℕ} {r : Picked} → k < length F → 64 ≤ length page → PickPost S m t a k words page r page′
+  pub picked-page : {k n : ℕ} {page page′ : List ℕ} {r : Picked} → k < length F → 64 ≤ length page → PickPost Q m t a k words page r page′
       → ((x : ℕ) → pickReply r ≡ gives x → n ≡ x) → (n ≤ 64) × (take n page′ ≡ nth F k)
   picked-page {k} {n} {page} {page′} l h P f =
       let b = A .short (nth F k) (nth-elem F k l) in
@@ -131,7 +135,7 @@ module _ {S : List ℕ} {m : ℕ} {t : List ℕ} {a words : ℕ} (Q : Listable S
       let e : n ≡ length (nth F k) = f (length (nth F k)) (P .result ∙ sym (reply-gives (length (nth F k)) z)) in
       (omega (arith, e, b), page-left (nth F k) page e z (P .pages))
 
-  module _ (C : List ℕ) (p : length C ≡ length S) (some : 0 < length F) where
+  module _ (C : List ℕ) (p : length C ≡ length (Q .packages)) (some : 0 < length F) where
     abbrev s : List ℕ
     s = cheapest C F
 
@@ -141,15 +145,15 @@ module _ {S : List ℕ} {m : ℕ} {t : List ℕ} {a words : ℕ} (Q : Listable S
     not-empty : a ≡ 0 → ⊥
     not-empty e = omega (arith, some, ap length (ap (familyAt t) e ∙ family-zero (nodesOf t)))
 
-    cheapest-given : (page : List ℕ) → 64 ≤ length page → cheapestRefusal S m C t a words page ≡ 0
+    cheapest-given : (page : List ℕ) → 64 ≤ length page → cheapestRefusal Q m C t a words page ≡ 0
     unfolding cheapestRefusal
     cheapest-given page h =
-        pass 1 _ (A .sized) ∙ pass 2 _ (A .clean) ∙ pass 3 _ (all-priced S C p) ∙ pass 4 _ (A .sound) ∙ pass 5 _ (A .known)
+        fit-passes _ (A .fit) ∙ pass 3 _ (all-priced Q C p) ∙ pass 4 _ (A .sound) ∙ pass 5 _ (A .known)
         ∙ pass 8 _ (enough (2 * (a + 1)) words (A .room)) ∙ pass 13 _ (something a not-empty)
         ∙ pass 15 _ (page-fits page s (omega (arith, h, A .short s in-F))) ∙ none
 
     -- what cheapest leaves; n is what was read off its answer
-    pub priced-page : {n : ℕ} {page page′ : List ℕ} {r : Priced} → 64 ≤ length page → CheapestPost S m C t a words page r page′
+    pub priced-page : {n : ℕ} {page page′ : List ℕ} {r : Priced} → 64 ≤ length page → CheapestPost Q m C t a words page r page′
         → ((x y : ℕ) → cheapestReply r ≡ gives (x, y) → n ≡ x) → (n ≤ 64) × (take n page′ ≡ s)
     priced-page {n} {page} {page′} h P f =
         let z = cheapest-given page h in
@@ -157,19 +161,19 @@ module _ {S : List ℕ} {m : ℕ} {t : List ℕ} {a words : ℕ} (Q : Listable S
         (omega (arith, e, A .short s in-F), page-left s page e z (P .pages))
 
     -- its place: place undoes pick
-    pub place-gives : {l : List ℕ} {words′ : ℕ} {r : Placed} → l ≡ s → words′ ≡ words → PlacePost S m t a l words′ r → placeReply r ≡ gives (position s F)
+    pub place-gives : {l : List ℕ} {words′ : ℕ} {r : Placed} → l ≡ s → words′ ≡ words → PlacePost Q m t a l words′ r → placeReply r ≡ gives (position s F)
     place-gives {l} {words′} {r} e d P =
         let f = stands s F in-F in
         let k = f .0 in
         let q = f .1 .1 in
         let z = pick-given k s (f .1 .0) (le-of-eq (ap length q)) in
-        let R : PickPost S m t a k words s (Packages (length s)) (written 0 s s) = record {
+        let R : PickPost Q m t a k words s (Packages (length s)) (written 0 s s) = record {
           result = sym (ap₂ (λ (n : ℕ) (u : List ℕ). reply n (length u)) z q);
           pages = sym (ap₂ (λ (n : ℕ) (u : List ℕ). written n u s) z q);
         } in
         let w : take (length s) (written 0 s s) ≡ s = take-at s (drop (length s) s) (length s) refl in
-        let g : placeReply r ≡ gives k = place-of-pick R refl words′ (omega (arith, d, A .room)) r (subst (λ (u : List ℕ). PlacePost S m t a u words′ r) (e ∙ sym w) P) in
-        g ∙ ap gives (was-given k (placeRefusal S m t a l words′) (position l F) (sym g ∙ P .result) .1 ∙ ap (λ (u : List ℕ). position u F) e)
+        let g : placeReply r ≡ gives k = place-of-pick R refl words′ (omega (arith, d, A .room)) r (subst (λ (u : List ℕ). PlacePost Q m t a u words′ r) (e ∙ sym w) P) in
+        g ∙ ap gives (was-given k (placeRefusal Q m t a l words′) (position l F) (sym g ∙ P .result) .1 ∙ ap (λ (u : List ℕ). position u F) e)
 
 -- ---- cover's answer
 
@@ -184,25 +188,23 @@ pub cover-answered : {K : List ℕ} {F : Family} {st : ℕ} {b : List ℕ} {r : 
 cover-answered zero a M e = (refl, M .answered refl)
 cover-answered (suc n) a M e = no-refusal (sym (M .declined (omega arith) .outcome) ∙ e)
 
-pub askable : (S : List ℕ) (m limit words : ℕ) {b : List ℕ} {st : ℕ} {r : Report} {t : List ℕ} (a : ℕ) → length b ≡ 5401 → words ≡ 3604 → m ≤ 64
-    → coverRefusal S m b (allItems m) limit words ≡ 0 → Answered (keysOf S) (covering S (allItems m)) st b r t → outcomeReply (r .outcome) ≡ gives a
-    → Askable S m t a words × (familyAt t a ≡ covering S (allItems m))
-unfolding coverRefusal unsound
-askable S m limit words {t = t} a l v h z A o =
-    let p1 = passed (oversize m S) 0 _ z in
-    let p2 = passed (stray m S) 1 _ (p1 .1) in
-    let R : Rows S = rows S m (pass 1 _ (p1 .0) ∙ pass 2 _ (p2 .0) ∙ none) in
+pub askable : (Q : Problem) (m limit words : ℕ) {b : List ℕ} {st : ℕ} {r : Report} {t : List ℕ} (a : ℕ) → length b ≡ 5401 → words ≡ 3604 → m ≤ 64
+    → callRefusal Q m b (Cover (allItems m) limit) words ≡ 0 → Answered (keysOf Q) (covering Q (allItems m)) st b r t → outcomeReply (r .outcome) ≡ gives a
+    → Askable Q m t a words × (familyAt t a ≡ covering Q (allItems m))
+unfolding callRefusal unsound
+askable Q m limit words {t = t} a l v h z A o =
+    let f0 : Fit Q m = fit-of _ z .0 in
+    let R : Rows Q = rows f0 in
     let n : A .number ≡ a = gives-same (sym (A .outcome) ∙ o) in
-    let c = within-capacity (sound-of (keysOf S) t (A .sound)) in
+    let c = within-capacity (sound-of (keysOf Q) t (A .sound)) in
     let d : allItems m < 2 ^ 64 = lt-of-lt-of-le (omega (arith, pow-pos m)) (pow-mono h) in
-    let f : familyAt t a ≡ covering S (allItems m) = ap (familyAt t) (sym n) ∙ A .holds in (
+    let f : familyAt t a ≡ covering Q (allItems m) = ap (familyAt t) (sym n) ∙ A .holds in (
       record {
-        sized = p1 .0;
-        clean = p2 .0;
+        fit = f0;
         sound = ap not (A .sound);
         known = answer-known t a (omega (arith, n, A .known));
         room = omega (arith, n, A .known, c, A .long, l, v);
-        short = subst⁻¹ (λ (G : Family). (s : List ℕ) → elem s G ≡ true → length s ≤ 64) f (covering-short S R (allItems m) d);
+        short = subst⁻¹ (λ (G : Family). (s : List ℕ) → elem s G ≡ true → length s ≤ 64) f (covering-short Q R (allItems m) d);
       },
       f,
     )

@@ -16,7 +16,11 @@ use Rattle.exact_cover.specs.Cover.{covering}
 use Rattle.exact_cover.specs.Steps.{steps}
 use Rattle.query.specs.Questions.{nth, position, cheapest, cost}
 use Rattle.statement.specs.Examples.{allItems}
-use Rattle.statement.specs.Refusals.{firstOf, oversize, stray, uncountable, coverRefusal}
+use Rattle.exact_cover.specs.Problem.{Problem, problemOf}
+use Rattle.statement.specs.declared.Call.the-variants.{Cover}
+use Rattle.statement.specs.Calls.{callRefusal}
+use Rattle.statement.specs.Refusals.{Fit, firstOf, uncountable}
+use Rattle.statement.proofs.Admission.{fit-of, sized-items}
 use Rattle.statement.proofs.FirstOf.{pass, none, passed}
 use Rattle.guard.proofs.GuardLaws.{rows}
 use Rattle.bids.specs.Format.{schools, slots, packagesOf, costsOf, refusal}
@@ -103,26 +107,25 @@ sheet-short s t n C F made st f =
     let b = both (head s t n made st (length F)) (timetableLines C F (min (length F) 10) ++ lastLine C F) (head-short s t n made st (length F)) a in
     omega (arith, b)
 
-members-short : (S : List ℕ) (m : ℕ) (b : List ℕ) (limit words : ℕ) → coverRefusal S m b (allItems m) limit words ≡ 0
-    → (u : List ℕ) → elem u (covering S (allItems m)) ≡ true → length u ≤ 64
-unfolding coverRefusal oversize
-members-short S m b limit words z =
-    let p1 = passed (oversize m S) 0 _ z in
-    let p2 = passed (stray m S) 1 _ (p1 .1) in
-    let h : m ≤ 64 = ltb-false 64 m (neither (ltb 64 m) (ltb 512 (length S)) (p1 .0) .0) in
-    covering-short S (rows S m (pass 1 _ (p1 .0) ∙ pass 2 _ (p2 .0) ∙ none)) (allItems m) (lt-of-lt-of-le (omega (arith, pow-pos m)) (pow-mono h))
+members-short : (Q : Problem) (m : ℕ) (b : List ℕ) (limit words : ℕ) → callRefusal Q m b (Cover (allItems m) limit) words ≡ 0
+    → (u : List ℕ) → elem u (covering Q (allItems m)) ≡ true → length u ≤ 64
+unfolding callRefusal
+members-short Q m b limit words z =
+    let f : Fit Q m = fit-of _ z .0 in
+    let h : m ≤ 64 = sized-items m Q (f .sized) in
+    covering-short Q (rows f) (allItems m) (lt-of-lt-of-le (omega (arith, pow-pos m)) (pow-mono h))
 
-solved-short : (s t : ℕ) (S C : List ℕ) → length (solved s t S C) ≤ 16384
+solved-short : (s t : ℕ) (Q : Problem) (C : List ℕ) → length (solved s t Q C) ≤ 16384
 unfolding solved answerText
-solved-short s t S C = unless-short (coverRefusal S (s + t) blank (allItems (s + t)) 1000000 3604) _ (λ z.
-    unless-short (firstOf ((uncountable (covering S (allItems (s + t))), 11) ∷ [])) _ (λ _.
-    sheet-short s t (length S) C (covering S (allItems (s + t))) (missing (nodesOf blank) (covering S (allItems (s + t)))) (steps S 1802 (allItems (s + t)))
-    (members-short S (s + t) blank 1000000 3604 z)))
+solved-short s t Q C = unless-short (callRefusal Q (s + t) blank (Cover (allItems (s + t)) 1000000) 3604) _ (λ z.
+    unless-short (firstOf ((uncountable (covering Q (allItems (s + t))), 11) ∷ [])) _ (λ _.
+    sheet-short s t (length (Q .packages)) C (covering Q (allItems (s + t))) (missing (nodesOf blank) (covering Q (allItems (s + t)))) (steps Q 1802 (allItems (s + t)))
+    (members-short Q (s + t) blank 1000000 3604 z)))
 
 -- THEOREM
 pub text-fits : (b : List ℕ) → length (printed b) ≤ 16384
 unfolding printed
-text-fits b = unless-short (refusal b) (solved (schools b) (slots b) (packagesOf b) (costsOf b)) (λ z. solved-short (schools b) (slots b) (packagesOf b) (costsOf b))
+text-fits b = unless-short (refusal b) (solved (schools b) (slots b) (problemOf (packagesOf b)) (costsOf b)) (λ z. solved-short (schools b) (slots b) (problemOf (packagesOf b)) (costsOf b))
 
 -- so such a buffer holds just the text
 pub whole : (b : List ℕ) {out : List ℕ} {r : ℕ} → length out ≡ 16384 → Holds out r (printed b) → Whole 16384 out r (printed b)

@@ -10,7 +10,10 @@ use borrow.Author.Tests.{eq-eqb, ne-eqb, ltb-false}
 use lib.ListN.{length, take, replicate, length-replicate}
 use Rattle.zdd.specs.Table.{Family}
 use Rattle.query.specs.Questions.{familyAt, nth, position, cheapest}
-use Rattle.statement.specs.Refusals.{firstOf, uncountable, coverRefusal}
+use Rattle.exact_cover.specs.Problem.{Problem, problemOf}
+use Rattle.statement.specs.declared.Call.the-variants.{Cover}
+use Rattle.statement.specs.Calls.{callRefusal}
+use Rattle.statement.specs.Refusals.{firstOf, uncountable}
 use Rattle.statement.specs.Postconditions.{CoverPost}
 use Rattle.statement.specs.Examples.{allItems}
 use Rattle.statement.specs.Replies.{refused, gives, outcomeReply}
@@ -80,20 +83,20 @@ pub is-blank : replicate 5401 0 ≡ blank
 unfolding blank
 is-blank = refl
 
-module _ (s t : ℕ) (S C : List ℕ) {b : List ℕ} {w d : ℕ} {r : Report} {t′ : List ℕ} (eb : b ≡ blank) (ew : w ≡ 3604) (ed : d ≡ allItems (s + t)) (M : CoverPost S (s + t) b d 1000000 w r t′) where
-  M0 : CoverPost S (s + t) blank (allItems (s + t)) 1000000 3604 r t′
+module _ (s t : ℕ) (Q : Problem) (C : List ℕ) {b : List ℕ} {w d : ℕ} {r : Report} {t′ : List ℕ} (eb : b ≡ blank) (ew : w ≡ 3604) (ed : d ≡ allItems (s + t)) (M : CoverPost Q (s + t) b d 1000000 w r t′) where
+  M0 : CoverPost Q (s + t) blank (allItems (s + t)) 1000000 3604 r t′
   M0 = rw (eb, ew, ed) at M
 
-  pub cover-said : (x : ℕ) → outcomeReply (r .outcome) ≡ refused x → refusedLine x ≡ solved s t S C
+  pub cover-said : (x : ℕ) → outcomeReply (r .outcome) ≡ refused x → refusedLine x ≡ solved s t Q C
   unfolding solved
-  cover-said x o = let q = cover-refused (coverRefusal S (s + t) blank (allItems (s + t)) 1000000 3604) x M0 o in said x _ (q .0) (q .1)
+  cover-said x o = let q = cover-refused (callRefusal Q (s + t) blank (Cover (allItems (s + t)) 1000000) 3604) x M0 o in said x _ (q .0) (q .1)
 
   pub cover-gave : (a : ℕ) → s + t ≤ 64 → outcomeReply (r .outcome) ≡ gives a
-      → ((n : ℕ) → n ≡ 3604 → Askable S (s + t) t′ a n) × (answerText s t (length S) C (familyAt t′ a) (r .made) (r .steps) ≡ solved s t S C)
+      → ((n : ℕ) → n ≡ 3604 → Askable Q (s + t) t′ a n) × (answerText s t (length (Q .packages)) C (familyAt t′ a) (r .made) (r .steps) ≡ solved s t Q C)
   unfolding solved blank
   cover-gave a small o =
-      let q = cover-answered (coverRefusal S (s + t) blank (allItems (s + t)) 1000000 3604) a M0 o in
-      let g = askable S (s + t) 1000000 3604 a (length-replicate {A = ℕ} 5401 0) refl small (q .0) (q .1) o in
+      let q = cover-answered (callRefusal Q (s + t) blank (Cover (allItems (s + t)) 1000000) 3604) a M0 o in
+      let g = askable Q (s + t) 1000000 3604 a (length-replicate {A = ℕ} 5401 0) refl small (q .0) (q .1) o in
       (λ n e. rw e (g .0), rw (g .1, q .1 .made, q .1 .steps) (unsaid _ (q .0)))
 
 -- ---- the file

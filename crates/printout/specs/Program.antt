@@ -12,7 +12,10 @@ use Rattle.exact_cover.specs.Cover.{covering}
 use Rattle.exact_cover.specs.Steps.{steps}
 use Rattle.query.specs.Questions.{familyAt, nth, position, cheapest}
 use Rattle.statement.specs.Examples.{allItems}
-use Rattle.statement.specs.Refusals.{firstOf, oversize, stray, unsound, unknownAnswer, uncountable, coverRefusal}
+use Rattle.exact_cover.specs.Problem.{Problem, problemOf}
+use Rattle.statement.specs.declared.Call.the-variants.{Cover}
+use Rattle.statement.specs.Calls.{callRefusal}
+use Rattle.statement.specs.Refusals.{Fit, firstOf, unsound, unknownAnswer, uncountable}
 use Rattle.bids.specs.Format.{schools, slots, packagesOf, costsOf, refusal}
 use Rattle.printout.specs.Text.{head, timetableLine, cheapestLine, noneLine, refusedLine}
 
@@ -42,15 +45,15 @@ answerText s t n C F made steps = unless (firstOf ((uncountable F, 11) ∷ [])) 
 unfoldable pub blank : List ℕ
 blank = replicate 5401 0
 
--- the text for s schools and t slots, the packages S and the costs C
-unfoldable pub solved : (s t : ℕ) (S C : List ℕ) → List ℕ
-solved s t S C =
-    unless (coverRefusal S (s + t) blank (allItems (s + t)) 1000000 3604)
-    (answerText s t (length S) C (covering S (allItems (s + t))) (missing (nodesOf blank) (covering S (allItems (s + t)))) (steps S 1802 (allItems (s + t))))
+-- the text for s schools and t slots, the problem Q and the costs C
+unfoldable pub solved : (s t : ℕ) (Q : Problem) (C : List ℕ) → List ℕ
+solved s t Q C =
+    unless (callRefusal Q (s + t) blank (Cover (allItems (s + t)) 1000000) 3604)
+    (answerText s t (length (Q .packages)) C (covering Q (allItems (s + t))) (missing (nodesOf blank) (covering Q (allItems (s + t)))) (steps Q 1802 (allItems (s + t))))
 
 -- the text for the file b
 unfoldable pub printed : List ℕ → List ℕ
-printed b = unless (refusal b) (solved (schools b) (slots b) (packagesOf b) (costsOf b))
+printed b = unless (refusal b) (solved (schools b) (slots b) (problemOf (packagesOf b)) (costsOf b))
 
 -- what a program may print that has read n bytes of a file into its buffer, as many as the file has and no more than the buffer holds: the text for
 -- every file that begins so
@@ -60,15 +63,14 @@ PrintedFor buffer n text = (b : List ℕ) → take (length buffer) b ≡ take n 
 -- ---- what the steps of the program know
 
 -- what cover leaves for the questions to its answer a, with so many working words
-pub record Askable (S : List ℕ) (m : ℕ) (t : List ℕ) (a words : ℕ) : Type 0 where
-  pub sized : oversize m S ≡ false
-  pub clean : stray m S ≡ false
-  pub sound : unsound S t ≡ false
+pub record Askable (Q : Problem) (m : ℕ) (t : List ℕ) (a words : ℕ) : Type 0 where
+  pub fit : Fit Q m
+  pub sound : unsound Q t ≡ false
   pub known : unknownAnswer t a ≡ false
   pub room : 2 * (a + 1) ≤ words
   pub short : (s : List ℕ) → elem s (familyAt t a) ≡ true → length s ≤ 64
 
 -- and count was not refused
-pub record Listable (S : List ℕ) (m : ℕ) (t : List ℕ) (a words : ℕ) : Type 0 where
-  pub askable : Askable S m t a words
+pub record Listable (Q : Problem) (m : ℕ) (t : List ℕ) (a words : ℕ) : Type 0 where
+  pub askable : Askable Q m t a words
   pub few : length (familyAt t a) ≤ 18446744073709551615

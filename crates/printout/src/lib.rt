@@ -4,6 +4,7 @@ ghost use mathlib.Core.Path.{_≡_};
 ghost use mathlib.Core.List.{[], _∷_, _++_};
 ghost use Prim.Native.Nat.{ℕ, suc, _+_, _^_, _<_, _≤_, min};
 ghost use lib.ListN.{length, getD};
+ghost use Rattle.exact_cover.specs.Problem.{problemOf};
 ghost use Rattle.query.specs.Questions.{familyAt, nth, cost};
 ghost use Rattle.printout.specs.Text.{decimalIn, decimal, field, head, packagesText, timetableLine, refusedLine};
 ghost use Rattle.printout.specs.Written.{Puts, Holds, Whole};
@@ -201,7 +202,7 @@ fn put_nth(
     out: &mut [u8],
     at: usize,
 ) -> usize
-    requires { ⌜ Listable (now packages) m (now t) a (length (now work)) ⌝ }
+    requires { ⌜ Listable (problemOf (now packages)) m (now t) a (length (now work)) ⌝ }
     requires { ⌜ k < length (familyAt (now t) a) ⌝ }
     ensures { λ r. ⌜ Puts (now (out .entry)) at (now (out .exit)) r (timetableLine (now (costs .entry)) k (nth (familyAt (now (t .entry)) a) k)) ⌝ }
 {
@@ -223,7 +224,7 @@ fn put_timetables(
     out: &mut [u8],
     at: usize,
 ) -> usize
-    requires { ⌜ Listable (now packages) m (now t) a (length (now work)) ⌝ }
+    requires { ⌜ Listable (problemOf (now packages)) m (now t) a (length (now work)) ⌝ }
     requires { ⌜ n ≤ length (familyAt (now t) a) ⌝ }
     ensures { λ r. ⌜ Puts (now (out .entry)) at (now (out .exit)) r (timetableLines (now (costs .entry)) (familyAt (now (t .entry)) a) n) ⌝ }
 {
@@ -248,7 +249,7 @@ fn put_last(
     out: &mut [u8],
     at: usize,
 ) -> usize
-    requires { ⌜ Listable (now packages) m (now t) a (length (now work)) ⌝ }
+    requires { ⌜ Listable (problemOf (now packages)) m (now t) a (length (now work)) ⌝ }
     requires { ⌜ length (now costs) ≡ length (now packages) ⌝ }
     requires { ⌜ count ≡ length (familyAt (now t) a) ⌝ }
     ensures { λ r. ⌜ Puts (now (out .entry)) at (now (out .exit)) r (lastLine (now (costs .entry)) (familyAt (now (t .entry)) a)) ⌝ }
@@ -290,7 +291,7 @@ fn put_sheet(
     work: &mut [u64],
     out: &mut [u8],
 ) -> usize
-    requires { ⌜ Listable (now packages) (c .s + c .t) (now table) (c .answer) (length (now work)) ⌝ }
+    requires { ⌜ Listable (problemOf (now packages)) (c .s + c .t) (now table) (c .answer) (length (now work)) ⌝ }
     requires { ⌜ length (now costs) ≡ length (now packages) ⌝ }
     requires { ⌜ count ≡ length (familyAt (now table) (c .answer)) ⌝ }
     requires { ⌜ c .s + c .t ≤ 64 ⌝ }
@@ -323,7 +324,7 @@ fn put_answer(
     work: &mut [u64],
     out: &mut [u8],
 ) -> usize
-    requires { ⌜ Askable (now packages) (c .s + c .t) (now table) (c .answer) (length (now work)) ⌝ }
+    requires { ⌜ Askable (problemOf (now packages)) (c .s + c .t) (now table) (c .answer) (length (now work)) ⌝ }
     requires { ⌜ length (now costs) ≡ length (now packages) ⌝ }
     requires { ⌜ c .s + c .t ≤ 64 ⌝ }
     ensures { λ r. ⌜ Holds (now (out .exit)) r (answerText (c .s) (c .t) (length (now (packages .entry))) (now (costs .entry)) (familyAt (now (table .entry)) (c .answer)) (c .made) (c .steps)) ⌝ }
@@ -341,7 +342,7 @@ fn put_answer(
 fn put_solution(s: u32, t: u32, packages: &[u64], costs: &[u16], out: &mut [u8]) -> usize
     requires { ⌜ length (now costs) ≡ length (now packages) ⌝ }
     requires { ⌜ s + t ≤ 64 ⌝ }
-    ensures { λ r. ⌜ Holds (now (out .exit)) r (solved s t (now (packages .entry)) (now (costs .entry))) ⌝ }
+    ensures { λ r. ⌜ Holds (now (out .exit)) r (solved s t (problemOf (now (packages .entry))) (now (costs .entry))) ⌝ }
 {
     let mut table = [0u32; 5401];
     let mut work = [0u64; 3604];

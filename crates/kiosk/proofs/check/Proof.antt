@@ -2,6 +2,7 @@
 -- and comes back to be freed. All that the proof knows of the two is that they meet their contracts.
 -- The slices are Copy: what each owns is had twice, once for the call and once for the exit.
 -- Assumes nothing.
+use Rattle.exact_cover.specs.Problem.{Problem, problemOf}
 use Rattle.kiosk.proofs.Walking.{_≡_, refl, sym, subst, ℕ, _<_, _^_, List, [], _∷_, Holds, lit<, length, URA, fullShare, named, w32, w64, tyUnit, Val, WT, hasTy}
 use Rattle.kiosk.proofs.Walking.{vint, vptr, vunit, SProp, ent, id⊢, via, emp, fst∗, Lft, GName, Share, Fml, ftrue, fsep, flft, Memory, Routine, Heap, Calls}
 use Rattle.kiosk.proofs.Walking.{Loops, WpFn, Tables, Atoms, Fun, fact, givenOf, tables, Given, ‵, raw, _⊛_, some, later, ⋆, _$_, _∵_, !, qed, by, move, keep}
@@ -101,11 +102,11 @@ module _ {M : Type 1} (𝓤 : URA M) (H : Heap 𝓤) (A : Atoms 𝓤) (W : Given
   asks-callee : (ν s : ℕ) (δ : GName) → ent 𝓤 (⋆ 𝓤 H A ((‵ (flft κ q) ⊛ ‵ (flft (ν ∷ []) fullShare) ⊛ ‵ ftrue) ∷ ‵ (Asked-callee ν s δ) ∷ [])) (Callee 𝓤 H A mem run .pre (to-callee ν s δ))
   asks-callee ν s δ = qed W ((‵ (flft κ q) ⊛ ‵ (flft (ν ∷ []) fullShare) ⊛ ‵ ftrue) ∷ ‵ (Asked-callee ν s δ) ∷ []) ∵ join ! $ frame ! $ done !
 
-  exits : (r : Soundness) (w : Val) → CheckPost ps m (headed fs n len) r → ent 𝓤 (⋆ 𝓤 H A (‵ (flft κ q) ∷ ‵ (S.the-row .own r (w ∷ [])) ∷ ‵ (flft κ′ q′) ∷ ‵ Own ∷ ‵ Pack ∷ [])) (Post w)
+  exits : (r : Soundness) (w : Val) → CheckPost (problemOf ps) m (headed fs n len) r → ent 𝓤 (⋆ 𝓤 H A (‵ (flft κ q) ∷ ‵ (S.the-row .own r (w ∷ [])) ∷ ‵ (flft κ′ q′) ∷ ‵ Own ∷ ‵ Pack ∷ [])) (Post w)
   exits r w e =
       qed W (‵ (flft κ q) ∷ ‵ (S.the-row .own r (w ∷ [])) ∷ ‵ (flft κ′ q′) ∷ ‵ Own ∷ ‵ Pack ∷ []) ∵
       suffices ! _ (ends-at 𝓤 H A f.ended stayed (f.clauses 𝓤 H A mem run) W (((κ, (κ′, tt)), (q, (q′, tt)), tt, a, vals), tt) w r (tt, (tt, (tt, (tt, tt)))) (tt, (tt, (tt, (tt, tt))))) $
-      says ! (check-same ps m n ns r e) $
+      says ! (check-same (problemOf ps) m n ns r e) $
       nothing ! $ move ! (3 ∷ 0 ∷ []) $ join ! $ move ! (1 ∷ 0 ∷ []) $ join ! $ frame ! $ nothing ! $ move ! (2 ∷ 0 ∷ []) $ fjoin ! $
       owned ! u32 (Is u32) (uint-makes 𝓤 H A W w32) n _ (refl, n-fits) $ fjoin ! $
       move ! (2 ∷ 0 ∷ []) $ fjoin ! $ owned ! u32 (Is u32) (uint-makes 𝓤 H A W w32) m _ (refl, m-fits) $ fjoin ! $ done !
@@ -154,8 +155,8 @@ module _ {M : Type 1} (𝓤 : URA M) (H : Heap 𝓤) (A : Atoms 𝓤) (W : Given
         use1 W (later (some (λ (r : Soundness). ((‵ (flft κ q) ⊛ ‵ (flft (ν₂ ∷ []) fullShare) ⊛ ‵ ftrue) ⊛ ‵ (S.the-row .own r (w ∷ [])))
         ⊛ raw (ensured 𝓤 H A callee.ended (callee.clauses 𝓤 H A mem run) (κ, (ν₂ ∷ [], tt)) (passed l₅ δ₂) tt r)))) (id⊢ 𝓤 _) $ await ! tt $ pick ! (λ r.
         split ! $ move ! (1 ∷ []) $ use1 W (some (λ (ws : Unit {0} × (Unit {0} × (Unit {0} × (Unit {0} × (List ℕ × Unit {0}))))). ‵ (lasts callee.ended (κ, (ν₂ ∷ [], tt)) (passed l₅ δ₂) ws)
-        ⊛ raw (fact 𝓤 (CheckPost ps m (headed fs n len) r)))) (id⊢ 𝓤 _) $ pick ! (λ ws.
-        split ! $ move ! (1 ∷ []) $ heard ! (CheckPost ps m (headed fs n len) r) (λ e. fsplit ! $ drop ! $ fsplit ! $ drop ! $ fsplit ! $ drop ! $ fsplit ! $ drop ! $ fsplit ! $
+        ⊛ raw (fact 𝓤 (CheckPost (problemOf ps) m (headed fs n len) r)))) (id⊢ 𝓤 _) $ pick ! (λ ws.
+        split ! $ move ! (1 ∷ []) $ heard ! (CheckPost (problemOf ps) m (headed fs n len) r) (λ e. fsplit ! $ drop ! $ fsplit ! $ drop ! $ fsplit ! $ drop ! $ fsplit ! $ drop ! $ fsplit ! $
         move ! (2 ∷ []) $ split ! $ move ! (1 ∷ []) $ peeks ! S.the-row (Is S.the-row) (shows 𝓤 H A S.the-row) r (w ∷ []) (λ is.
         -- [the result; the tokens; the last words; …; the lender's part; the nodes' token; what nodes owns; what packages owns; _9; …]
         land ! (from ! (stop !)) (init ! 25 refl (EL.lawful S.the-type S′.the-laws 𝓤 H A W tt .typed r _ is .0)) $

@@ -2,6 +2,7 @@
 -- and comes back to be freed. All that the proof knows of the two is that they meet their contracts.
 -- The slices that are lent as `&` are Copy: what each owns is had twice, once for the call and once for the exit. The working words go to `count_words` for good.
 -- Assumes nothing.
+use Rattle.exact_cover.specs.Problem.{Problem, problemOf}
 use Rattle.kiosk.proofs.Walking.{_≡_, refl, sym, subst, ℕ, _<_, _^_, List, [], _∷_, Holds, lit<, length, URA, fullShare, named, w32, w64, tyUnit, Val, WT, hasTy}
 use Rattle.kiosk.proofs.Walking.{vint, vptr, vunit, SProp, ent, id⊢, via, emp, fst∗, Lft, GName, Share, Fml, ftrue, fsep, flft, Memory, Routine, Heap, Calls}
 use Rattle.kiosk.proofs.Walking.{Loops, WpFn, Tables, Atoms, Fun, fact, givenOf, tables, Given, ‵, raw, _⊛_, some, later, ⋆, _$_, _∵_, !, qed, by, move, keep}
@@ -130,7 +131,7 @@ module _ {M : Type 1} (𝓤 : URA M) (H : Heap 𝓤) (A : Atoms 𝓤) (W : Given
   asks-callee ν s δ = qed W ((‵ (flft κ q) ⊛ ‵ (flft (ν ∷ []) fullShare) ⊛ ‵ (flft κ″ q″) ⊛ ‵ ftrue) ∷ ‵ (Asked-callee ν s δ) ∷ []) ∵ join ! $ frame ! $ done !
 
   abbrev Says : Counted → Type 0
-  Says r = CountPost ps m (headed fs n len) c (length ks) r
+  Says r = CountPost (problemOf ps) m (headed fs n len) c (length ks) r
 
   exits : (r : Counted) (w : Val) (ks′ : List ℕ) → Says r → length ks′ ≡ length ks
       → ent 𝓤 (⋆ 𝓤 H A ((‵ (flft κ″ q″) ⊛ ‵ ftrue) ∷ ‵ (flft κ q) ∷ ‵ (S.the-row .own r (w ∷ [])) ∷ ‵ (finally u64 γ″ ks′) ∷ ‵ (flft κ′ q′) ∷ ‵ Own ∷ ‵ Pack ∷ [])) (Post w)
@@ -138,7 +139,7 @@ module _ {M : Type 1} (𝓤 : URA M) (H : Heap 𝓤) (A : Atoms 𝓤) (W : Given
       qed W ((‵ (flft κ″ q″) ⊛ ‵ ftrue) ∷ ‵ (flft κ q) ∷ ‵ (S.the-row .own r (w ∷ [])) ∷ ‵ (finally u64 γ″ ks′) ∷ ‵ (flft κ′ q′) ∷ ‵ Own ∷ ‵ Pack ∷ []) ∵
       suffices ! _ (ends-at 𝓤 H A f.ended stayed (f.clauses 𝓤 H A mem run) W (((κ, (κ′, (κ″, tt))), (q, (q′, (q″, tt))), tt, a, vals), tt) w r
       (tt, (tt, (tt, (tt, (tt, (ks′, tt)))))) (tt, (tt, (tt, (tt, (tt, (l, tt))))))) $
-      says ! (count-same ps m n ns c (length ks) r e) $
+      says ! (count-same (problemOf ps) m n ns c (length ks) r e) $
       move ! (4 ∷ 0 ∷ []) $ join ! $ move ! (1 ∷ 0 ∷ []) $ join ! $ frame ! $ nothing ! $ move ! (2 ∷ 0 ∷ []) $ fjoin ! $ owned ! u32 (Is u32) (uint-makes 𝓤 H A W w32) c _ (refl, c-fits) $ fjoin ! $
       move ! (2 ∷ 0 ∷ []) $ fjoin ! $ owned ! u32 (Is u32) (uint-makes 𝓤 H A W w32) n _ (refl, n-fits) $ fjoin ! $ move ! (2 ∷ 0 ∷ []) $ fjoin ! $
       owned ! u32 (Is u32) (uint-makes 𝓤 H A W w32) m _ (refl, m-fits) $ fjoin ! $ done !

@@ -1,5 +1,6 @@
 -- `kiosk_demo::count_list` meets its contract: a walk of its MIR, by hand. The list is lent as a slice for the call, and its cell is back at the exit (`Listing.antt`).
 -- Assumes nothing.
+use Rattle.exact_cover.specs.Problem.{Problem, problemOf}
 use Rattle.kiosk.proofs.Walking.{_≡_, refl, ℕ, _<_, _^_, List, [], _∷_, Holds, lit<, length, URA, fullShare, named, w32, Val, WT, hasTy, vint, SProp, ent, id⊢, via, emp}
 use Rattle.kiosk.proofs.Walking.{fst∗, Lft, GName, Share, Fml, ftrue, fsep, flft, Memory, Routine, Heap, Calls, Loops, WpFn, Tables, Atoms, Fun, fact, givenOf, tables}
 use Rattle.kiosk.proofs.Walking.{Given, ‵, raw, _⊛_, some, later, ⋆, _$_, _∵_, !, qed, by, move, keep, use1, use2, drop, split, join, pick, given, learn, fsplit, fjoin}
@@ -78,7 +79,7 @@ module _ {M : Type 1} (𝓤 : URA M) (H : Heap 𝓤) (A : Atoms 𝓤) (W : Given
   Work = MutSlice (named 2) κ′ u64 .own k (t ∷ [])
 
   abbrev Says : Counted → Type 0
-  Says r = KioskCountPost ps m n (nodesIn xs) c (length ks) r
+  Says r = KioskCountPost (problemOf ps) m n (nodesIn xs) c (length ks) r
 
   -- what the callee's triple binds outside, and that the caller has what it asks
   abbrev Passed : Type 0

@@ -1,3 +1,4 @@
+use Rattle.exact_cover.specs.Problem.{problemOf}
 use Rattle.printout.proofs.Sheets.{from-start, holds-same, said, unsaid, few-of}
 use Rattle.printout.proofs.Asking.{count-left, was-given, was-refused}
 use Rattle.printout.specs.Program.{answerText, sheet, Askable}
@@ -15,10 +16,10 @@ put-sheet-requires : tie.Need-put-sheet-requires
 put-sheet-requires c κs =
     let here = c .before .before .before .before .before .before .before .before .before .before .before .before .before .before .before in let a = here .args in let pre = here .pre in
     let k = count-left (pre .0) in
-    let q = was-given _ (countRefusal (a .packages .now) (a .c .s + a .c .t) (a .table .now) (a .c .answer) (length (a .work .now))) (length (familyAt (a .table .now) (a .c .answer)))
+    let q = was-given _ (countRefusal (problemOf (a .packages .now)) (a .c .s + a .c .t) (a .table .now) (a .c .answer) (length (a .work .now))) (length (familyAt (a .table .now) (a .c .answer)))
     (sym (ap countReply (c .before .before .before .counted2 .given .1)) ∙ c .before .before .before .before .before .before .before .count .ensures .result) in (
       record {
-        askable = subst⁻¹ (λ (w : ℕ). Askable (a .packages .now) (a .c .s + a .c .t) (a .table .now) (a .c .answer) w) (c .before .before .before .before .before .before .work .given) (pre .0);
+        askable = subst⁻¹ (λ (w : ℕ). Askable (problemOf (a .packages .now)) (a .c .s + a .c .t) (a .table .now) (a .c .answer) w) (c .before .before .before .before .before .before .work .given) (pre .0);
         few = few-of (familyAt (a .table .now) (a .c .answer)) (sym k ∙ q .0);
       },
       (pre .1 .0, (q .1, pre .1 .1)),
@@ -30,7 +31,7 @@ returns c =
     let here = c .before .before .before .before .before .before .before .before .before .before .before .before .before .before .before .before .before in let a = here .args in
     let pre = here .pre in
     let k = count-left (pre .0) in
-    let q = was-refused _ (countRefusal (a .packages .now) (a .c .s + a .c .t) (a .table .now) (a .c .answer) (length (a .work .now))) (length (familyAt (a .table .now) (a .c .answer)))
+    let q = was-refused _ (countRefusal (problemOf (a .packages .now)) (a .c .s + a .c .t) (a .table .now) (a .c .answer) (length (a .work .now))) (length (familyAt (a .table .now) (a .c .answer)))
     (sym (ap countReply (c .before .before .before .before .before .counted .given .1)) ∙ c .before .before .before .before .before .before .before .before .before .count .ensures .result) in
     holds-same (said _ (sheet (a .c .s) (a .c .t) (length (a .packages .now)) (a .costs .now) (familyAt (a .table .now) (a .c .answer)) (a .c .made) (a .c .steps)) (sym k ∙ q .0) (q .1))
     (from-start (c .before .before .put-refused .ensures))
@@ -41,7 +42,7 @@ returns-2 c =
     let here = c .before .before .before .before .before .before .before .before .before .before .before .before in let count = here .count in
     let a = here .before .before .before .before .before .before .before .before .args in let pre = here .before .before .before .before .before .before .before .before .pre in
     let k = count-left (pre .0) in
-    let q = was-given _ (countRefusal (a .packages .now) (a .c .s + a .c .t) (a .table .now) (a .c .answer) (length (a .work .now))) (length (familyAt (a .table .now) (a .c .answer)))
+    let q = was-given _ (countRefusal (problemOf (a .packages .now)) (a .c .s + a .c .t) (a .table .now) (a .c .answer) (length (a .work .now))) (length (familyAt (a .table .now) (a .c .answer)))
     (sym (ap countReply (c .before .before .before .before .before .before .before .before .counted2 .given .1)) ∙ count .ensures .result) in
     holds-same (unsaid (sheet (a .c .s) (a .c .t) (length (a .packages .now)) (a .costs .now) (familyAt (a .table .now) (a .c .answer)) (a .c .made) (a .c .steps)) (sym k ∙ q .0))
     (c .before .before .before .before .put-sheet .ensures)

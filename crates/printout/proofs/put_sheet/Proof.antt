@@ -1,3 +1,4 @@
+use Rattle.exact_cover.specs.Problem.{problemOf}
 use Rattle.printout.proofs.Sheets.{from-start, holds-same, sheet-parts}
 use Rattle.printout.proofs.Putting.{puts-then, puts-same}
 use Rattle.printout.specs.Program.{timetableLines, Listable}
@@ -21,7 +22,7 @@ put-last-requires c κs =
     let least = c .before .before .before .before .before .before .before .before .before in
     let here = least .before .before .before .before .before .before .before .before .before .before .before .before .before .before .before in
     let args = here .args in let pre = here .pre in (
-      subst⁻¹ (λ (w : ℕ). Listable (args .packages .now) (args .c .s + args .c .t) (args .table .now) (args .c .answer) w) (c .before .before .before .before .before .work .given) (pre .0),
+      subst⁻¹ (λ (w : ℕ). Listable (problemOf (args .packages .now)) (args .c .s + args .c .t) (args .table .now) (args .c .answer) w) (c .before .before .before .before .before .work .given) (pre .0),
       (pre .1 .0, pre .1 .1 .0),
     )
 

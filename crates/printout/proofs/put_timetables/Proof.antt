@@ -1,3 +1,4 @@
+use Rattle.exact_cover.specs.Problem.{problemOf}
 use borrow.Author.Needs.{needs}
 use Rattle.printout.proofs.Sheets.{lines-none, lines-more}
 use Rattle.printout.proofs.Putting.{puts-none, puts-then, puts-same}
@@ -25,7 +26,7 @@ loop-holds c =
 put-nth-requires : tie.Need-put-nth-requires Inv-loop μ-loop
 put-nth-requires c κs =
     let here = c .before .before .before .before .before .before .before .before .before in let args = here .args in let pre = here .pre in
-    (subst⁻¹ (λ (w : ℕ). Listable (args .packages .now) (args .m) (args .t .now) (args .a) w) (c .before .before .before .loop .inv .1) (pre .0), omega (arith, pre .1))
+    (subst⁻¹ (λ (w : ℕ). Listable (problemOf (args .packages .now)) (args .m) (args .t .now) (args .a) w) (c .before .before .before .loop .inv .1) (pre .0), omega (arith, pre .1))
 
 loop-again : tie.Need-loop-again Inv-loop μ-loop
 loop-again c =
