@@ -6,6 +6,7 @@ use native.Mathlib.Omega.{arith}
 use lib.ListN.{length}
 use Rattle.zdd.specs.Table.{Family, count}
 use Rattle.statement.specs.declared.Report.{Report as EngineReport}
+use Rattle.exact_cover.specs.Problem.{Problem}
 use Rattle.statement.specs.declared.Soundness.{Soundness}
 use Rattle.statement.specs.declared.Counted.{Counted}
 use Rattle.statement.specs.declared.Picked.{Picked}
@@ -60,27 +61,27 @@ shows-makes {t = t} {n = n} c h m = record {
 
 -- the same for the questions and for the reader
 
-pub shows-check : {S : List ℕ} {m : ℕ} {t : List ℕ} {e : Soundness} (r : ℕ) → Says (soundnessReply e) (soundnessReply (soundnessOf r)) → CheckPost S m t e → CheckPost S m t (soundnessOf r)
-shows-check {S} {m} {t} r h p = record { result = h (checkRefusal S m t) tt (p .result) }
+pub shows-check : {Q : Problem} {m : ℕ} {t : List ℕ} {e : Soundness} (r : ℕ) → Says (soundnessReply e) (soundnessReply (soundnessOf r)) → CheckPost Q m t e → CheckPost Q m t (soundnessOf r)
+shows-check {Q} {m} {t} r h p = record { result = h (checkRefusal Q m t) tt (p .result) }
 
-pub shows-count : {S : List ℕ} {m : ℕ} {t : List ℕ} {a w : ℕ} {e : Counted} (r : Number) → Says (countReply e) (countReply (countedOf r)) → CountPost S m t a w e → CountPost S m t a w (countedOf r)
-shows-count {S} {m} {t} {a} {w} r h p = record { result = h (countRefusal S m t a w) (length (familyAt t a)) (p .result) }
+pub shows-count : {Q : Problem} {m : ℕ} {t : List ℕ} {a w : ℕ} {e : Counted} (r : Number) → Says (countReply e) (countReply (countedOf r)) → CountPost Q m t a w e → CountPost Q m t a w (countedOf r)
+shows-count {Q} {m} {t} {a} {w} r h p = record { result = h (countRefusal Q m t a w) (length (familyAt t a)) (p .result) }
 
-pub shows-pick : {S : List ℕ} {m : ℕ} {t : List ℕ} {a k w : ℕ} {g g′ : List ℕ} {e : Picked} (r : Timetable) → Says (pickReply e) (pickReply (pickedOf r))
-    → PickPost S m t a k w g e g′ → PickPost S m t a k w g (pickedOf r) g′
-shows-pick {S} {m} {t} {a} {k} {w} {g} r h p = record {
-  result = h (pickRefusal S m t a k w g) (length (nth (familyAt t a) k)) (p .result);
+pub shows-pick : {Q : Problem} {m : ℕ} {t : List ℕ} {a k w : ℕ} {g g′ : List ℕ} {e : Picked} (r : Timetable) → Says (pickReply e) (pickReply (pickedOf r))
+    → PickPost Q m t a k w g e g′ → PickPost Q m t a k w g (pickedOf r) g′
+shows-pick {Q} {m} {t} {a} {k} {w} {g} r h p = record {
+  result = h (pickRefusal Q m t a k w g) (length (nth (familyAt t a) k)) (p .result);
   pages = p .pages;
 }
 
-pub shows-place : {S : List ℕ} {m : ℕ} {t : List ℕ} {a : ℕ} {s : List ℕ} {w : ℕ} {e : Placed} (r : Number) → Says (placeReply e) (placeReply (placedOf r))
-    → PlacePost S m t a s w e → PlacePost S m t a s w (placedOf r)
-shows-place {S} {m} {t} {a} {s} {w} r h p = record { result = h (placeRefusal S m t a s w) (position s (familyAt t a)) (p .result) }
+pub shows-place : {Q : Problem} {m : ℕ} {t : List ℕ} {a : ℕ} {s : List ℕ} {w : ℕ} {e : Placed} (r : Number) → Says (placeReply e) (placeReply (placedOf r))
+    → PlacePost Q m t a s w e → PlacePost Q m t a s w (placedOf r)
+shows-place {Q} {m} {t} {a} {s} {w} r h p = record { result = h (placeRefusal Q m t a s w) (position s (familyAt t a)) (p .result) }
 
-pub shows-cheapest : {S : List ℕ} {m : ℕ} {C t : List ℕ} {a w : ℕ} {g g′ : List ℕ} {e : Priced} (r : Timetable) → Says (cheapestReply e) (cheapestReply (pricedOf r))
-    → CheapestPost S m C t a w g e g′ → CheapestPost S m C t a w g (pricedOf r) g′
-shows-cheapest {S} {m} {C} {t} {a} {w} {g} r h p = record {
-  result = h (cheapestRefusal S m C t a w g) (length (cheapest C (familyAt t a)), cost C (cheapest C (familyAt t a))) (p .result);
+pub shows-cheapest : {Q : Problem} {m : ℕ} {C t : List ℕ} {a w : ℕ} {g g′ : List ℕ} {e : Priced} (r : Timetable) → Says (cheapestReply e) (cheapestReply (pricedOf r))
+    → CheapestPost Q m C t a w g e g′ → CheapestPost Q m C t a w g (pricedOf r) g′
+shows-cheapest {Q} {m} {C} {t} {a} {w} {g} r h p = record {
+  result = h (cheapestRefusal Q m C t a w g) (length (cheapest C (familyAt t a)), cost C (cheapest C (familyAt t a))) (p .result);
   pages = p .pages;
 }
 

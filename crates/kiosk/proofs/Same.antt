@@ -1,6 +1,6 @@
 -- THEOREM: the soundness check and count say of the words that the code makes of the kiosk's list what they say of the table whose words are the
 -- number of nodes and then the triples', however long the list is. Assumes nothing.
-use Rattle.exact_cover.specs.Problem.{Problem, problemOf}
+use Rattle.exact_cover.specs.Problem.{Problem}
 use mathlib.Core.Path.{_≡_, refl, sym, ap, _∙_, subst}
 use mathlib.Core.Bool.{Bool, true, false, cond, not}
 use mathlib.Core.List.{List, [], _∷_}

@@ -1,46 +1,45 @@
 -- No question about cover's answer is refused but for too many timetables. Assumes nothing.
-use mathlib.Core.Path.{_≡_, refl, sym, ap, ap₂, _∙_, subst, subst⁻¹}
-use mathlib.Core.Logic.{_⊎_, inl, inr}
+use mathlib.Core.Path.{_≡_, refl, sym, ap, ap₂, _∙_, subst⁻¹}
 use mathlib.Core.Bool.{true, not, _&&_}
-use mathlib.Core.List.{List, [], _∷_, List·Memᴰ, List·Memᴰ·head, List·Memᴰ·tail}
+use mathlib.Core.List.{List, [], _∷_}
 use Prim.Native.Nat.{ℕ, zero, suc, _+_, _*_, _^_, _≤_, _<_}
-use native.Mathlib.Nat.{le-of-eq, lt-of-lt-of-le}
+use native.Mathlib.Nat.{lt-of-lt-of-le}
 use native.Mathlib.Omega.{arith}
 use lib.Pow.{pow-pos, pow-mono}
 use lib.ListN.{length, take, drop}
 use lib.Seq.{take-at}
-use Rattle.base.proofs.Bools.{never, or-cases, and-left, and-right}
+use Rattle.base.proofs.Bools.{and-left, and-right}
 use Rattle.itemset.specs.Items.{insideb, without, size}
 use Rattle.itemset.proofs.Laws.{falls, size-le, without-lt}
-use Rattle.zdd.specs.Table.{Family, nodesOf, sets, elem, eqSet}
-use Rattle.zdd.proofs.Member.{eqSet-eq}
+use Rattle.zdd.specs.Table.{Family, nodesOf, sets, elem}
 use Rattle.zdd.proofs.Grow.{family-zero}
 use Rattle.zdd.proofs.Tested.{sound-of}
 use Rattle.zdd.proofs.Words.{within-capacity}
 use Rattle.zdd.proofs.Listing.{elem-filter}
 use Rattle.zdd.proofs.Ordered.{nth-elem}
-use Rattle.exact_cover.specs.Cover.{row, keysOf, covers, covering, Rows}
+use Rattle.exact_cover.specs.Cover.{keysOf, covers, covering}
 use Rattle.exact_cover.specs.Recursion.{Ascends, rank}
 use Rattle.exact_cover.proofs.Covers.{covers-cons}
 use Rattle.exact_cover.proofs.Sets.{sets-member}
 use Rattle.query.specs.Questions.{familyAt, nth, position, cost, cheapest}
 use Rattle.statement.specs.declared.Picked.{Picked}
-use Rattle.statement.specs.declared.Picked.the-variants.{Packages}
 use Rattle.statement.specs.declared.Priced.{Priced}
 use Rattle.statement.specs.declared.Placed.{Placed}
 use Rattle.statement.specs.declared.Report.{Report}
 use Rattle.statement.specs.Examples.{allItems}
 use Rattle.statement.specs.Replies.{Reply, gives, refused, reply, outcomeReply, pickReply, placeReply, cheapestReply}
-use Rattle.exact_cover.specs.Problem.{Problem, Rows}
+use Rattle.exact_cover.specs.Problem.{Problem, row, Rows}
 use Rattle.statement.specs.declared.Call.the-variants.{Cover}
 use Rattle.statement.specs.Calls.{callRefusal}
-use Rattle.statement.specs.Refusals.{Fit, firstOf, unsound, uncountable, countRefusal, pickRefusal, placeRefusal, cheapestRefusal}
+use Rattle.statement.specs.Refusals.{Fit, firstOf, unsound, uncountable, countRefusal, cheapestRefusal}
 use Rattle.statement.proofs.Admission.{fit-of, fit-passes, table-passes}
 use Rattle.statement.specs.Postconditions.{Makes, Answered, PickPost, PlacePost, CheapestPost, written}
-use Rattle.statement.proofs.FirstOf.{pass, none, passed}
-use Rattle.statement.proofs.TestLaws.{reply-gives, all-priced, answer-known, enough, countable, not-past, something, page-fits}
+use Rattle.statement.proofs.FirstOf.{pass, none}
+use Rattle.statement.proofs.TestLaws.{reply-gives, all-priced, answer-known, enough, countable, something, page-fits}
 use Rattle.statement.proofs.Cheapest.{cheapest-least}
-use Rattle.statement.proofs.Undo.{place-of-pick}
+use Rattle.zdd.proofs.Member.{elem-in}
+use Rattle.exact_cover.proofs.Lead.{open-pos}
+use Rattle.statement.proofs.Undo.{Answerable, place-ready, pick-ready}
 use Rattle.guard.proofs.GuardLaws.{rows}
 use Rattle.printout.specs.Program.{Askable, Listable}
 
@@ -54,33 +53,13 @@ covers-short Q some m D (p ∷ t) w a c =
     let r = covers-short Q some (suc (rank Q p)) (without D (row Q p)) t (without-lt 64 (row Q p) w) (a .2) (and-right (insideb (row Q p) D) (covers Q (without D (row Q p)) t) e) in
     omega (arith, r, falls D (row Q p) (some p (a .0)) i)
 
-member : (s : List ℕ) (F : Family) → elem s F ≡ true → List·Memᴰ s F
-unfolding elem
-member s [] e = absurd (never e refl)
-member s (t ∷ F) e = go (or-cases (eqSet s t) (elem s F) e) (member s F)
-  where
-    go : (eqSet s t ≡ true) ⊎ (elem s F ≡ true) → (elem s F ≡ true → List·Memᴰ s F) → List·Memᴰ s (t ∷ F)
-    go (inl q) ih = List·Memᴰ·head (eqSet-eq s t q)
-    go (inr q) ih = List·Memᴰ·tail (ih q)
-
 pub covering-short : (Q : Problem) → Rows Q → (D : ℕ) → D < 2 ^ 64 → (s : List ℕ) → elem s (covering Q D) ≡ true → length s ≤ 64
 unfolding covering
 covering-short Q R D w s e =
     let f : covers Q D s && elem s (sets (keysOf Q)) ≡ true = sym (elem-filter (covers Q D) s (sets (keysOf Q))) ∙ e in
-    let a : Ascends Q (length (Q .packages)) 0 s = sets-member Q s (R .few) .0 (member s (sets (keysOf Q)) (and-right (covers Q D s) (elem s (sets (keysOf Q))) f)) in
-    let l = covers-short Q (R .some) 0 D s w a (and-left (covers Q D s) (elem s (sets (keysOf Q))) f) in
+    let a : Ascends Q (length (Q .packages)) 0 s = sets-member Q s (R .few) .0 (elem-in s (sets (keysOf Q)) (and-right (covers Q D s) (elem s (sets (keysOf Q))) f)) in
+    let l = covers-short Q (λ p l. open-pos Q (row Q p) (R .some p l)) 0 D s w a (and-left (covers Q D s) (elem s (sets (keysOf Q))) f) in
     omega (arith, l, size-le 64 D w)
-
--- ---- where a timetable of a family stands
-
-stands : (s : List ℕ) (F : Family) → elem s F ≡ true → (k : ℕ) × ((k < length F) × (nth F k ≡ s))
-unfolding elem
-stands s [] e = absurd (never e refl)
-stands s (t ∷ F) e = go (or-cases (eqSet s t) (elem s F) e) (stands s F)
-  where
-    go : (eqSet s t ≡ true) ⊎ (elem s F ≡ true) → (elem s F ≡ true → (k : ℕ) × ((k < length F) × (nth F k ≡ s))) → (k : ℕ) × ((k < length (t ∷ F)) × (nth (t ∷ F) k ≡ s))
-    go (inl q) ih = (0, (omega arith, sym (eqSet-eq s t q)))
-    go (inr q) ih = let r = ih q in (suc (r .0), (omega (arith, r .1 .0), r .1 .1))
 
 -- ---- replies
 
@@ -120,18 +99,15 @@ module _ {Q : Problem} {m : ℕ} {t : List ℕ} {a words : ℕ} (L : Listable Q 
   abbrev F : Family
   F = familyAt t a
 
-  pick-given : (k : ℕ) (page : List ℕ) → k < length F → length (nth F k) ≤ length page → pickRefusal Q m t a k words page ≡ 0
-  unfolding pickRefusal
-  pick-given k page l h =
-      table-passes t _ (A .fit) (A .sound) ∙ pass 5 _ (A .known) ∙ pass 8 _ (enough (a + 1) words (omega (arith, A .room)))
-      ∙ pass 11 _ (countable F (L .few)) ∙ pass 12 _ (not-past F k l) ∙ pass 15 _ (page-fits page (nth F k) h) ∙ none
+  abbrev ready : Answerable Q m t a
+  ready = record { fit = A .fit; sound = A .sound; known = A .known; counted = countable F (L .few) }
 
   -- what pick leaves; n is what was read off its answer
   pub picked-page : {k n : ℕ} {page page′ : List ℕ} {r : Picked} → k < length F → 64 ≤ length page → PickPost Q m t a k words page r page′
       → ((x : ℕ) → pickReply r ≡ gives x → n ≡ x) → (n ≤ 64) × (take n page′ ≡ nth F k)
   picked-page {k} {n} {page} {page′} l h P f =
       let b = A .short (nth F k) (nth-elem F k l) in
-      let z = pick-given k page l (omega (arith, h, b)) in
+      let z = pick-ready ready k words page (omega (arith, A .room)) l (omega (arith, h, b)) in
       let e : n ≡ length (nth F k) = f (length (nth F k)) (P .result ∙ sym (reply-gives (length (nth F k)) z)) in
       (omega (arith, e, b), page-left (nth F k) page e z (P .pages))
 
@@ -160,20 +136,11 @@ module _ {Q : Problem} {m : ℕ} {t : List ℕ} {a words : ℕ} (L : Listable Q 
         let e : n ≡ length s = f (length s) (cost C s) (P .result ∙ sym (reply-gives (length s, cost C s) z)) in
         (omega (arith, e, A .short s in-F), page-left s page e z (P .pages))
 
-    -- its place: place undoes pick
+    -- its place
     pub place-gives : {l : List ℕ} {words′ : ℕ} {r : Placed} → l ≡ s → words′ ≡ words → PlacePost Q m t a l words′ r → placeReply r ≡ gives (position s F)
-    place-gives {l} {words′} {r} e d P =
-        let f = stands s F in-F in
-        let k = f .0 in
-        let q = f .1 .1 in
-        let z = pick-given k s (f .1 .0) (le-of-eq (ap length q)) in
-        let R : PickPost Q m t a k words s (Packages (length s)) (written 0 s s) = record {
-          result = sym (ap₂ (λ (n : ℕ) (u : List ℕ). reply n (length u)) z q);
-          pages = sym (ap₂ (λ (n : ℕ) (u : List ℕ). written n u s) z q);
-        } in
-        let w : take (length s) (written 0 s s) ≡ s = take-at s (drop (length s) s) (length s) refl in
-        let g : placeReply r ≡ gives k = place-of-pick R refl words′ (omega (arith, d, A .room)) r (subst (λ (u : List ℕ). PlacePost Q m t a u words′ r) (e ∙ sym w) P) in
-        g ∙ ap gives (was-given k (placeRefusal Q m t a l words′) (position l F) (sym g ∙ P .result) .1 ∙ ap (λ (u : List ℕ). position u F) e)
+    place-gives {l} {words′} e d P =
+        P .result
+        ∙ ap₂ reply (place-ready ready l words′ (omega (arith, d, A .room)) (subst⁻¹ (λ (u : List ℕ). elem u F ≡ true) e in-F)) (ap (λ (u : List ℕ). position u F) e)
 
 -- ---- cover's answer
 

@@ -1,11 +1,10 @@
 -- THEOREM: no text is longer than 16384 bytes, so that a buffer of that length always holds it whole. Assumes nothing.
-use mathlib.Core.Path.{_≡_, refl, _∙_}
+use mathlib.Core.Path.{_≡_, refl}
 use mathlib.Core.Bool.{Bool, true, false}
 use mathlib.Core.List.{List, [], _∷_, _++_}
 use Prim.Native.Nat.{ℕ, zero, suc, _+_, _*_, _/_, _%_, _≤_, min}
 use native.Mathlib.Nat.{lt-of-lt-of-le}
 use native.Mathlib.Omega.{arith}
-use borrow.Author.Tests.{ltb-false}
 use lib.Dec.{ltb, eqb}
 use lib.Pow.{pow-pos, pow-mono}
 use lib.ListN.{length, length-append}
@@ -21,10 +20,8 @@ use Rattle.statement.specs.declared.Call.the-variants.{Cover}
 use Rattle.statement.specs.Calls.{callRefusal}
 use Rattle.statement.specs.Refusals.{Fit, firstOf, uncountable}
 use Rattle.statement.proofs.Admission.{fit-of, sized-items}
-use Rattle.statement.proofs.FirstOf.{pass, none, passed}
 use Rattle.guard.proofs.GuardLaws.{rows}
 use Rattle.bids.specs.Format.{schools, slots, packagesOf, costsOf, refusal}
-use Rattle.bids.proofs.Refused.{neither}
 use Rattle.printout.specs.Text.{decimalIn, decimal, field, head, packagesText, timetableLine, cheapestLine, noneLine, refusedLine, slotsWord}
 use Rattle.printout.specs.Text.{schoolsWord, packagesWord, nodesWord, stepsWord, timetablesWord, costWord, cheapestWord, refusedWord, newline}
 use Rattle.printout.specs.Written.{Holds, Whole}

@@ -116,7 +116,7 @@ pub record Read (b : List ℕ) (s t n : ℕ) (p c : List ℕ) : Type 0 where
   pub items : take n p ≡ packagesOf b
   pub costs : take n c ≡ costsOf b
   pub same-long : length (costsOf b) ≡ length (packagesOf b)
-  pub text : solved s t (packagesOf b) (costsOf b) ≡ printed b
+  pub text : solved s t (problemOf (packagesOf b)) (costsOf b) ≡ printed b
 
 -- the buffers before
 abbrev zeros : List ℕ

@@ -98,13 +98,13 @@ module _ {Q : Problem} {m : ℕ} {t : List ℕ} {a : ℕ} (R : Answerable Q m t 
       let h : Ascends Q (length (Q .packages)) 0 s = sets-member Q s few .0 (elem-in s (sets (keysOf Q)) (listed-elem (keysOf Q) (familyAt t a) listed s e)) in
       rw (all-known Q 0 s h, ascends Q 0 s h)
 
-  place-ready : (s : List ℕ) (words : ℕ) → a + 1 ≤ words → elem s (familyAt t a) ≡ true → placeRefusal Q m t a s words ≡ 0
+  pub place-ready : (s : List ℕ) (words : ℕ) → a + 1 ≤ words → elem s (familyAt t a) ≡ true → placeRefusal Q m t a s words ≡ 0
   unfolding placeRefusal shortWork absent
   place-ready s words w e =
       table-passes t _ (R .fit) (R .sound) ∙ pass 5 _ (R .known) ∙ pass 6 _ (timetable s e)
       ∙ pass 8 _ (le-ltb words (a + 1) w) ∙ pass 11 _ (R .counted) ∙ pass 14 _ (ap not e) ∙ none
 
-  pick-ready : (k words : ℕ) (page : List ℕ) → a + 1 ≤ words → k < length (familyAt t a) → length (nth (familyAt t a) k) ≤ length page
+  pub pick-ready : (k words : ℕ) (page : List ℕ) → a + 1 ≤ words → k < length (familyAt t a) → length (nth (familyAt t a) k) ≤ length page
       → pickRefusal Q m t a k words page ≡ 0
   unfolding pickRefusal shortWork pastEnd shortPage
   pick-ready k words page w h l =

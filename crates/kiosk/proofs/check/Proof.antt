@@ -2,7 +2,7 @@
 -- and comes back to be freed. All that the proof knows of the two is that they meet their contracts.
 -- The slices are Copy: what each owns is had twice, once for the call and once for the exit.
 -- Assumes nothing.
-use Rattle.exact_cover.specs.Problem.{Problem, problemOf}
+use Rattle.exact_cover.specs.Problem.{problemOf}
 use Rattle.kiosk.proofs.Walking.{_≡_, refl, sym, subst, ℕ, _<_, _^_, List, [], _∷_, Holds, lit<, length, URA, fullShare, named, w32, w64, tyUnit, Val, WT, hasTy}
 use Rattle.kiosk.proofs.Walking.{vint, vptr, vunit, SProp, ent, id⊢, via, emp, fst∗, Lft, GName, Share, Fml, ftrue, fsep, flft, Memory, Routine, Heap, Calls}
 use Rattle.kiosk.proofs.Walking.{Loops, WpFn, Tables, Atoms, Fun, fact, givenOf, tables, Given, ‵, raw, _⊛_, some, later, ⋆, _$_, _∵_, !, qed, by, move, keep}

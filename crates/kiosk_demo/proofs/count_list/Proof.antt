@@ -1,6 +1,6 @@
 -- `kiosk_demo::count_list` meets its contract: a walk of its MIR, by hand. The list is lent as a slice for the call, and its cell is back at the exit (`Listing.antt`).
 -- Assumes nothing.
-use Rattle.exact_cover.specs.Problem.{Problem, problemOf}
+use Rattle.exact_cover.specs.Problem.{problemOf}
 use Rattle.kiosk.proofs.Walking.{_≡_, refl, ℕ, _<_, _^_, List, [], _∷_, Holds, lit<, length, URA, fullShare, named, w32, Val, WT, hasTy, vint, SProp, ent, id⊢, via, emp}
 use Rattle.kiosk.proofs.Walking.{fst∗, Lft, GName, Share, Fml, ftrue, fsep, flft, Memory, Routine, Heap, Calls, Loops, WpFn, Tables, Atoms, Fun, fact, givenOf, tables}
 use Rattle.kiosk.proofs.Walking.{Given, ‵, raw, _⊛_, some, later, ⋆, _$_, _∵_, !, qed, by, move, keep, use1, use2, drop, split, join, pick, given, learn, fsplit, fjoin}
