@@ -1,3 +1,4 @@
+use Rattle.exact_cover.specs.Problem.{problemOf}
 use lib.Seq.{length-take-le}
 use lib.ListN.{length}
 use native.Mathlib.Omega.{arith}
@@ -44,7 +45,7 @@ returns c =
 returns-2 : tie.Need-returns-2
 returns-2 c =
     let g = read-gave (c .before .before .before .before .before .before .before .before .before .read .ensures) (c .before .before .before .before .before .reading2 .given .1) in
-    whole _ (omega (arith, c .put-solution .kept)) (holds-same (ap₂ (solved _ _) (g .items) (g .costs) ∙ g .text) (c .put-solution .ensures))
+    whole _ (omega (arith, c .put-solution .kept)) (holds-same (ap₂ (solved _ _) (ap problemOf (g .items)) (g .costs) ∙ g .text) (c .put-solution .ensures))
 
 pub lines-spec : {M : Type 1} → statement M
 lines-spec =
