@@ -72,23 +72,6 @@ returns c =
 pub fill-spec : {M : Type 1} → statement M
 fill-spec =
     tie.close
-    (tie.spec
-    Inv-loop
-    μ-loop
-    (λ c. search needs)
-    (λ c. search needs)
-    loop-holds
-    (λ c κs. search needs)
-    (λ c κs. search needs)
-    items-of-requires
-    (λ c. search needs)
-    slice-write-packages
-    (λ c. search needs)
-    (λ c. search needs)
-    slice-write-costs
-    (λ c. search needs)
-    (λ c. search needs)
-    loop-again
-    same-length
-    same-length-2
-    returns)
+    (tie.spec Inv-loop μ-loop (λ c. search needs) (λ c. search needs) loop-holds (λ c κs. search needs) (λ c κs. search needs) items-of-requires
+    (λ c. search needs) slice-write-packages (λ c. search needs) (λ c. search needs) slice-write-costs (λ c. search needs) (λ c. search needs)
+    loop-again same-length same-length-2 returns)

@@ -43,15 +43,5 @@ returns-6 c =
 pub header-refusal-spec : {M : Type 1} → statement M
 header-refusal-spec =
     tie.close
-    (tie.spec
-    returns
-    returns-2
-    (λ c. search needs)
-    returns-3
-    returns-4
-    (λ c. search needs)
-    (λ c. search needs)
-    (λ c. search needs)
-    (λ c. search needs)
-    returns-5
-    returns-6)
+    (tie.spec returns returns-2 (λ c. search needs) returns-3 returns-4 (λ c. search needs) (λ c. search needs) (λ c. search needs)
+    (λ c. search needs) returns-5 returns-6)

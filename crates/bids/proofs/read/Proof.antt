@@ -57,16 +57,5 @@ returns-4 c =
 pub read-spec : {M : Type 1} → statement M
 read-spec =
     tie.close
-    (tie.spec
-    (λ c κs. search needs)
-    returns
-    read-header-requires
-    (λ c. search needs)
-    (λ c. search needs)
-    returns-2
-    returns-3
-    (λ c κs. search needs)
-    fill-requires
-    (λ c. search needs)
-    (λ c. search needs)
-    returns-4)
+    (tie.spec (λ c κs. search needs) returns read-header-requires (λ c. search needs) (λ c. search needs) returns-2 returns-3 (λ c κs. search needs)
+    fill-requires (λ c. search needs) (λ c. search needs) returns-4)

@@ -24,11 +24,4 @@ returns-3 c = c .record-refusal .ensures ∙ sym (by-records (c .before .before 
 pub refusal-spec : {M : Type 1} → statement M
 refusal-spec =
     tie.close
-    (tie.spec
-    returns
-    (λ c κs. search needs)
-    (λ c κs. search needs)
-    returns-2
-    (λ c. search needs)
-    record-refusal-requires
-    returns-3)
+    (tie.spec returns (λ c κs. search needs) (λ c κs. search needs) returns-2 (λ c. search needs) record-refusal-requires returns-3)

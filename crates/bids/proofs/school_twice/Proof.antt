@@ -41,14 +41,5 @@ returns-2 c = sym (some-none _ (c .before .before .before .args .s) (c .before .
 pub school-twice-spec : {M : Type 1} → statement M
 school-twice-spec =
     tie.close
-    (tie.spec
-    Inv-loop
-    μ-loop
-    loop-holds
-    (λ c κs. search needs)
-    returns
-    (λ c κs. search needs)
-    (λ c. search needs)
-    (λ c. search needs)
-    loop-again
+    (tie.spec Inv-loop μ-loop loop-holds (λ c κs. search needs) returns (λ c κs. search needs) (λ c. search needs) (λ c. search needs) loop-again
     returns-2)

@@ -59,21 +59,6 @@ returns-3 c =
 pub cover-spec : {M : Type 1} → statement M
 cover-spec =
     tie.close
-    (tie.spec
-    enlist-requires
-    (λ c κs. search needs)
-    (λ c. search needs)
-    begin-requires
-    rollback-requires
-    (λ c. search needs)
-    (λ c. search needs)
-    returns
-    rollback-requires-2
-    (λ c. search needs)
-    (λ c. search needs)
-    returns-2
-    (λ c. search needs)
-    sub-t37
-    (λ c. search needs)
-    (λ c. search needs)
+    (tie.spec enlist-requires (λ c κs. search needs) (λ c. search needs) begin-requires rollback-requires (λ c. search needs) (λ c. search needs)
+    returns rollback-requires-2 (λ c. search needs) (λ c. search needs) returns-2 (λ c. search needs) sub-t37 (λ c. search needs) (λ c. search needs)
     returns-3)

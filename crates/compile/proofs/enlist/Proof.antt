@@ -60,18 +60,5 @@ returns c = built-all (c .before .loop .k) (c .before .before .before .pre .0) (
 pub enlist-spec : {M : Type 1} → statement M
 enlist-spec =
     tie.close
-    (tie.spec
-    Inv-loop
-    μ-loop
-    loop-holds
-    (λ c. search needs)
-    (λ c. search needs)
-    lowest-requires
-    (λ c κs. search needs)
-    (λ c. search needs)
-    cast-insert
-    insert-requires
-    (λ c. search needs)
-    (λ c. search needs)
-    loop-again
-    returns)
+    (tie.spec Inv-loop μ-loop loop-holds (λ c. search needs) (λ c. search needs) lowest-requires (λ c κs. search needs) (λ c. search needs)
+    cast-insert insert-requires (λ c. search needs) (λ c. search needs) loop-again returns)

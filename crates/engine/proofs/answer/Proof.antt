@@ -106,47 +106,10 @@ returns-7 c =
 pub answer-spec : {M : Type 1} → statement M
 answer-spec =
     tie.close
-    (tie.spec
-    (λ c. search needs)
-    admit-requires
-    (λ c κs. search needs)
-    (λ c. search needs)
-    returns
-    (λ c. search needs)
-    answer-cover-requires
-    (λ c. search needs)
-    array-share-prefix-keys
-    slice-aggregate-answer-pair
-    answer-pair-requires
-    (λ c. search needs)
-    array-share-prefix-keys-2
-    slice-aggregate-answer-pair-2
-    answer-pair-requires-2
-    (λ c. search needs)
-    array-share-prefix-keys-3
-    slice-aggregate-answer-pair-3
-    answer-pair-requires-3
-    (λ c. search needs)
-    array-share-prefix-keys-4
-    slice-aggregate-answer-part
-    answer-part-requires
-    (λ c. search needs)
-    array-share-prefix-keys-5
-    slice-aggregate-answer-part-2
-    answer-part-requires-2
-    (λ c. search needs)
-    (λ c. search needs)
-    returns-2
-    (λ c. search needs)
-    (λ c. search needs)
-    returns-3
-    (λ c. search needs)
-    (λ c. search needs)
-    returns-4
-    (λ c. search needs)
-    (λ c. search needs)
-    returns-5
-    (λ c. search needs)
-    returns-6
-    (λ c. search needs)
-    returns-7)
+    (tie.spec (λ c. search needs) admit-requires (λ c κs. search needs) (λ c. search needs) returns (λ c. search needs) answer-cover-requires
+    (λ c. search needs) array-share-prefix-keys slice-aggregate-answer-pair answer-pair-requires (λ c. search needs) array-share-prefix-keys-2
+    slice-aggregate-answer-pair-2 answer-pair-requires-2 (λ c. search needs) array-share-prefix-keys-3 slice-aggregate-answer-pair-3
+    answer-pair-requires-3 (λ c. search needs) array-share-prefix-keys-4 slice-aggregate-answer-part answer-part-requires (λ c. search needs)
+    array-share-prefix-keys-5 slice-aggregate-answer-part-2 answer-part-requires-2 (λ c. search needs) (λ c. search needs) returns-2
+    (λ c. search needs) (λ c. search needs) returns-3 (λ c. search needs) (λ c. search needs) returns-4 (λ c. search needs) (λ c. search needs)
+    returns-5 (λ c. search needs) returns-6 (λ c. search needs) returns-7)

@@ -58,22 +58,6 @@ returns-5 c =
 pub answer-cover-spec : {M : Type 1} → statement M
 answer-cover-spec =
     tie.close
-    (tie.spec
-    below-requires
-    (λ c κs. search needs)
-    returns
-    (λ c κs. search needs)
-    returns-2
-    cover-requires
-    (λ c κs. search needs)
-    (λ c. search needs)
-    (λ c. search needs)
-    returns-3
-    (λ c κs. search needs)
-    (λ c. search needs)
-    (λ c. search needs)
-    returns-4
-    cast-t22
-    (λ c. search needs)
-    (λ c. search needs)
-    returns-5)
+    (tie.spec below-requires (λ c κs. search needs) returns (λ c κs. search needs) returns-2 cover-requires (λ c κs. search needs) (λ c. search needs)
+    (λ c. search needs) returns-3 (λ c κs. search needs) (λ c. search needs) (λ c. search needs) returns-4 cast-t22 (λ c. search needs)
+    (λ c. search needs) returns-5)

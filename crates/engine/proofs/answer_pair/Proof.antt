@@ -49,18 +49,5 @@ returns-4 c =
 pub answer-pair-spec : {M : Type 1} → statement M
 answer-pair-spec =
     tie.close
-    (tie.spec
-    slice-read-n
-    add-if1
-    (λ c κs. search needs)
-    returns
-    add-if2
-    (λ c κs. search needs)
-    returns-2
-    (λ c κs. search needs)
-    returns-3
-    combination-requires
-    report-requires
-    (λ c. search needs)
-    (λ c. search needs)
-    returns-4)
+    (tie.spec slice-read-n add-if1 (λ c κs. search needs) returns add-if2 (λ c κs. search needs) returns-2 (λ c κs. search needs) returns-3
+    combination-requires report-requires (λ c. search needs) (λ c. search needs) returns-4)

@@ -55,17 +55,5 @@ returns-4 c = reported-makes (c .before .before .before .before .restriction .en
 pub answer-part-spec : {M : Type 1} → statement M
 answer-part-spec =
     tie.close
-    (tie.spec
-    slice-read-n
-    add-if1
-    (λ c κs. search needs)
-    returns
-    (λ c κs. search needs)
-    (λ c κs. search needs)
-    returns-2
-    (λ c κs. search needs)
-    returns-3
-    restriction-requires
-    report-requires
-    (λ c. search needs)
-    returns-4)
+    (tie.spec slice-read-n add-if1 (λ c κs. search needs) returns (λ c κs. search needs) (λ c κs. search needs) returns-2 (λ c κs. search needs)
+    returns-3 restriction-requires report-requires (λ c. search needs) returns-4)

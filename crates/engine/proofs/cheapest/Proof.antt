@@ -48,16 +48,5 @@ returns-4 c =
 pub cheapest-spec : {M : Type 1} → statement M
 cheapest-spec =
     tie.close
-    (tie.spec
-    (λ c κs. search needs)
-    returns
-    (λ c κs. search needs)
-    add-if2
-    mul-if2
-    returns-2
-    returns-3
-    cheapest-requires
-    (λ c κs. search needs)
-    (λ c. search needs)
-    (λ c. search needs)
-    returns-4)
+    (tie.spec (λ c κs. search needs) returns (λ c κs. search needs) add-if2 mul-if2 returns-2 returns-3 cheapest-requires (λ c κs. search needs)
+    (λ c. search needs) (λ c. search needs) returns-4)

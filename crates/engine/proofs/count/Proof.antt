@@ -29,12 +29,4 @@ returns-3 c =
 pub count-spec : {M : Type 1} → statement M
 count-spec =
     tie.close
-    (tie.spec
-    opened-requires
-    returns
-    (λ c κs. search needs)
-    returns-2
-    count-requires
-    (λ c κs. search needs)
-    (λ c. search needs)
-    returns-3)
+    (tie.spec opened-requires returns (λ c κs. search needs) returns-2 count-requires (λ c κs. search needs) (λ c. search needs) returns-3)

@@ -30,12 +30,4 @@ returns-3 c = known-known _ (c .before .before .before .before .before .usable .
 pub known-spec : {M : Type 1} → statement M
 known-spec =
     tie.close
-    (tie.spec
-    usable-requires
-    returns
-    shared-slice-read-wide
-    (λ c κs. search needs)
-    add-if2
-    (λ c κs. search needs)
-    returns-2
-    returns-3)
+    (tie.spec usable-requires returns shared-slice-read-wide (λ c κs. search needs) add-if2 (λ c κs. search needs) returns-2 returns-3)

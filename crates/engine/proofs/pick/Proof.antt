@@ -59,17 +59,5 @@ returns-4 c =
 pub pick-spec : {M : Type 1} → statement M
 pick-spec =
     tie.close
-    (tie.spec
-    opened-requires
-    returns
-    (λ c κs. search needs)
-    returns-2
-    count-requires
-    (λ c κs. search needs)
-    (λ c. search needs)
-    returns-3
-    pick-requires
-    (λ c κs. search needs)
-    (λ c. search needs)
-    (λ c. search needs)
-    returns-4)
+    (tie.spec opened-requires returns (λ c κs. search needs) returns-2 count-requires (λ c κs. search needs) (λ c. search needs) returns-3
+    pick-requires (λ c κs. search needs) (λ c. search needs) (λ c. search needs) returns-4)

@@ -61,17 +61,5 @@ returns-4 c =
 pub place-spec : {M : Type 1} → statement M
 place-spec =
     tie.close
-    (tie.spec
-    opened-requires
-    returns
-    array-share-prefix-keys
-    slice-aggregate-in-precedence
-    (λ c κs. search needs)
-    (λ c κs. search needs)
-    returns-2
-    returns-3
-    count-requires
-    place-requires
-    (λ c κs. search needs)
-    (λ c. search needs)
-    returns-4)
+    (tie.spec opened-requires returns array-share-prefix-keys slice-aggregate-in-precedence (λ c κs. search needs) (λ c κs. search needs) returns-2
+    returns-3 count-requires place-requires (λ c κs. search needs) (λ c. search needs) returns-4)

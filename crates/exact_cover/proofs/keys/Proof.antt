@@ -36,17 +36,5 @@ returns c = keyed-all (c .before .loop .k) (c .before .before .before .before .p
 pub keys-spec : {M : Type 1} → statement M
 keys-spec =
     tie.close
-    (tie.spec
-    Inv-loop
-    μ-loop
-    loop-holds
-    (λ c. search needs)
-    (λ c. search needs)
-    key-requires
-    (λ c. search needs)
-    slice-write-keys
-    (λ c. search needs)
-    (λ c. search needs)
-    loop-again
-    (λ c. search needs)
-    returns)
+    (tie.spec Inv-loop μ-loop loop-holds (λ c. search needs) (λ c. search needs) key-requires (λ c. search needs) slice-write-keys (λ c. search needs)
+    (λ c. search needs) loop-again (λ c. search needs) returns)

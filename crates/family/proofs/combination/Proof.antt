@@ -23,13 +23,5 @@ returns-2 c = produced-done (c .before .before .before .before .before .remember
 pub combination-spec : {M : Type 1} → statement M
 combination-spec =
     tie.close
-    (tie.spec
-    slice-read-n
-    (λ c κs. search needs)
-    rollback-requires
-    (λ c. search needs)
-    (λ c. search needs)
-    returns
-    (λ c. search needs)
-    (λ c. search needs)
-    returns-2)
+    (tie.spec slice-read-n (λ c κs. search needs) rollback-requires (λ c. search needs) (λ c. search needs) returns (λ c. search needs)
+    (λ c. search needs) returns-2)

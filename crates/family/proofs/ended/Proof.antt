@@ -37,15 +37,5 @@ returns-8 c = ends-open _ _ _ _ (record {
 pub ended-spec : {M : Type 1} → statement M
 ended-spec =
     tie.close
-    (tie.spec
-    returns
-    returns-2
-    returns-3
-    returns-4
-    returns-5
-    returns-6
-    (λ c. search needs)
-    (λ c. search needs)
-    (λ c. search needs)
-    returns-7
+    (tie.spec returns returns-2 returns-3 returns-4 returns-5 returns-6 (λ c. search needs) (λ c. search needs) (λ c. search needs) returns-7
     returns-8)

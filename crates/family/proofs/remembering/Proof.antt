@@ -32,15 +32,5 @@ afresh-requires c κs =
 pub remembering-spec : {M : Type 1} → statement M
 remembering-spec =
     tie.close
-    (tie.spec
-    (λ c. search needs)
-    combine-requires
-    (λ c. search needs)
-    (λ c. search needs)
-    (λ c κs. search needs)
-    (λ c. search needs)
-    slice-aggregate-afresh
-    afresh-requires
-    (λ c. search needs)
-    (λ c. search needs)
-    (λ c. search needs))
+    (tie.spec (λ c. search needs) combine-requires (λ c. search needs) (λ c. search needs) (λ c κs. search needs) (λ c. search needs)
+    slice-aggregate-afresh afresh-requires (λ c. search needs) (λ c. search needs) (λ c. search needs))

@@ -32,11 +32,4 @@ returns-2 c = produced-done (c .before .before .before .restrict .ensures .0) (�
 pub restriction-spec : {M : Type 1} → statement M
 restriction-spec =
     tie.close
-    (tie.spec
-    slice-read-n
-    restrict-requires
-    rollback-requires
-    (λ c. search needs)
-    returns
-    (λ c. search needs)
-    returns-2)
+    (tie.spec slice-read-n restrict-requires rollback-requires (λ c. search needs) returns (λ c. search needs) returns-2)

@@ -38,15 +38,5 @@ returns-2 c =
 pub top-spec : {M : Type 1} → statement M
 top-spec =
     tie.close
-    (tie.spec
-    returns
-    (λ c κs. search needs)
-    (λ c. search needs)
-    (λ c. search needs)
-    (λ c. search needs)
-    (λ c. search needs)
-    (λ c κs. search needs)
-    mul-widened
-    shared-slice-read-widened
-    (λ c κs. search needs)
-    returns-2)
+    (tie.spec returns (λ c κs. search needs) (λ c. search needs) (λ c. search needs) (λ c. search needs) (λ c. search needs) (λ c κs. search needs)
+    mul-widened shared-slice-read-widened (λ c κs. search needs) returns-2)

@@ -26,11 +26,4 @@ returns-3 c = admitted-sound (sym (c .before .before .before .before .before .be
 pub admit-spec : {M : Type 1} → statement M
 admit-spec =
     tie.close
-    (tie.spec
-    (λ c κs. search needs)
-    returns
-    usable-requires
-    (λ c. search needs)
-    returns-2
-    (λ c. search needs)
-    returns-3)
+    (tie.spec (λ c κs. search needs) returns usable-requires (λ c. search needs) returns-2 (λ c. search needs) returns-3)

@@ -27,10 +27,4 @@ returns c =
 pub usable-spec : {M : Type 1} → statement M
 usable-spec =
     tie.close
-    (tie.spec
-    keys-requires
-    slice-reshare-prefix-check
-    slice-aggregate-check
-    check-requires
-    (λ c. search needs)
-    returns)
+    (tie.spec keys-requires slice-reshare-prefix-check slice-aggregate-check check-requires (λ c. search needs) returns)

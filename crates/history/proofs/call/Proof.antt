@@ -25,19 +25,10 @@ returns : tie.Need-returns
 returns c =
     let here = c .before .before .before .before .before .before .before .before .before .before in let asked = here .asked in let pre = here .before .before .before .before .before .pre in
     step-request _ _ _ _ _ _ _ _ (asked .ensures) (length-take-le _ _ (rw (asked .ensures) (fitting _ _ (pre .1) .room-for)))
-      (c .before .before .before .before .before .before .before .before .call-of .ensures) (c .before .before .before .before .answer .ensures)
+    (c .before .before .before .before .before .before .before .before .call-of .ensures) (c .before .before .before .before .answer .ensures)
 
 pub call-spec : {M : Type 1} → statement M
 call-spec =
     tie.close
-    (tie.spec
-    (λ c κs. search needs)
-    cast-call-of
-    call-of-requires
-    cast-answer
-    slice-relend-prefix-answer
-    slice-aggregate-answer
-    (λ c κs. search needs)
-    (λ c. search needs)
-    (λ c. search needs)
-    returns)
+    (tie.spec (λ c κs. search needs) cast-call-of call-of-requires cast-answer slice-relend-prefix-answer slice-aggregate-answer
+    (λ c κs. search needs) (λ c. search needs) (λ c. search needs) returns)

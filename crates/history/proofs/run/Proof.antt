@@ -74,20 +74,5 @@ returns c = ran (c .before .before .before .before .loop .inv .0) _ (ap length (
 pub run-spec : {M : Type 1} → statement M
 run-spec =
     tie.close
-    (tie.spec
-    Inv-loop
-    μ-loop
-    (λ c κs. search needs)
-    (λ c κs. search needs)
-    loop-holds
-    (λ c κs. search needs)
-    call-requires
-    store-requires
-    mark-requires
-    add-i
-    loop-less
-    loop-again
-    same-length
-    same-length-2
-    same-length-3
-    returns)
+    (tie.spec Inv-loop μ-loop (λ c κs. search needs) (λ c κs. search needs) loop-holds (λ c κs. search needs) call-requires store-requires
+    mark-requires add-i loop-less loop-again same-length same-length-2 same-length-3 returns)

@@ -50,17 +50,6 @@ returns-2 c =
 pub lines-spec : {M : Type 1} → statement M
 lines-spec =
     tie.close
-    (tie.spec
-    (λ c. search needs)
-    (λ c. search needs)
-    (λ c κs. search needs)
-    (λ c. search needs)
-    (λ c κs. search needs)
-    (λ c. search needs)
-    array-share-prefix-packages
-    slice-aggregate-put-solution
-    array-share-prefix-costs
-    slice-aggregate-put-solution-2
-    put-solution-requires
-    returns
+    (tie.spec (λ c. search needs) (λ c. search needs) (λ c κs. search needs) (λ c. search needs) (λ c κs. search needs) (λ c. search needs)
+    array-share-prefix-packages slice-aggregate-put-solution array-share-prefix-costs slice-aggregate-put-solution-2 put-solution-requires returns
     returns-2)

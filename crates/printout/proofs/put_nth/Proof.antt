@@ -40,13 +40,5 @@ returns c =
 pub put-nth-spec : {M : Type 1} → statement M
 put-nth-spec =
     tie.close
-    (tie.spec
-    (λ c. search needs)
-    (λ c κs. search needs)
-    (λ c κs. search needs)
-    array-share-prefix-page
-    slice-aggregate-put-timetable
-    put-timetable-requires
-    (λ c. search needs)
-    (λ c. search needs)
-    returns)
+    (tie.spec (λ c. search needs) (λ c κs. search needs) (λ c κs. search needs) array-share-prefix-page slice-aggregate-put-timetable
+    put-timetable-requires (λ c. search needs) (λ c. search needs) returns)

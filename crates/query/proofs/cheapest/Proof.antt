@@ -39,15 +39,5 @@ returns-2 c =
 pub cheapest-spec : {M : Type 1} → statement M
 cheapest-spec =
     tie.close
-    (tie.spec
-    prices-requires
-    measure-cheapest-requires
-    (λ c. search needs)
-    (λ c. search needs)
-    write-cheapest-requires
-    (λ c. search needs)
-    (λ c. search needs)
-    cast-x
-    (λ c. search needs)
-    (λ c. search needs)
-    returns-2)
+    (tie.spec prices-requires measure-cheapest-requires (λ c. search needs) (λ c. search needs) write-cheapest-requires (λ c. search needs)
+    (λ c. search needs) cast-x (λ c. search needs) (λ c. search needs) returns-2)

@@ -93,17 +93,5 @@ returns-3 c =
 pub cost-word-spec : {M : Type 1} → statement M
 cost-word-spec =
     tie.close
-    (tie.spec
-    returns
-    takes-hi-requires
-    hi-requires
-    label-requires
-    price-requires
-    mul-result
-    shared-slice-read-result
-    add-result
-    returns-2
-    lo-requires
-    mul-result-2
-    shared-slice-read-result-2
-    returns-3)
+    (tie.spec returns takes-hi-requires hi-requires label-requires price-requires mul-result shared-slice-read-result add-result returns-2 lo-requires
+    mul-result-2 shared-slice-read-result-2 returns-3)

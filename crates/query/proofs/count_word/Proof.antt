@@ -65,16 +65,5 @@ returns-3 c =
 pub count-word-spec : {M : Type 1} → statement M
 count-word-spec =
     tie.close
-    (tie.spec
-    returns
-    hi-requires
-    lo-requires
-    mul-result
-    shared-slice-read-result
-    returns-2
-    mul-plus
-    shared-slice-read-plus
-    mul-plus-2
-    shared-slice-read-plus-2
-    (λ c κs. search needs)
-    returns-3)
+    (tie.spec returns hi-requires lo-requires mul-result shared-slice-read-result returns-2 mul-plus shared-slice-read-plus mul-plus-2
+    shared-slice-read-plus-2 (λ c κs. search needs) returns-3)

@@ -51,16 +51,5 @@ returns c = let e : c .before .loop .k ≡ c .before .before .before .before .ar
 pub counts-spec : {M : Type 1} → statement M
 counts-spec =
     tie.close
-    (tie.spec
-    Inv-loop
-    μ-loop
-    (λ c. search needs)
-    loop-holds
-    (λ c κs. search needs)
-    (λ c. search needs)
-    slice-write-work-2
-    (λ c. search needs)
-    (λ c. search needs)
-    loop-again
-    same-length
-    returns)
+    (tie.spec Inv-loop μ-loop (λ c. search needs) loop-holds (λ c κs. search needs) (λ c. search needs) slice-write-work-2 (λ c. search needs)
+    (λ c. search needs) loop-again same-length returns)

@@ -77,19 +77,5 @@ returns c = omega (arith, c .before .loop .inv .2, ap length (walk-end (c .befor
 pub measure-spec : {M : Type 1} → statement M
 measure-spec =
     tie.close
-    (tie.spec
-    Inv-loop
-    μ-loop
-    loop-holds
-    hi-requires
-    mul-c
-    shared-slice-read-c
-    add-n
-    loop-less
-    loop-again
-    (λ c. search needs)
-    (λ c. search needs)
-    lo-requires
-    loop-less-2
-    loop-again-2
-    returns)
+    (tie.spec Inv-loop μ-loop loop-holds hi-requires mul-c shared-slice-read-c add-n loop-less loop-again (λ c. search needs) (λ c. search needs)
+    lo-requires loop-less-2 loop-again-2 returns)

@@ -82,16 +82,4 @@ returns c =
 pub measure-cheapest-spec : {M : Type 1} → statement M
 measure-cheapest-spec =
     tie.close
-    (tie.spec
-    Inv-loop
-    μ-loop
-    loop-holds
-    takes-hi-requires
-    add-n
-    hi-requires
-    loop-less
-    loop-again
-    lo-requires
-    loop-less-2
-    loop-again-2
-    returns)
+    (tie.spec Inv-loop μ-loop loop-holds takes-hi-requires add-n hi-requires loop-less loop-again lo-requires loop-less-2 loop-again-2 returns)

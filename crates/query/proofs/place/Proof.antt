@@ -87,22 +87,5 @@ returns-3 c = seek-more (c .before .before .before .loop .inv) (c .before .if2 .
 pub place-spec : {M : Type 1} → statement M
 place-spec =
     tie.close
-    (tie.spec
-    Inv-loop
-    μ-loop
-    loop-holds
-    returns
-    hi-requires
-    label-requires
-    (λ c κs. search needs)
-    add-i
-    loop-less
-    loop-again
-    mul-plus
-    shared-slice-read-plus
-    (λ c κs. search needs)
-    lo-requires
-    loop-less-2
-    loop-again-2
-    returns-2
-    returns-3)
+    (tie.spec Inv-loop μ-loop loop-holds returns hi-requires label-requires (λ c κs. search needs) add-i loop-less loop-again mul-plus
+    shared-slice-read-plus (λ c κs. search needs) lo-requires loop-less-2 loop-again-2 returns-2 returns-3)

@@ -60,16 +60,5 @@ returns c = let e : c .before .loop .k ≡ c .before .before .before .before .be
 pub prices-spec : {M : Type 1} → statement M
 prices-spec =
     tie.close
-    (tie.spec
-    Inv-loop
-    μ-loop
-    (λ c. search needs)
-    loop-holds
-    cost-word-requires
-    (λ c. search needs)
-    slice-write-work-2
-    (λ c. search needs)
-    loop-less
-    loop-again
-    same-length
-    returns)
+    (tie.spec Inv-loop μ-loop (λ c. search needs) loop-holds cost-word-requires (λ c. search needs) slice-write-work-2 (λ c. search needs) loop-less
+    loop-again same-length returns)

@@ -74,15 +74,5 @@ returns-2 c =
 pub takes-hi-spec : {M : Type 1} → statement M
 takes-hi-spec =
     tie.close
-    (tie.spec
-    lo-requires
-    returns
-    hi-requires
-    label-requires
-    price-requires
-    mul-result
-    shared-slice-read-result
-    add-result
-    mul-result-2
-    shared-slice-read-result-2
-    returns-2)
+    (tie.spec lo-requires returns hi-requires label-requires price-requires mul-result shared-slice-read-result add-result mul-result-2
+    shared-slice-read-result-2 returns-2)

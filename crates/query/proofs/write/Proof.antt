@@ -109,24 +109,5 @@ returns c = let e = page-end (rw (walk-end (c .before .loop .inv .0) (c .if1 .ta
 pub write-spec : {M : Type 1} → statement M
 write-spec =
     tie.close
-    (tie.spec
-    Inv-loop
-    μ-loop
-    loop-holds
-    hi-requires
-    mul-c
-    shared-slice-read-c
-    label-requires
-    cast-page
-    mul-page
-    slice-write-page
-    add-n
-    loop-less
-    loop-again
-    (λ c. search needs)
-    (λ c. search needs)
-    lo-requires
-    loop-less-2
-    loop-again-2
-    same-length
-    returns)
+    (tie.spec Inv-loop μ-loop loop-holds hi-requires mul-c shared-slice-read-c label-requires cast-page mul-page slice-write-page add-n loop-less
+    loop-again (λ c. search needs) (λ c. search needs) lo-requires loop-less-2 loop-again-2 same-length returns)

@@ -105,21 +105,5 @@ returns c =
 pub write-cheapest-spec : {M : Type 1} → statement M
 write-cheapest-spec =
     tie.close
-    (tie.spec
-    Inv-loop
-    μ-loop
-    loop-holds
-    takes-hi-requires
-    label-requires
-    cast-page
-    mul-page
-    slice-write-page
-    add-n
-    hi-requires
-    loop-less
-    loop-again
-    lo-requires
-    loop-less-2
-    loop-again-2
-    same-length
-    returns)
+    (tie.spec Inv-loop μ-loop loop-holds takes-hi-requires label-requires cast-page mul-page slice-write-page add-n hi-requires loop-less loop-again
+    lo-requires loop-less-2 loop-again-2 same-length returns)

@@ -58,24 +58,6 @@ returns-6 c =
 pub check-spec : {M : Type 1} → statement M
 check-spec =
     tie.close
-    (tie.spec
-    Inv-loop
-    μ-loop
-    returns
-    (λ c. search needs)
-    (λ c κs. search needs)
-    returns-2
-    (λ c. search needs)
-    returns-3
-    loop-holds
-    node-fits-requires
-    returns-4
-    enter-requires
-    returns-5
-    (λ c. search needs)
-    (λ c. search needs)
-    loop-again
-    (λ c. search needs)
-    (λ c. search needs)
-    (λ c κs. search needs)
-    returns-6)
+    (tie.spec Inv-loop μ-loop returns (λ c. search needs) (λ c κs. search needs) returns-2 (λ c. search needs) returns-3 loop-holds node-fits-requires
+    returns-4 enter-requires returns-5 (λ c. search needs) (λ c. search needs) loop-again (λ c. search needs) (λ c. search needs)
+    (λ c κs. search needs) returns-6)

@@ -46,16 +46,5 @@ returns-3 c =
 pub child-fits-spec : {M : Type 1} → statement M
 child-fits-spec =
     tie.close
-    (tie.spec
-    (λ c κs. search needs)
-    (λ c. search needs)
-    returns
-    returns-2
-    (λ c. search needs)
-    (λ c. search needs)
-    (λ c. search needs)
-    (λ c. search needs)
-    (λ c κs. search needs)
-    mul-result
-    shared-slice-read-result
-    returns-3)
+    (tie.spec (λ c κs. search needs) (λ c. search needs) returns returns-2 (λ c. search needs) (λ c. search needs) (λ c. search needs)
+    (λ c. search needs) (λ c κs. search needs) mul-result shared-slice-read-result returns-3)

@@ -56,18 +56,5 @@ returns-2 c = miss (c .before .loop .inv) (omega arith)
 pub find-spec : {M : Type 1} → statement M
 find-spec =
     tie.close
-    (tie.spec
-    Inv-loop
-    μ-loop
-    (λ c. search needs)
-    (λ c. search needs)
-    loop-holds
-    (λ c κs. search needs)
-    sub-is-node
-    is-node-requires
-    returns
-    mul-k-2
-    element-copy-out-k-2
-    loop-less
-    loop-again
-    returns-2)
+    (tie.spec Inv-loop μ-loop (λ c. search needs) (λ c. search needs) loop-holds (λ c κs. search needs) sub-is-node is-node-requires returns mul-k-2
+    element-copy-out-k-2 loop-less loop-again returns-2)

@@ -42,26 +42,6 @@ returns-3 c =
 pub make-spec : {M : Type 1} → statement M
 make-spec =
     tie.close
-    (tie.spec
-    (λ c. search needs)
-    returns
-    (λ c κs. search needs)
-    (λ c. search needs)
-    (λ c. search needs)
-    returns-2
-    (λ c. search needs)
-    (λ c. search needs)
-    (λ c. search needs)
-    (λ c. search needs)
-    (λ c. search needs)
-    slice-write-t-2
-    (λ c. search needs)
-    (λ c. search needs)
-    slice-write-t-3
-    (λ c. search needs)
-    slice-write-t-4
-    (λ c. search needs)
-    insert-requires
-    (λ c. search needs)
-    same-length
-    returns-3)
+    (tie.spec (λ c. search needs) returns (λ c κs. search needs) (λ c. search needs) (λ c. search needs) returns-2 (λ c. search needs)
+    (λ c. search needs) (λ c. search needs) (λ c. search needs) (λ c. search needs) slice-write-t-2 (λ c. search needs) (λ c. search needs)
+    slice-write-t-3 (λ c. search needs) slice-write-t-4 (λ c. search needs) insert-requires (λ c. search needs) same-length returns-3)

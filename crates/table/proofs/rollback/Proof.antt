@@ -37,21 +37,5 @@ returns c = rolled (c .before .before .before .before .before .before .args .n) 
 pub rollback-spec : {M : Type 1} → statement M
 rollback-spec =
     tie.close
-    (tie.spec
-    Inv-loop
-    μ-loop
-    (λ c. search needs)
-    (λ c κs. search needs)
-    (λ c. search needs)
-    (λ c κs. search needs)
-    (λ c. search needs)
-    (λ c. search needs)
-    loop-holds
-    mul-t
-    slice-write-t
-    (λ c. search needs)
-    (λ c. search needs)
-    loop-again
-    slice-write-t-2
-    same-length
-    returns)
+    (tie.spec Inv-loop μ-loop (λ c. search needs) (λ c κs. search needs) (λ c. search needs) (λ c κs. search needs) (λ c. search needs)
+    (λ c. search needs) loop-holds mul-t slice-write-t (λ c. search needs) (λ c. search needs) loop-again slice-write-t-2 same-length returns)

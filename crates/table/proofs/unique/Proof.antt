@@ -27,14 +27,5 @@ make-requires c κs =
 pub unique-spec : {M : Type 1} → statement M
 unique-spec =
     tie.close
-    (tie.spec
-    (λ c κs. search needs)
-    (λ c. search needs)
-    (λ c κs. search needs)
-    (λ c. search needs)
-    find-requires
-    (λ c. search needs)
-    returns
-    make-requires
-    (λ c. search needs)
-    (λ c. search needs))
+    (tie.spec (λ c κs. search needs) (λ c. search needs) (λ c κs. search needs) (λ c. search needs) find-requires (λ c. search needs) returns
+    make-requires (λ c. search needs) (λ c. search needs))
