@@ -125,12 +125,14 @@ module _ {Q : Problem} {A limit : ℕ} {t memo₀ memo t′ heads′ next′ mem
         back = λ q. absurd (never q refl);
         back-full = λ q. absurd (never q refl);
         answer = λ q y. record {
-          grown = d .grown;
-          indexed = d .indexed;
-          known = got-known t (d .grown .sound) (d .grown .long) (d .got o);
-          denotes = d .got o .holds f;
+          got = record {
+            grown = d .grown;
+            indexed = d .indexed;
+            known = got-known t (d .grown .sound) (d .grown .long) (d .got o);
+            holds = d .got o .holds f;
+            made = omega (arith, g);
+          };
           counted = counted o;
           exactly = omega (arith, g);
-          grew = omega (arith, g);
         };
       }

@@ -7,13 +7,13 @@ use lib.Dec.{ltb}
 use lib.ListN.{length, getD}
 use Rattle.itemset.specs.Items.{without}
 use Rattle.zdd.specs.Table.{count, capacity, nodesOf, family, Sound}
-use Rattle.zdd.specs.Branches.{missing}
+use Rattle.zdd.specs.Branches.{missing, noRoom}
 use Rattle.zdd.specs.Work.{Got}
 use Rattle.exact_cover.specs.Problem.{Problem, row, lead, Rows}
 use Rattle.exact_cover.specs.Cover.{keysOf, covering, candidates}
 use Rattle.exact_cover.specs.Steps.{Walk, store, each, search, steps}
 use Rattle.buckets.specs.Chain.{Index}
-use Rattle.table.specs.State.{Grown, Indexed}
+use Rattle.table.specs.State.{Grown, Indexed, Obtained}
 
 -- ---- the packages by lead: entry p of the index is package p - 1, and 0 is none
 
@@ -82,19 +82,15 @@ pub record NoPacks (first after : List ℕ) : Type 0 where
 
 -- the answer a, after n steps and with m nodes made
 pub record CoverFound (Q : Problem) (P A : ℕ) (t t′ heads′ next′ : List ℕ) (a n m : ℕ) : Type 0 where
-  pub grown : Grown (keysOf Q) t t′
-  pub indexed : Indexed t′ heads′ next′
-  pub known : a < count t′ + 2
-  pub denotes : family (nodesOf t′) a ≡ covering Q A
+  pub got : Obtained (keysOf Q) t t′ heads′ next′ a (covering Q A)
   pub counted : n ≡ steps Q P A
   pub exactly : m ≡ missing (nodesOf t) (covering Q A)
-  pub grew : count t′ ≡ count t + m
 
 pub record Covered (Q : Problem) (P A limit : ℕ) (t t′ heads′ next′ : List ℕ) (a n m : ℕ) (full over : Bool) : Type 0 where
   -- spent is said exactly where the steps exceed the limit
   pub spent : over ≡ ltb limit (steps Q P A)
   -- otherwise full exactly where what is missing exceeds the free places
-  pub short : over ≡ false → full ≡ ltb (capacity t - count t) (missing (nodesOf t) (covering Q A))
+  pub short : over ≡ false → full ≡ noRoom t (covering Q A)
   -- then the table is as it was
   pub back : over ≡ true → t′ ≡ t
   pub back-full : full ≡ true → t′ ≡ t

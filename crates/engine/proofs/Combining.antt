@@ -7,7 +7,10 @@ use Prim.Native.Nat.{ℕ, _+_, _≤_, _<_}
 use native.Mathlib.Nat.{eq-or-lt-of-le}
 use native.Mathlib.Omega.{arith}
 use lib.ListN.{length, take}
-use Rattle.zdd.specs.Table.{Family, count}
+use Rattle.zdd.specs.Table.{Family, count, nodesOf}
+use Rattle.zdd.specs.Branches.{missing}
+use Rattle.table.specs.State.{Obtained}
+use Rattle.statement.specs.Replies.{gives, outcomeReply}
 use Rattle.zdd.proofs.Tested.{sound-test}
 use Rattle.exact_cover.specs.Problem.{Problem}
 use Rattle.exact_cover.specs.Cover.{keysOf}
@@ -79,6 +82,25 @@ part-makes Q a p words w = rw (length-keys Q) at w
 
 -- ---- what the inner function gave, and what is reported of it
 
+-- no test holds, and the number of the answer was got
+pub answers : {K t t′ heads′ next′ : List ℕ} {n k s : ℕ} {F : Family} {r : Report} → n ≡ 0 → Obtained K t t′ heads′ next′ k F
+    → outcomeReply (r .outcome) ≡ gives k → r .steps ≡ s → r .made ≡ missing (nodesOf t) F → Makes K n F s t r t′
+answers {K} {t′ = t′} {k = k} z d out steps made = record {
+  declined = λ l. absurd (omega (arith, z));
+  answered = λ _. record {
+    number = k;
+    outcome = out;
+    known = d .known;
+    holds = d .holds;
+    steps = steps;
+    long = d .grown .long;
+    sound = sound-test K t′ (d .grown .sound);
+    old = d .grown .old;
+    grown = omega (arith, made, d .made);
+    made = made;
+  };
+}
+
 module _ {K t t′ heads′ next′ : List ℕ} {k : ℕ} {F : Family} (f : Produced K t t′ heads′ next′ k F) where
   -- the table still has its word 0
   pub makes-words : 0 < length t → 0 < length t′
@@ -102,23 +124,8 @@ module _ {K t t′ heads′ next′ : List ℕ} {k : ℕ} {F : Family} {r : Repo
   reported-answer : k < 65536 → Makes K (firstOf ((full t F, 10) ∷ [])) F 0 t r t′
   unfolding full
   reported-answer h =
-      let n : firstOf ((full t F, 10) ∷ []) ≡ 0 = pass 10 [] (f .room h) ∙ none in
       let d = f .done h in
-      record {
-        declined = λ z. absurd (omega (arith, n));
-        answered = λ z. record {
-          number = k;
-          outcome = w .outcome h;
-          known = d .known;
-          holds = d .holds;
-          steps = w .steps;
-          long = d .grown .long;
-          sound = sound-test K t′ (d .grown .sound);
-          old = d .grown .old;
-          grown = omega (arith, w .made h, d .made);
-          made = omega (arith, w .made h, d .made);
-        };
-      }
+      answers (pass 10 [] (f .room h) ∙ none) d (w .outcome h) (w .steps) (omega (arith, w .made h, d .made))
 
   -- the other refusals do not apply
   pub reported-makes : {n : ℕ} → n ≡ firstOf ((full t F, 10) ∷ []) → Makes K n F 0 t r t′

@@ -7,7 +7,6 @@ use native.Mathlib.Omega.{arith}
 use borrow.Author.Tests.{ltb-false}
 use Rattle.itemset.specs.Items.{belowb}
 use Rattle.zdd.specs.Table.{Family}
-use Rattle.zdd.proofs.Tested.{sound-test}
 use Rattle.exact_cover.specs.Problem.{Problem}
 use Rattle.exact_cover.specs.Cover.{keysOf, covering}
 use Rattle.exact_cover.specs.Steps.{steps}
@@ -19,6 +18,7 @@ use Rattle.statement.specs.Calls.{coverTests}
 use Rattle.statement.specs.Postconditions.{Declined, Makes}
 use Rattle.statement.proofs.FirstOf.{pass, hit, none}
 use Rattle.statement.proofs.Kept.{refused-makes}
+use Rattle.engine.proofs.Combining.{answers}
 use Rattle.statement.proofs.TestLaws.{enough, too-few}
 
 -- the call is refused with n, and the table is as before
@@ -64,18 +64,4 @@ module _ {Q : Problem} (m : ℕ) {t : List ℕ} {d limit : ℕ} (words : ℕ) {t
       → Makes (keysOf Q) (firstOf (coverTests Q m t d limit words)) (covering Q d) (steps Q (words / 2) d) t r t′
   cover-answers o f r out same made =
       let w = c .answer o f in
-      record {
-        declined = λ z. absurd (omega (arith, unrefused o f));
-        answered = λ z. record {
-          number = a;
-          outcome = out;
-          known = w .known;
-          holds = w .denotes;
-          steps = same ∙ w .counted;
-          long = w .grown .long;
-          sound = sound-test (keysOf Q) t′ (w .grown .sound);
-          old = w .grown .old;
-          grown = omega (arith, w .grew, made);
-          made = made ∙ w .exactly;
-        };
-      }
+      answers (unrefused o f) (w .got) out (same ∙ w .counted) (made ∙ w .exactly)

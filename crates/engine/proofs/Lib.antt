@@ -1,4 +1,4 @@
 -- What the proofs of several calls use.
 pub mod Delivery
-pub mod Covering
 pub mod Combining
+pub mod Covering

@@ -32,3 +32,7 @@ pub record Known (Q : Problem) (t keys : List ℕ) (a : ℕ) : Type 0 where
 pub record Opened (ts : List (Bool × ℕ)) (Q : Problem) (t keys : List ℕ) (a r : ℕ) : Type 0 where
   pub says : r ≡ firstOf ts
   pub ready : r ≡ 0 → Known Q t keys a
+
+-- by those of cheapest
+abbrev pub OpenedPriced : (Q : Problem) (m : ℕ) (C t keys : List ℕ) (a r : ℕ) → Type 0
+OpenedPriced Q m C t keys a = Opened (pricedTests Q m C t a) Q t keys a

@@ -3,24 +3,19 @@
 //
 // m is M, packages the N item sets, t the table's words; work are the working words, whose contents before a call do not matter.
 ghost use mathlib.Core.Path.{_≡_};
-ghost use Prim.Native.Nat.{_/_, _≤_, _<_};
+ghost use Prim.Native.Nat.{_≤_, _<_};
 ghost use lib.ListN.{length};
 ghost use Rattle.zdd.specs.Table.{count as nodes, Sound};
 ghost use Rattle.exact_cover.specs.Problem.{problemOf, Rows};
-ghost use Rattle.exact_cover.specs.Cover.{keysOf, covering};
-ghost use Rattle.exact_cover.specs.Steps.{steps};
-ghost use Rattle.query.specs.Questions.{familyAt};
+ghost use Rattle.exact_cover.specs.Cover.{keysOf};
 ghost use Rattle.table.specs.State.{Indexed};
 ghost use Rattle.family.specs.Gives.{Operable};
-ghost use Rattle.family.specs.Memo.{combined, restricted};
 ghost use Rattle.statement.specs.Replies.{countReply, pickReply, placeReply, cheapestReply};
-ghost use Rattle.statement.specs.Refusals.{firstOf};
-ghost use Rattle.statement.specs.Calls.{coverTests, pairTests, partTests};
-ghost use Rattle.statement.specs.Postconditions.{CheckPost, CountPost, PickPost, PlacePost, CheapestPost, Makes};
+ghost use Rattle.statement.specs.Postconditions.{CheckPost, CountPost, PickPost, PlacePost, CheapestPost};
 ghost use Rattle.statement.specs.Postconditions.{AnswerPost, CoverPost, EitherPost, BothPost, OnlyPost, WithPost, WithoutPost};
 ghost use Rattle.engine.specs.Answers.{tallyReply, endRefusal, writtenReply, placedReply, cheapReply};
-ghost use Rattle.engine.specs.Opened.{knownTests, openTests, pricedTests, Opened};
-ghost use Rattle.engine.specs.Reports.{Reported};
+ghost use Rattle.engine.specs.Opened.{knownTests, openTests, Opened, OpenedPriced};
+ghost use Rattle.engine.specs.Reports.{Reported, CoverMakes, PairMakes, PartMakes};
 use query::Cheap;
 use query::Spot;
 use query::Tally;
@@ -210,7 +205,7 @@ fn opened_priced(
     keys: &mut [u32; 512],
 ) -> u8
     requires { ⌜ length (now keys) ≡ 512 ⌝ }
-    ensures { λ r. ⌜ Opened (pricedTests (problemOf (now (packages .entry))) m (now (costs .entry)) (now (t .entry)) answer) (problemOf (now (packages .entry))) (now (t .entry)) (now (keys .exit)) answer r ⌝ }
+    ensures { λ r. ⌜ OpenedPriced (problemOf (now (packages .entry))) m (now (costs .entry)) (now (t .entry)) (now (keys .exit)) answer r ⌝ }
 {
     let r = guard::packages_refusal(m, packages);
     if r != 0 {
@@ -290,7 +285,7 @@ fn answer_cover(
     requires { ⌜ Rows (problemOf (now packages)) ⌝ }
     requires { ⌜ Sound (keysOf (problemOf (now packages))) (now t) ⌝ }
     requires { ⌜ Indexed (now t) (now heads) (now next) ⌝ }
-    ensures { λ r. ⌜ Makes (keysOf (problemOf (now (packages .entry)))) (firstOf (coverTests (problemOf (now (packages .entry))) m (now (t .entry)) d limit (length (now (work .entry))))) (covering (problemOf (now (packages .entry))) d) (steps (problemOf (now (packages .entry))) (length (now (work .entry)) / 2) d) (now (t .entry)) r (now (t .exit)) ⌝ }
+    ensures { λ r. ⌜ CoverMakes (problemOf (now (packages .entry))) m (now (t .entry)) d limit (length (now (work .entry))) r (now (t .exit)) ⌝ }
 {
     if !itemset::below(d, m) {
         return statement::declined(7);
@@ -324,7 +319,7 @@ fn answer_pair(
     b: u32,
 ) -> Report
     requires { ⌜ Operable (now keys) (now t) (now heads) (now next) ⌝ }
-    ensures { λ r. ⌜ Makes (now (keys .entry)) (firstOf (pairTests (now (t .entry)) a b (combined op (now (keys .entry)) (familyAt (now (t .entry)) a) (familyAt (now (t .entry)) b)) (length (now (work .entry))))) (combined op (now (keys .entry)) (familyAt (now (t .entry)) a) (familyAt (now (t .entry)) b)) 0 (now (t .entry)) r (now (t .exit)) ⌝ }
+    ensures { λ r. ⌜ PairMakes (now (keys .entry)) (now (t .entry)) op a b (length (now (work .entry))) r (now (t .exit)) ⌝ }
 {
     let n = t[0];
     if n + 2 <= a {
@@ -352,7 +347,7 @@ fn answer_part(
     holding: bool,
 ) -> Report
     requires { ⌜ Operable (now keys) (now t) (now heads) (now next) ⌝ }
-    ensures { λ r. ⌜ Makes (now (keys .entry)) (firstOf (partTests (now (keys .entry)) (now (t .entry)) a p (restricted holding (now (keys .entry)) p (familyAt (now (t .entry)) a)) words)) (restricted holding (now (keys .entry)) p (familyAt (now (t .entry)) a)) 0 (now (t .entry)) r (now (t .exit)) ⌝ }
+    ensures { λ r. ⌜ PartMakes (now (keys .entry)) (now (t .entry)) holding a p words r (now (t .exit)) ⌝ }
 {
     let n = t[0];
     if n + 2 <= a {

@@ -2,13 +2,12 @@
 use mathlib.Core.Path.{_≡_}
 use mathlib.Core.Bool.{true, false}
 use mathlib.Core.List.{List}
-use Prim.Native.Nat.{ℕ, suc, _+_, _-_, _<_, _≤_}
-use lib.Dec.{ltb}
+use Prim.Native.Nat.{ℕ, suc, _+_, _<_, _≤_}
 use lib.ListN.{length}
 use Rattle.zdd.specs.Table.{Node, node, Family, fork, count, capacity, nodesOf, family, Fine, Sound, Keys}
 use Rattle.zdd.specs.Work.{Gained}
-use Rattle.zdd.specs.Branches.{missing}
-use Rattle.table.specs.State.{Indexed, Grown}
+use Rattle.zdd.specs.Branches.{noRoom}
+use Rattle.table.specs.State.{Indexed, Obtained}
 
 -- a sound indexed table over distinct keys
 pub record Operable (K t heads next : List ℕ) : Type 0 where
@@ -40,19 +39,11 @@ pub record Answers (ns : List Node) (r : ℕ) (F : Family) : Type 0 where
   pub known : r < suc (suc (length ns))
   pub holds : family ns r ≡ F
 
--- F has its number r in the table t′, which is t with the branch nodes that were missing for it
-pub record Obtained (K t t′ heads′ next′ : List ℕ) (r : ℕ) (F : Family) : Type 0 where
-  pub grown : Grown K t t′
-  pub indexed : Indexed t′ heads′ next′
-  pub known : r < count t′ + 2
-  pub holds : family (nodesOf t′) r ≡ F
-  pub made : count t′ ≡ count t + missing (nodesOf t) F
-
 -- what an operation that makes F ensures: where what is missing for F exceeds the free places it says 65536 and the table is as before; where it does
 -- not, r is F's number
 pub record Produced (K t t′ heads′ next′ : List ℕ) (r : ℕ) (F : Family) : Type 0 where
   pub small : r ≤ 65536
-  pub full : r ≡ 65536 → ltb (capacity t - count t) (missing (nodesOf t) F) ≡ true
+  pub full : r ≡ 65536 → noRoom t F ≡ true
   pub same : r ≡ 65536 → t′ ≡ t
-  pub room : r < 65536 → ltb (capacity t - count t) (missing (nodesOf t) F) ≡ false
+  pub room : r < 65536 → noRoom t F ≡ false
   pub done : r < 65536 → Obtained K t t′ heads′ next′ r F

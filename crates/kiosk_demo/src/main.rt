@@ -1,5 +1,6 @@
 // The kiosk's two calls on lists of triples, good and damaged: Figure 1 of document 000, whose answer is number 5 and holds two timetables.
 ghost use lib.ListN.{length};
+ghost use Rattle.exact_cover.specs.Problem.{problemOf};
 ghost use Rattle.statement.specs.Kiosk.{KioskCheckPost, KioskCountPost};
 ghost use Rattle.kiosk.specs.Triples.{nodesIn};
 use kiosk::Node;
@@ -16,7 +17,7 @@ fn node(label: u32, lo: u32, hi: u32) -> Node {
 
 // A list of six triples is lent to the soundness check.
 fn check_list(m: u32, packages: &[u64], n: u32, list: [Node; 6]) -> Soundness
-    ensures { λ r. ⌜ KioskCheckPost (now (packages .entry)) m n (nodesIn list) r ⌝ }
+    ensures { λ r. ⌜ KioskCheckPost (problemOf (now (packages .entry))) m n (nodesIn list) r ⌝ }
 {
     kiosk::check(m, packages, n, &list)
 }
@@ -30,7 +31,7 @@ fn count_list(
     answer: u32,
     work: &mut [u64],
 ) -> Counted
-    ensures { λ r. ⌜ KioskCountPost (now (packages .entry)) m n (nodesIn list) answer (length (now (work .entry))) r ⌝ }
+    ensures { λ r. ⌜ KioskCountPost (problemOf (now (packages .entry))) m n (nodesIn list) answer (length (now (work .entry))) r ⌝ }
 {
     kiosk::count(m, packages, n, &list, answer, work)
 }

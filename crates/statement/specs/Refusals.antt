@@ -4,12 +4,12 @@
 use mathlib.Core.Path.{_≡_}
 use mathlib.Core.Bool.{Bool, true, false, not, _||_}
 use mathlib.Core.List.{List, [], _∷_}
-use Prim.Native.Nat.{ℕ, _+_, _-_, _*_, _/_}
+use Prim.Native.Nat.{ℕ, _+_, _*_, _/_}
 use lib.Dec.{eqb, leb, ltb}
 use lib.ListN.{length}
 use Rattle.itemset.specs.Items.{belowb}
-use Rattle.zdd.specs.Table.{Family, count, capacity, nodesOf, elem, soundb}
-use Rattle.zdd.specs.Branches.{missing}
+use Rattle.zdd.specs.Table.{Family, count, elem, soundb}
+use Rattle.zdd.specs.Branches.{noRoom}
 use Rattle.exact_cover.specs.Problem.{Problem}
 use Rattle.exact_cover.specs.Cover.{keysOf}
 use Rattle.exact_cover.specs.Steps.{steps}
@@ -64,7 +64,7 @@ spent Q d limit words = ltb limit (steps Q (words / 2) d)
 
 -- 10 full: the branch nodes of the answer F that are not yet in the table outnumber the free places
 unfoldable pub full : List ℕ → Family → Bool
-full t F = ltb (capacity t - count t) (missing (nodesOf t) F)
+full t F = noRoom t F
 
 -- 11 uncountable: more than 18446744073709551615 timetables
 unfoldable pub uncountable : Family → Bool

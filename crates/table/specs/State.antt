@@ -4,7 +4,8 @@ use mathlib.Core.Bool.{Bool, true, false}
 use mathlib.Core.List.{List}
 use Prim.Native.Nat.{ℕ, _+_, _-_, _*_, _/_, _%_, _<_, _≤_}
 use lib.ListN.{length, getD, take}
-use Rattle.zdd.specs.Table.{Node, blank, fork, count, capacity, nodesOf, family, Fine, Sound, soundb}
+use Rattle.zdd.specs.Table.{Node, Family, blank, fork, count, capacity, nodesOf, family, Fine, Sound, soundb}
+use Rattle.zdd.specs.Branches.{missing}
 use Rattle.zdd.specs.Work.{Gained}
 use Rattle.buckets.specs.Chain.{Index}
 
@@ -98,3 +99,13 @@ Unique t t′ heads′ next′ x r = (K : List ℕ) → May K t x → Made K t t
 -- what rollback ensures: t goes back to any sound table of n nodes that it grew from
 abbrev pub Rolled : List ℕ → ℕ → List ℕ → Type 0
 Rolled t n t′ = (K t₀ : List ℕ) → Sound K t₀ → Grown K t₀ t → n ≡ count t₀ → t′ ≡ t₀
+
+-- ---- for the crates above
+
+-- F has its number r in the table t′, which is t with the branch nodes that were missing for it
+pub record Obtained (K t t′ heads′ next′ : List ℕ) (r : ℕ) (F : Family) : Type 0 where
+  pub grown : Grown K t t′
+  pub indexed : Indexed t′ heads′ next′
+  pub known : r < count t′ + 2
+  pub holds : family (nodesOf t′) r ≡ F
+  pub made : count t′ ≡ count t + missing (nodesOf t) F

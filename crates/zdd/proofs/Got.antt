@@ -4,16 +4,15 @@
 use mathlib.Core.Path.{_≡_, refl, sym, ap, ap₂, _∙_, subst}
 use mathlib.Core.Bool.{Bool, true, false}
 use mathlib.Core.List.{List, [], _∷_, _++_}
-use Prim.Native.Nat.{ℕ, suc, _+_, _-_, _≤_, _<_}
+use Prim.Native.Nat.{ℕ, suc, _+_, _≤_, _<_}
 use native.Mathlib.Omega.{arith}
-use lib.Dec.{ltb}
 use lib.ListN.{length, getD, take, length-append}
 use Rattle.base.proofs.Bools.{never}
 use Rattle.zdd.specs.Table.{Node, blank, Family, fork, count, capacity, nodesOf, family, Fine, Nodes, Sound}
 use Rattle.zdd.proofs.Grow.{family-zero, family-new}
 use Rattle.zdd.proofs.Extend.{nodes-append}
 use Rattle.zdd.proofs.Words.{length-nodes}
-use Rattle.zdd.specs.Branches.{missing}
+use Rattle.zdd.specs.Branches.{missing, noRoom}
 use Rattle.zdd.proofs.Nowaste.{nowaste-length, nowaste-keeps, nowaste-old}
 use Rattle.zdd.specs.Work.{Split, Worked, Got}
 use Rattle.zdd.proofs.Room.{worked-start, worked-under, worked-then, worked-when, worked-eq, worked-calm, worked-made, worked-full, count-exactly, full-exactly}
@@ -81,7 +80,7 @@ module _ (t : List ℕ) {K t′ : List ℕ} {F : Family} {k : ℕ} {b : Bool} (s
   got-known = omega (arith, g .known, length-nodes t′)
 
   -- THEOREM: the flag is up exactly where 'full' is to be said
-  pub got-flag : ltb (capacity t - count t) (missing (nodesOf t) F) ≡ b
+  pub got-flag : noRoom t F ≡ b
   got-flag = full-exactly t s long (g .work) (λ e. (k, got-known, g .holds e))
 
   -- THEOREM: with the flag down the growth of word 0 is exactly what was missing

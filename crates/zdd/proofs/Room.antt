@@ -5,14 +5,14 @@ use mathlib.Core.Bool.{Bool, true, false, cond}
 use mathlib.Core.List.{List, [], _∷_, _++_}
 use Prim.Native.Nat.{ℕ, _+_, _-_, _/_, _≤_, _<_}
 use native.Mathlib.Omega.{arith}
-use lib.Dec.{leb, ltb}
+use lib.Dec.{leb}
 use lib.ListN.{length, getD}
 use borrow.Author.Tests.{lt-ltb, le-ltb}
 use Rattle.base.proofs.Bools.{never, is-false}
 use Rattle.zdd.specs.Table.{Node, blank, Family, fork, count, capacity, nodesOf, family, Fine, Nodes, Sound}
 use Rattle.zdd.proofs.Words.{length-nodes}
 use Rattle.zdd.proofs.Tested.{capacity-fits}
-use Rattle.zdd.specs.Branches.{missing}
+use Rattle.zdd.specs.Branches.{missing, noRoom}
 use Rattle.zdd.specs.Work.{Under, Nowaste, Short, Worked}
 use Rattle.zdd.proofs.Under.{under-eq}
 use Rattle.zdd.proofs.Nowaste.{nowaste-start, nowaste-under, nowaste-then, nowaste-made, nowaste-length, short-under, short-same, short-made, made-exactly, made-fewer}
@@ -93,23 +93,23 @@ module _ (t : List ℕ) {K t′ : List ℕ} {F : Family} (s : Sound K t′) (lon
   pub count-exactly : (a : ℕ) → a < count t′ + 2 → family (nodesOf t′) a ≡ F → count t′ ≡ count t + missing (nodesOf t) F
   count-exactly a h e = omega (arith, grown-count, made-exactly (s .nodes) w a (omega (arith, length-nodes t′)) e)
 
-  pub full-false : (a : ℕ) → a < count t′ + 2 → family (nodesOf t′) a ≡ F → ltb (capacity t - count t) (missing (nodesOf t) F) ≡ false
+  pub full-false : (a : ℕ) → a < count t′ + 2 → family (nodesOf t′) a ≡ F → noRoom t F ≡ false
   full-false a h e = le-ltb (capacity t - count t) (missing (nodesOf t) F) (omega (arith, count-exactly a h e, within))
 
   pub count-fewer : Short (nodesOf t′) F → count t′ < count t + missing (nodesOf t) F
   count-fewer p = omega (arith, grown-count, made-fewer (s .nodes) w p)
 
   -- THEOREM: there is no room, and the table is short of F: 'full' is said
-  pub full-true : Short (nodesOf t′) F → capacity t ≤ count t′ → ltb (capacity t - count t) (missing (nodesOf t) F) ≡ true
+  pub full-true : Short (nodesOf t′) F → capacity t ≤ count t′ → noRoom t F ≡ true
   full-true p h = lt-ltb (capacity t - count t) (missing (nodesOf t) F) (omega (arith, count-fewer p, grown-count))
 
 -- THEOREM: work that began with its flag down has it up exactly where 'full' is to be said
 pub full-exactly : (t : List ℕ) {K t′ : List ℕ} {F : Family} {b : Bool} → Sound K t′ → length t′ ≡ length t → Worked (capacity t) (nodesOf t) false (nodesOf t′) b F
     → (b ≡ false → (a : ℕ) × (a < count t′ + 2) × (family (nodesOf t′) a ≡ F))
-    → ltb (capacity t - count t) (missing (nodesOf t) F) ≡ b
+    → noRoom t F ≡ b
 full-exactly t {K} {t′} {F} {b} s long w known = go b refl
   where
-    go : (d : Bool) → b ≡ d → ltb (capacity t - count t) (missing (nodesOf t) F) ≡ b
+    go : (d : Bool) → b ≡ d → noRoom t F ≡ b
     go true q =
         let r = w .short refl q in
         full-true t s long (w .nowaste) (r .0) (omega (arith, r .1, length-nodes t′)) ∙ sym q
