@@ -359,7 +359,11 @@ fn answer_part(
     if words < 2 {
         return statement::declined(8);
     }
-    let k = family::restriction(t, keys, heads, next, p, holding, a);
+    if holding {
+        let k = family::including(t, keys, heads, next, p, a);
+        return report(t, n, k);
+    }
+    let k = family::excluding(t, keys, heads, next, p, a);
     report(t, n, k)
 }
 
