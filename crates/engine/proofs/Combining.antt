@@ -3,7 +3,7 @@ use mathlib.Core.Path.{_≡_, refl, sym, ap, _∙_, subst, subst⁻¹}
 use mathlib.Core.Logic.{_⊎_, inl, inr}
 use mathlib.Core.Bool.{Bool, true, false, _||_}
 use mathlib.Core.List.{List, [], _∷_}
-use Prim.Native.Nat.{ℕ, _+_, _≤_, _<_}
+use Prim.Native.Nat.{ℕ, zero, suc, _+_, _≤_, _<_}
 use native.Mathlib.Nat.{eq-or-lt-of-le}
 use native.Mathlib.Omega.{arith}
 use lib.ListN.{length, take}
@@ -15,18 +15,20 @@ use Rattle.zdd.proofs.Tested.{sound-test}
 use Rattle.exact_cover.specs.Problem.{Problem}
 use Rattle.exact_cover.specs.Cover.{keysOf}
 use Rattle.exact_cover.proofs.Order.{length-keys}
-use Rattle.query.specs.Questions.{unknownPackage}
 use Rattle.family.specs.Gives.{Operable, Produced}
 use Rattle.statement.specs.declared.Report.{Report}
 use Rattle.statement.specs.Refusals.{firstOf, unknownAnswer, full, Fit}
 use Rattle.statement.specs.declared.Call.{Call}
-use Rattle.statement.specs.Calls.{familyOf, stepsOf, partTests, callTests, callRefusal}
+use Rattle.statement.specs.declared.Call.the-variants.{Either, Both, Only, With, Without}
+use Rattle.family.specs.Memo.{combined, restricted}
+use Rattle.query.specs.Questions.{familyAt}
+use Rattle.statement.specs.Calls.{familyOf, stepsOf, pairTests, partTests, callTests, callRefusal}
 use Rattle.statement.proofs.Admission.{table-passes}
 use Rattle.statement.specs.Postconditions.{Declined, Makes, AnswerPost}
 use Rattle.statement.proofs.Kept.{refused-makes}
 use Rattle.statement.proofs.FirstOf.{pass, hit, none}
 use Rattle.statement.proofs.TestLaws.{answer-known, answer-unknown}
-use Rattle.engine.specs.Reports.{Reported}
+use Rattle.engine.specs.Reports.{Reported, pairCall, partCall}
 use Rattle.guard.specs.Admitted.{Usable, Admitted}
 use Rattle.guard.proofs.GuardLaws.{admit-refused}
 
@@ -74,11 +76,22 @@ call-makes {Q} {m} {t} {r = r} {t′} d words f g e w =
     subst⁻¹ (λ (x : Call). AnswerPost Q m t x words r t′) e
     (subst⁻¹ (λ (n : ℕ). Makes (keysOf Q) n (familyOf Q t d) (stepsOf Q d words) t r t′) (table-passes t _ f (g .unspoilt)) w)
 
--- the keys are as many as the packages
-pub part-makes : (Q : Problem) {t : List ℕ} (a p : ℕ) {F : Family} (words : ℕ) {r : Report} {t′ : List ℕ}
-    → Makes (keysOf Q) (firstOf (partTests (keysOf Q) t a p F words)) F 0 t r t′ → Makes (keysOf Q) (firstOf (partTests (Q .packages) t a p F words)) F 0 t r t′
-unfolding unknownPackage
-part-makes Q a p words w = rw (length-keys Q) at w
+pub same-call : (Q : Problem) (m : ℕ) (t : List ℕ) (words : ℕ) {r : Report} {t′ : List ℕ} {c d : Call} → c ≡ d → AnswerPost Q m t d words r t′ → AnswerPost Q m t c words r t′
+same-call Q m t words {r} {t′} e w = subst⁻¹ (λ (x : Call). AnswerPost Q m t x words r t′) e w
+
+-- ---- the calls of one shape
+
+module _ {Q : Problem} {m : ℕ} {t keys heads next : List ℕ} (f : Fit Q m) (g : Usable Q t keys heads next) (a b words : ℕ) {r : Report} {t′ : List ℕ} where
+  pub pair-makes : (op : ℕ) → let F : Family = combined op (keysOf Q) (familyAt t a) (familyAt t b) in
+      Makes (keysOf Q) (firstOf (pairTests t a b F words)) F 0 t r t′ → AnswerPost Q m t (pairCall op a b) words r t′
+  pair-makes zero w = call-makes (Either a b) words f g refl w
+  pair-makes (suc zero) w = call-makes (Both a b) words f g refl w
+  pair-makes (suc (suc op)) w = call-makes (Only a b) words f g refl w
+
+  pub part-makes : (holding : Bool) → let F : Family = restricted holding (keysOf Q) b (familyAt t a) in
+      Makes (keysOf Q) (firstOf (partTests (Q .packages) t a b F words)) F 0 t r t′ → AnswerPost Q m t (partCall holding a b) words r t′
+  part-makes true w = call-makes (With a b) words f g refl w
+  part-makes false w = call-makes (Without a b) words f g refl w
 
 -- ---- what the inner function gave, and what is reported of it
 

@@ -5,17 +5,14 @@
 ghost use mathlib.Core.Path.{_≡_};
 ghost use Prim.Native.Nat.{_≤_, _<_};
 ghost use lib.ListN.{length};
-ghost use Rattle.zdd.specs.Table.{count as nodes, Sound};
+ghost use Rattle.zdd.specs.Table.{count as nodes};
 ghost use Rattle.exact_cover.specs.Problem.{problemOf, Rows};
-ghost use Rattle.exact_cover.specs.Cover.{keysOf};
-ghost use Rattle.table.specs.State.{Indexed};
-ghost use Rattle.family.specs.Gives.{Operable};
 ghost use Rattle.statement.specs.Replies.{countReply, pickReply, placeReply, cheapestReply};
 ghost use Rattle.statement.specs.Postconditions.{CheckPost, CountPost, PickPost, PlacePost, CheapestPost};
 ghost use Rattle.statement.specs.Postconditions.{AnswerPost, CoverPost, EitherPost, BothPost, OnlyPost, WithPost, WithoutPost};
 ghost use Rattle.engine.specs.Answers.{tallyReply, endRefusal, writtenReply, placedReply, cheapReply};
 ghost use Rattle.engine.specs.Opened.{knownTests, openTests, Opened, OpenedPriced};
-ghost use Rattle.engine.specs.Reports.{Reported, CoverMakes, PairMakes, PartMakes};
+ghost use Rattle.engine.specs.Reports.{Reported, pairCall, partCall};
 use query::Cheap;
 use query::Spot;
 use query::Tally;
@@ -270,30 +267,31 @@ fn report(t: &[u32], before: u32, k: u32) -> Report
     statement::declined(10)
 }
 
-// Cover's own tests and its work, on packages and a table that are good.
+// Cover of d with the step limit `limit`.
 fn answer_cover(
     m: u32,
     packages: &[u64],
     t: &mut [u32],
-    heads: &mut [u32; 65536],
-    next: &mut [u32; 65536],
-    work: &mut [u64],
     d: u64,
     limit: u32,
+    work: &mut [u64],
 ) -> Report
-    requires { ⌜ m ≤ 64 ⌝ }
-    requires { ⌜ Rows (problemOf (now packages)) ⌝ }
-    requires { ⌜ Sound (keysOf (problemOf (now packages))) (now t) ⌝ }
-    requires { ⌜ Indexed (now t) (now heads) (now next) ⌝ }
-    ensures { λ r. ⌜ CoverMakes (problemOf (now (packages .entry))) m (now (t .entry)) d limit (length (now (work .entry))) r (now (t .exit)) ⌝ }
+    ensures { λ r. ⌜ CoverPost (problemOf (now (packages .entry))) m (now (t .entry)) d limit (length (now (work .entry))) r (now (t .exit)) ⌝ }
 {
+    let mut keys = [0u32; 512];
+    let mut heads = [0u32; 65536];
+    let mut next = [0u32; 65536];
+    let r = guard::admit(m, packages, t, &mut keys, &mut heads, &mut next);
+    if r != 0 {
+        return statement::declined(r);
+    }
     if !itemset::below(d, m) {
         return statement::declined(7);
     }
     if work.len() / 2 == 0 {
         return statement::declined(8);
     }
-    let found = compile::cover(packages, t, heads, next, work, d, limit as u64);
+    let found = compile::cover(packages, t, &mut heads, &mut next, work, d, limit as u64);
     if found.over {
         return statement::declined(9);
     }
@@ -309,18 +307,23 @@ fn answer_cover(
 
 // Union (op 0), intersection (1) or difference (2) of the answers a and b.
 fn answer_pair(
+    m: u32,
+    packages: &[u64],
     t: &mut [u32],
-    keys: &[u32],
-    heads: &mut [u32; 65536],
-    next: &mut [u32; 65536],
-    work: &mut [u64],
     op: u8,
     a: u32,
     b: u32,
+    work: &mut [u64],
 ) -> Report
-    requires { ⌜ Operable (now keys) (now t) (now heads) (now next) ⌝ }
-    ensures { λ r. ⌜ PairMakes (now (keys .entry)) (now (t .entry)) op a b (length (now (work .entry))) r (now (t .exit)) ⌝ }
+    ensures { λ r. ⌜ AnswerPost (problemOf (now (packages .entry))) m (now (t .entry)) (pairCall op a b) (length (now (work .entry))) r (now (t .exit)) ⌝ }
 {
+    let mut keys = [0u32; 512];
+    let mut heads = [0u32; 65536];
+    let mut next = [0u32; 65536];
+    let r = guard::admit(m, packages, t, &mut keys, &mut heads, &mut next);
+    if r != 0 {
+        return statement::declined(r);
+    }
     let n = t[0];
     if n + 2 <= a {
         return statement::declined(5);
@@ -331,45 +334,22 @@ fn answer_pair(
     if work.len() < 2 {
         return statement::declined(8);
     }
-    let k = family::combination(t, keys, heads, next, work, op, a, b);
+    let last = packages.len();
+    let k = family::combination(t, &keys[..last], &mut heads, &mut next, work, op, a, b);
     report(t, n, k)
 }
 
 // The timetables of the answer a that hold the package p, or those that do not.
 fn answer_part(
+    m: u32,
+    packages: &[u64],
     t: &mut [u32],
-    keys: &[u32],
-    heads: &mut [u32; 65536],
-    next: &mut [u32; 65536],
-    words: usize,
+    holding: bool,
     a: u32,
     p: u32,
-    holding: bool,
+    work: &mut [u64],
 ) -> Report
-    requires { ⌜ Operable (now keys) (now t) (now heads) (now next) ⌝ }
-    ensures { λ r. ⌜ PartMakes (now (keys .entry)) (now (t .entry)) holding a p words r (now (t .exit)) ⌝ }
-{
-    let n = t[0];
-    if n + 2 <= a {
-        return statement::declined(5);
-    }
-    if keys.len() <= base::wide(p) {
-        return statement::declined(6);
-    }
-    if words < 2 {
-        return statement::declined(8);
-    }
-    if holding {
-        let k = family::including(t, keys, heads, next, p, a);
-        return report(t, n, k);
-    }
-    let k = family::excluding(t, keys, heads, next, p, a);
-    report(t, n, k)
-}
-
-// Any call that makes an answer: what it reads must be good, then its own tests and its work.
-pub fn answer(m: u32, packages: &[u64], t: &mut [u32], c: Call, work: &mut [u64]) -> Report
-    ensures { λ r. ⌜ AnswerPost (problemOf (now (packages .entry))) m (now (t .entry)) c (length (now (work .entry))) r (now (t .exit)) ⌝ }
+    ensures { λ r. ⌜ AnswerPost (problemOf (now (packages .entry))) m (now (t .entry)) (partCall holding a p) (length (now (work .entry))) r (now (t .exit)) ⌝ }
 {
     let mut keys = [0u32; 512];
     let mut heads = [0u32; 65536];
@@ -378,41 +358,33 @@ pub fn answer(m: u32, packages: &[u64], t: &mut [u32], c: Call, work: &mut [u64]
     if r != 0 {
         return statement::declined(r);
     }
-    let n = packages.len();
+    let n = t[0];
+    if n + 2 <= a {
+        return statement::declined(5);
+    }
+    if packages.len() <= base::wide(p) {
+        return statement::declined(6);
+    }
+    if work.len() < 2 {
+        return statement::declined(8);
+    }
+    let last = packages.len();
+    let k = family::restriction(t, &keys[..last], &mut heads, &mut next, p, holding, a);
+    report(t, n, k)
+}
+
+// Any call that makes an answer. (Each of the three has its own index: one for all of them would put the largest memory of results on the stack of every
+// call.)
+pub fn answer(m: u32, packages: &[u64], t: &mut [u32], c: Call, work: &mut [u64]) -> Report
+    ensures { λ r. ⌜ AnswerPost (problemOf (now (packages .entry))) m (now (t .entry)) c (length (now (work .entry))) r (now (t .exit)) ⌝ }
+{
     match c {
-        Call::Cover { d, limit } => answer_cover(
-            m,
-            packages,
-            t,
-            &mut heads,
-            &mut next,
-            work,
-            d,
-            limit,
-        ),
-        Call::Either { a, b } => answer_pair(t, &keys[..n], &mut heads, &mut next, work, 0, a, b),
-        Call::Both { a, b } => answer_pair(t, &keys[..n], &mut heads, &mut next, work, 1, a, b),
-        Call::Only { a, b } => answer_pair(t, &keys[..n], &mut heads, &mut next, work, 2, a, b),
-        Call::With { a, p } => answer_part(
-            t,
-            &keys[..n],
-            &mut heads,
-            &mut next,
-            work.len(),
-            a,
-            p,
-            true,
-        ),
-        Call::Without { a, p } => answer_part(
-            t,
-            &keys[..n],
-            &mut heads,
-            &mut next,
-            work.len(),
-            a,
-            p,
-            false,
-        ),
+        Call::Cover { d, limit } => answer_cover(m, packages, t, d, limit, work),
+        Call::Either { a, b } => answer_pair(m, packages, t, 0, a, b, work),
+        Call::Both { a, b } => answer_pair(m, packages, t, 1, a, b, work),
+        Call::Only { a, b } => answer_pair(m, packages, t, 2, a, b, work),
+        Call::With { a, p } => answer_part(m, packages, t, true, a, p, work),
+        Call::Without { a, p } => answer_part(m, packages, t, false, a, p, work),
     }
 }
 

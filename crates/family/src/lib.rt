@@ -2,7 +2,6 @@
 ghost use mathlib.Core.Path.{_≡_};
 ghost use Prim.Native.Nat.{ℕ, suc, _+_, _-_, _*_, _<_, _≤_};
 ghost use lib.ListN.{length, getD, set};
-ghost use Rattle.zdd.specs.Operations.{including, excluding};
 ghost use Rattle.zdd.specs.Table.{node, blank, count, nodesOf, family, Sound, Keys};
 ghost use Rattle.table.specs.State.{Indexed};
 ghost use Rattle.family.specs.Gives.{Operable, Gives, Produced, Noded, Answers};
@@ -272,7 +271,7 @@ fn combine(
 }
 
 // The number of f's sets with p, or of those without p. Where there is no room it is 65536, and the table is as before.
-fn restriction(
+pub fn restriction(
     t: &mut [u32],
     keys: &[u32],
     heads: &mut [u32; 65536],
@@ -294,40 +293,6 @@ fn restriction(
         return 65536;
     }
     r
-}
-
-// The number of f's sets with p.
-pub fn including(
-    t: &mut [u32],
-    keys: &[u32],
-    heads: &mut [u32; 65536],
-    next: &mut [u32; 65536],
-    p: u32,
-    f: u32,
-) -> u32
-    requires { ⌜ Operable (now keys) (now t) (now heads) (now next) ⌝ }
-    requires { ⌜ (f < count (now t) + 2) × (p < length (now keys)) ⌝ }
-    ensures { λ r. ⌜ Produced (now (keys .entry)) (now (t .entry)) (now (t .exit)) (now (heads .exit)) (now (next .exit)) r
-        (including (now (keys .entry)) p (family (nodesOf (now (t .entry))) f)) ⌝ }
-{
-    restriction(t, keys, heads, next, p, true, f)
-}
-
-// The number of f's sets without p.
-pub fn excluding(
-    t: &mut [u32],
-    keys: &[u32],
-    heads: &mut [u32; 65536],
-    next: &mut [u32; 65536],
-    p: u32,
-    f: u32,
-) -> u32
-    requires { ⌜ Operable (now keys) (now t) (now heads) (now next) ⌝ }
-    requires { ⌜ (f < count (now t) + 2) × (p < length (now keys)) ⌝ }
-    ensures { λ r. ⌜ Produced (now (keys .entry)) (now (t .entry)) (now (t .exit)) (now (heads .exit)) (now (next .exit)) r
-        (excluding (now (keys .entry)) p (family (nodesOf (now (t .entry))) f)) ⌝ }
-{
-    restriction(t, keys, heads, next, p, false, f)
 }
 
 // How many of so many lent words are the memory: the greatest power of two.

@@ -1,53 +1,84 @@
-use Rattle.engine.proofs.Combining.{both-known, first-unknown, second-unknown, makes-words, makes-more, reported-makes}
+use Rattle.engine.proofs.Combining.{both-known, first-unknown, second-unknown, ready, keys-fit, keys-taken, call-refused, pair-makes, makes-words, makes-more, reported-makes}
+use Rattle.guard.proofs.GuardLaws.{blank}
 use Rattle.statement.proofs.FirstOf.{pass, hit}
 use Rattle.statement.proofs.TestLaws.{enough, too-few}
 use Rattle.statement.proofs.Kept.{refused-makes}
 use native.Mathlib.Omega.{arith}
-use mathlib.Core.Path.{_∙_}
+use mathlib.Core.Path.{refl, sym, _∙_}
 use borrow.Author.Needs.{needs}
 use Rattle.engine.proofs.answer_pair.Statement.{statement}
 use Rattle.engine.proofs.answer_pair.Tie as tie
 
-slice-read-n : tie.Need-slice-read-n
-slice-read-n c = omega (arith, c .before .before .before .before .pre .sound .room)
-
-add-if1 : tie.Need-add-if1
-add-if1 c = omega (arith, c .before .before .before .before .pre .sound .few)
+admit-requires : tie.Need-admit-requires
+admit-requires c κs = blank 512 65536 refl refl
 
 returns : tie.Need-returns
-returns c = refused-makes 5 (hit 5 _ (first-unknown _ _ _ (c .before .if1 .taken))) (λ z. omega arith) (c .declined .ensures _)
+returns c = call-refused _ _ (c .before .before .before .admit .ensures) (c .before .if1 .taken) (c .declined .ensures _)
+
+slice-read-n : tie.Need-slice-read-n
+slice-read-n c = omega (arith, (c .before .before .before .admit .ensures .usable (c .before .if1 .left)) .sound .room)
 
 add-if2 : tie.Need-add-if2
-add-if2 c = omega (arith, c .before .before .before .before .before .pre .sound .few)
+add-if2 c = omega (arith, (c .before .before .before .admit .ensures .usable (c .before .if1 .left)) .sound .few)
 
 returns-2 : tie.Need-returns-2
-returns-2 c = refused-makes 5 (hit 5 _ (second-unknown _ _ _ (c .before .if2 .taken))) (λ z. omega arith) (c .declined2 .ensures _)
+returns-2 c =
+    let if1 = c .before .before .before .if1 in let admit = c .before .before .before .before .before .admit in
+    let args = c .before .before .before .before .before .before .before .before .before .before .before .before .before .args in
+    pair-makes (admit .ensures .fit (if1 .left)) (admit .ensures .usable (if1 .left)) _ _ _ (args .op)
+    (refused-makes 5 (hit 5 _ (first-unknown _ _ _ (c .before .if2 .taken))) (λ z. omega arith) (c .declined2 .ensures _))
+
+add-if3 : tie.Need-add-if3
+add-if3 c = omega (arith, (c .before .before .before .before .admit .ensures .usable (c .before .before .if1 .left)) .sound .few)
 
 returns-3 : tie.Need-returns-3
-returns-3 c = refused-makes 8 (pass 5 _ (both-known _ _ _ (omega (arith, c .before .before .before .if1 .left)) (omega (arith, c .before .before .if2 .left))) ∙ hit 8 _
-    (too-few _ _ (c .before .if3 .taken))) (λ z. omega arith) (c .declined3 .ensures _)
+returns-3 c =
+    let here = c .before .before .before .before in let if1 = here .if1 in let admit = here .before .before .admit in
+    let args = here .before .before .before .before .before .before .before .before .before .before .args in
+    pair-makes (admit .ensures .fit (if1 .left)) (admit .ensures .usable (if1 .left)) _ _ _ (args .op)
+    (refused-makes 5 (hit 5 _ (second-unknown _ _ _ (c .before .if3 .taken))) (λ z. omega arith) (c .declined3 .ensures _))
+
+returns-4 : tie.Need-returns-4
+returns-4 c =
+    let here = c .before .before .before .before .before in let if1 = here .if1 in let admit = here .before .before .admit in
+    let args = here .before .before .before .before .before .before .before .before .before .before .args in
+    pair-makes (admit .ensures .fit (if1 .left)) (admit .ensures .usable (if1 .left)) _ _ _ (args .op)
+    (refused-makes 8 (pass 5 _ (both-known _ _ _ (omega (arith, c .before .before .before .if2 .left)) (omega (arith, c .before .before .if3 .left))) ∙ hit 8 _
+    (too-few _ _ (c .before .if4 .taken))) (λ z. omega arith) (c .declined4 .ensures _))
+
+array-share-prefix-keys : tie.Need-array-share-prefix-keys
+array-share-prefix-keys c = keys-fit (c .before .before .before .before .before .before .before .admit .ensures .usable (c .before .before .before .before .before .if1 .left))
+
+slice-aggregate-combination : tie.Need-slice-aggregate-combination
+slice-aggregate-combination c = sym (keys-taken (c .before .before .before .before .before .before .before .before .admit .ensures .usable
+    (c .before .before .before .before .before .before .if1 .left)))
 
 combination-requires : tie.Need-combination-requires
 combination-requires c κs = (
-  c .before .before .before .before .before .before .before .before .before .before .before .pre,
-  (omega (arith, c .before .before .before .before .before .before .if1 .left), omega (arith, c .before .before .before .before .before .if2 .left)),
+  ready (c .before .before .before .before .before .before .before .before .before .before .before .admit .ensures .usable
+      (c .before .before .before .before .before .before .before .before .before .if1 .left)),
+  (omega (arith, c .before .before .before .before .before .before .before .if2 .left), omega (arith, c .before .before .before .before .before .before .if3 .left)),
 )
 
 report-requires : tie.Need-report-requires
 report-requires c κs =
     let here = c .before .before .before .before .before in let combination = here .combination in
-    let pre = here .before .before .before .before .before .before .before .before .before .before .before .before .pre in
-    (makes-words (combination .ensures) (omega (arith, pre .sound .room)), makes-more (combination .ensures))
+    let if1 = here .before .before .before .before .before .before .before .before .before .before .if1 in
+    let admit = here .before .before .before .before .before .before .before .before .before .before .before .before .admit in
+    (makes-words (combination .ensures) (omega (arith, (admit .ensures .usable (if1 .left)) .sound .room)), makes-more (combination .ensures))
 
-returns-4 : tie.Need-returns-4
-returns-4 c =
-    let here = c .before .before .before .before .before .before .before .before .before .before .before .before in let if2 = here .if2 in let if1 = here .before .if1 in
-    reported-makes (c .before .before .before .before .before .before .combination .ensures) (c .report .ensures)
-    (pass 5 _ (both-known _ _ _ (omega (arith, if1 .left)) (omega (arith, if2 .left))) ∙ pass 8 _
-    (enough _ _ (omega (arith, c .before .before .before .before .before .before .before .before .before .before .before .if3 .left))))
+returns-5 : tie.Need-returns-5
+returns-5 c =
+    let here = c .before .before .before .before .before .before .before .before .before .before .before .before in let if4 = here .if4 in let if3 = here .before .if3 in
+    let if2 = here .before .before .if2 in let if1 = here .before .before .before .before .if1 in let admit = here .before .before .before .before .before .before .admit in
+    let args = here .before .before .before .before .before .before .before .before .before .before .before .before .before .before .args in
+    pair-makes (admit .ensures .fit (if1 .left)) (admit .ensures .usable (if1 .left)) _ _ _ (args .op)
+    (reported-makes (rw ((admit .ensures .usable (if1 .left)) .keyed .are) at (c .before .before .before .before .before .before .combination .ensures)) (c .report .ensures)
+    (pass 5 _ (both-known _ _ _ (omega (arith, if2 .left)) (omega (arith, if3 .left))) ∙ pass 8 _ (enough _ _ (omega (arith, if4 .left)))))
 
 pub answer-pair-spec : {M : Type 1} → statement M
 answer-pair-spec =
     tie.close
-    (tie.spec slice-read-n add-if1 (λ c κs. search needs) returns add-if2 (λ c κs. search needs) returns-2 (λ c κs. search needs) returns-3
-    combination-requires report-requires (λ c. search needs) (λ c. search needs) returns-4)
+    (tie.spec (λ c. search needs) admit-requires (λ c κs. search needs) (λ c. search needs) returns slice-read-n add-if2 (λ c κs. search needs)
+    (λ c. search needs) returns-2 add-if3 (λ c κs. search needs) (λ c. search needs) returns-3 (λ c κs. search needs) (λ c. search needs) returns-4
+    array-share-prefix-keys slice-aggregate-combination combination-requires report-requires (λ c. search needs) (λ c. search needs) returns-5)
