@@ -245,7 +245,8 @@ pub extern "C" fn mogedorn_cheapest(
     work: &mut [u64],
     page: &mut [u16],
 ) -> Timetable
-    ensures { λ r. ⌜ CheapestPost (problemOf (now (packages .entry))) m (now (costs .entry)) (now (t .entry)) answer (length (now (work .entry))) (now (page .entry)) (pricedOf r) (now (page .exit)) ⌝ }
+    ensures { λ r. ⌜ CheapestPost (problemOf (now (packages .entry))) m (now (costs .entry))
+        (now (t .entry)) answer (length (now (work .entry))) (now (page .entry)) (pricedOf r) (now (page .exit)) ⌝ }
     ensures { λ r. ⌜ BlankTimetable r ⌝ }
 {
     let p = engine::cheapest(m, packages, costs, t, answer, work, page);

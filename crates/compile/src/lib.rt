@@ -49,7 +49,8 @@ fn search(
     requires { ⌜ Packs (problemOf (now packs)) (now first) (now after) ⌝ }
     requires { ⌜ Searchable (problemOf (now packs)) places (now t) (now heads) (now next) (now memo) (start .full) ⌝ }
     requires { ⌜ start .steps ≤ limit ⌝ }
-    ensures { λ r. ⌜ Searched (problemOf (now (packs .entry))) places items limit (now (t .entry)) (now (memo .entry)) (start .steps) (start .full) (now (t .exit)) (now (heads .exit)) (now (next .exit)) (now (memo .exit)) (r .answer) (r .steps) (r .full) (r .over) ⌝ }
+    ensures { λ r. ⌜ Searched (problemOf (now (packs .entry))) places items limit (now (t .entry)) (now (memo .entry)) (start .steps) (start .full)
+        (now (t .exit)) (now (heads .exit)) (now (next .exit)) (now (memo .exit)) (r .answer) (r .steps) (r .full) (r .over) ⌝ }
 {
     let steps = start.steps;
     let full = start.full;
@@ -120,7 +121,8 @@ fn trial(
     requires { ⌜ Searchable (problemOf (now packs)) places (now t) (now heads) (now next) (now memo) (start .full) ⌝ }
     requires { ⌜ start .steps ≤ limit ⌝ }
     requires { ⌜ (done (problemOf (now packs)) items ≡ false) × (at ≡ items % places) ⌝ }
-    ensures { λ r. ⌜ Tried (problemOf (now (packs .entry))) places items limit (now (t .entry)) (now (memo .entry)) (start .steps) (start .full) (now (t .exit)) (now (heads .exit)) (now (next .exit)) (now (memo .exit)) (r .answer) (r .steps) (r .full) (r .over) ⌝ }
+    ensures { λ r. ⌜ Tried (problemOf (now (packs .entry))) places items limit (now (t .entry)) (now (memo .entry)) (start .steps) (start .full)
+        (now (t .exit)) (now (heads .exit)) (now (next .exit)) (now (memo .exit)) (r .answer) (r .steps) (r .full) (r .over) ⌝ }
 {
     let low = base::wide(itemset::lowest(items));
     let mut p = first[low];
@@ -205,7 +207,8 @@ fn begin(
     requires { ⌜ Packs (problemOf (now packs)) (now first) (now after) ⌝ }
     requires { ⌜ Searchable (problemOf (now packs)) places (now t) (now heads) (now next) (now memo) false ⌝ }
     requires { ⌜ Unkeyed places (now memo) ⌝ }
-    ensures { λ r. ⌜ Searched (problemOf (now (packs .entry))) places items limit (now (t .entry)) (now (memo .entry)) 0 false (now (t .exit)) (now (heads .exit)) (now (next .exit)) (now (memo .exit)) (r .answer) (r .steps) (r .full) (r .over) ⌝ }
+    ensures { λ r. ⌜ Searched (problemOf (now (packs .entry))) places items limit (now (t .entry)) (now (memo .entry)) 0 false
+        (now (t .exit)) (now (heads .exit)) (now (next .exit)) (now (memo .exit)) (r .answer) (r .steps) (r .full) (r .over) ⌝ }
 {
     if limit == 0 {
         return Run {
@@ -269,7 +272,8 @@ pub fn cover(
     requires { ⌜ Sound (keysOf (problemOf (now packs))) (now t) ⌝ }
     requires { ⌜ Indexed (now t) (now heads) (now next) ⌝ }
     requires { ⌜ 2 ≤ length (now memo) ⌝ }
-    ensures { λ r. ⌜ Covered (problemOf (now (packs .entry))) (length (now (memo .entry)) / 2) items limit (now (t .entry)) (now (t .exit)) (now (heads .exit)) (now (next .exit)) (r .answer) (r .steps) (r .made) (r .full) (r .over) ⌝ }
+    ensures { λ r. ⌜ Covered (problemOf (now (packs .entry))) (length (now (memo .entry)) / 2) items limit (now (t .entry))
+        (now (t .exit)) (now (heads .exit)) (now (next .exit)) (r .answer) (r .steps) (r .made) (r .full) (r .over) ⌝ }
 {
     let places = memo.len() / 2;
     let mut first = [0u32; 65];

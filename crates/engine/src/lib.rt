@@ -267,8 +267,8 @@ fn report(t: &[u32], before: u32, k: u32) -> Report
     statement::declined(10)
 }
 
-// Cover of d with the step limit `limit`.
-fn answer_cover(
+// The timetables covering d, with the step limit `limit` [document 01: B]: two working words are one place of the memo.
+pub fn cover(
     m: u32,
     packages: &[u64],
     t: &mut [u32],
@@ -373,33 +373,19 @@ fn answer_part(
     report(t, n, k)
 }
 
-// Any call that makes an answer. (Each of the three has its own index: one for all of them would put the largest memory of results on the stack of every
-// call.)
+// Any call that makes an answer. (Cover, the pairs and the parts have an index each: one for all would put the largest memory of results on the stack of
+// every call.)
 pub fn answer(m: u32, packages: &[u64], t: &mut [u32], c: Call, work: &mut [u64]) -> Report
     ensures { λ r. ⌜ AnswerPost (problemOf (now (packages .entry))) m (now (t .entry)) c (length (now (work .entry))) r (now (t .exit)) ⌝ }
 {
     match c {
-        Call::Cover { d, limit } => answer_cover(m, packages, t, d, limit, work),
+        Call::Cover { d, limit } => cover(m, packages, t, d, limit, work),
         Call::Either { a, b } => answer_pair(m, packages, t, 0, a, b, work),
         Call::Both { a, b } => answer_pair(m, packages, t, 1, a, b, work),
         Call::Only { a, b } => answer_pair(m, packages, t, 2, a, b, work),
         Call::With { a, p } => answer_part(m, packages, t, true, a, p, work),
         Call::Without { a, p } => answer_part(m, packages, t, false, a, p, work),
     }
-}
-
-// The timetables covering d, with the step limit `limit` [document 01: B]: two working words are one place of the memo.
-pub fn cover(
-    m: u32,
-    packages: &[u64],
-    t: &mut [u32],
-    d: u64,
-    limit: u32,
-    work: &mut [u64],
-) -> Report
-    ensures { λ r. ⌜ CoverPost (problemOf (now (packages .entry))) m (now (t .entry)) d limit (length (now (work .entry))) r (now (t .exit)) ⌝ }
-{
-    answer(m, packages, t, Call::Cover { d, limit }, work)
 }
 
 // Union: the timetables of a and those of b.

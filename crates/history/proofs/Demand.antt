@@ -27,7 +27,8 @@ use Rattle.statement.specs.Postconditions.{Answered, PickPost, written}
 use Rattle.statement.specs.declared.Call.{Call}
 use Rattle.statement.specs.declared.Call.the-variants.{Cover, Either, Both, Only, With, Without}
 use Rattle.statement.specs.Calls.{operands, familyOf, stepsOf}
-use Rattle.history.specs.Histories.{Entry, Step, Calls, give, given, Allowed, History, start, next, Chosen, listing, SameSet, noTimetable, emptyTimetable, makes, Posting, latest, post, ledger, countIn, answeredWith, Returns, Refuses, Demand3}
+use Rattle.history.specs.Histories.{Entry, Step, Calls, give, given, Allowed, History, start, next, Chosen, listing, SameSet}
+use Rattle.history.specs.Histories.{noTimetable, emptyTimetable, makes, Posting, latest, post, ledger, countIn, answeredWith, Returns, Refuses, Demand3}
 use Rattle.statement.proofs.FirstOf.{pass, hit, none}
 use Rattle.statement.proofs.Admission.{table-passes}
 use Rattle.statement.proofs.Kept.{keeps, grows}

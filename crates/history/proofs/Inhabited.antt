@@ -38,7 +38,9 @@ abbrev report : ℕ → ℕ → ℕ → Report
 report a s c = record { outcome = Answer a; steps = s; made = c }
 
 first-cover : CoverPost figure1 6 (emptyTable 6) 63 6 128 (report 5 6 4) covered
-unfolding holds insideb without belowb size lowest lead done nodesOf capacity families family order allSets sets filter soundb eqSet elem starting others weight branchesTo branches eqFamily amongb fresh missing keysFrom keysOf holders allInside once covers covering fits down candidates each visit steps firstOf oversize strayIn stray unsound unknownItem shortWork spent full callRefusal
+unfolding holds insideb without belowb size lowest lead done nodesOf capacity families family order allSets sets filter soundb eqSet elem starting
+    others weight branchesTo branches eqFamily amongb fresh missing keysFrom keysOf holders allInside once covers covering fits down candidates each
+    visit steps firstOf oversize strayIn stray unsound unknownItem shortWork spent full callRefusal
 first-cover = record {
   declined = λ l. absurd (not-suc-le-zero l);
   answered = λ e. record { number = 5; outcome = refl; known = omega arith; holds = refl; steps = refl; long = refl; sound = refl; old = refl; grown = refl; made = refl };
@@ -46,14 +48,17 @@ first-cover = record {
 
 -- B is 5
 second-cover : CoverPost figure1 6 covered 63 5 128 (record { outcome = Refused 9; steps = 0; made = 0 }) covered
-unfolding holds insideb without belowb size lowest lead done nodesOf capacity order allSets sets filter soundb eqSet keysFrom keysOf fits down candidates each visit steps firstOf oversize strayIn stray unsound unknownItem shortWork spent callRefusal
+unfolding holds insideb without belowb size lowest lead done nodesOf capacity order allSets sets filter soundb eqSet keysFrom keysOf fits down
+    candidates each visit steps firstOf oversize strayIn stray unsound unknownItem shortWork spent callRefusal
 second-cover = record {
   declined = λ l. record { outcome = refl; steps = refl; made = refl; table = refl };
   answered = λ (e : callRefusal figure1 6 covered (Cover 63 5) 128 ≡ 0). absurd (omega arith);
 }
 
 with-0 : WithPost figure1 6 covered 5 0 2 (report 6 0 1) final
-unfolding holds insideb without belowb size lowest lead done nodesOf capacity families family order allSets sets filter soundb eqSet elem has starting others weight branchesTo branches eqFamily amongb fresh missing keysFrom keysOf firstOf oversize strayIn stray unsound unknownAnswer unknownPackage shortWork full including callRefusal
+unfolding holds insideb without belowb size lowest lead done nodesOf capacity families family order allSets sets filter soundb eqSet elem has starting
+    others weight branchesTo branches eqFamily amongb fresh missing keysFrom keysOf firstOf oversize strayIn stray unsound unknownAnswer
+    unknownPackage shortWork full including callRefusal
 with-0 = record {
   declined = λ l. absurd (not-suc-le-zero l);
   answered = λ e. record { number = 6; outcome = refl; known = omega arith; holds = refl; steps = refl; long = refl; sound = refl; old = refl; grown = refl; made = refl };
@@ -61,7 +66,9 @@ with-0 = record {
 
 -- {1, 4, 2} is number 4 already
 only-other : OnlyPost figure1 6 final 5 6 2 (report 4 0 0) final
-unfolding holds insideb without belowb size lowest lead done nodesOf capacity families family order allSets sets filter soundb eqSet elem has combine starting others weight branchesTo branches eqFamily amongb fresh missing keysFrom keysOf firstOf oversize strayIn stray unsound unknownAnswer shortWork full callRefusal
+unfolding holds insideb without belowb size lowest lead done nodesOf capacity families family order allSets sets filter soundb eqSet elem has combine
+    starting others weight branchesTo branches eqFamily amongb fresh missing keysFrom keysOf firstOf oversize strayIn stray unsound unknownAnswer
+    shortWork full callRefusal
 only-other = record {
   declined = λ l. absurd (not-suc-le-zero l);
   answered = λ e. record { number = 4; outcome = refl; known = omega arith; holds = refl; steps = refl; long = refl; sound = refl; old = refl; grown = refl; made = refl };
@@ -69,7 +76,9 @@ only-other = record {
 
 -- and so it is made another way
 without-0 : WithoutPost figure1 6 final 5 0 2 (report 4 0 0) final
-unfolding holds insideb without belowb size lowest lead done nodesOf capacity families family order allSets sets filter soundb eqSet elem has starting others weight branchesTo branches eqFamily amongb fresh missing keysFrom keysOf firstOf oversize strayIn stray unsound unknownAnswer unknownPackage shortWork full excluding callRefusal
+unfolding holds insideb without belowb size lowest lead done nodesOf capacity families family order allSets sets filter soundb eqSet elem has starting
+    others weight branchesTo branches eqFamily amongb fresh missing keysFrom keysOf firstOf oversize strayIn stray unsound unknownAnswer
+    unknownPackage shortWork full excluding callRefusal
 without-0 = record {
   declined = λ l. absurd (not-suc-le-zero l);
   answered = λ e. record { number = 4; outcome = refl; known = omega arith; holds = refl; steps = refl; long = refl; sound = refl; old = refl; grown = refl; made = refl };
@@ -77,7 +86,9 @@ without-0 = record {
 
 -- the first cover again: the same steps, and no node made
 third-cover : CoverPost figure1 6 final 63 6 128 (report 5 6 0) final
-unfolding holds insideb without belowb size lowest lead done nodesOf capacity families family order allSets sets filter soundb eqSet elem starting others weight branchesTo branches eqFamily amongb fresh missing keysFrom keysOf holders allInside once covers covering fits down candidates each visit steps firstOf oversize strayIn stray unsound unknownItem shortWork spent full callRefusal
+unfolding holds insideb without belowb size lowest lead done nodesOf capacity families family order allSets sets filter soundb eqSet elem starting
+    others weight branchesTo branches eqFamily amongb fresh missing keysFrom keysOf holders allInside once covers covering fits down candidates each
+    visit steps firstOf oversize strayIn stray unsound unknownItem shortWork spent full callRefusal
 third-cover = record {
   declined = λ l. absurd (not-suc-le-zero l);
   answered = λ e. record { number = 5; outcome = refl; known = omega arith; holds = refl; steps = refl; long = refl; sound = refl; old = refl; grown = refl; made = refl };
@@ -149,7 +160,8 @@ two-sets e = let z : _≡_ {A = ℕ} 5 4 = demanded .numbers (posting 0) (postin
 
 -- the second timetable of 5, on a page of four
 picked : PickPost figure1 6 final 5 1 6 (7 ∷ 7 ∷ 7 ∷ 7 ∷ []) (Packages 3) (1 ∷ 4 ∷ 2 ∷ 7 ∷ [])
-unfolding holds insideb belowb lowest lead done nodesOf capacity families family soundb keysFrom keysOf firstOf oversize strayIn stray unsound unknownAnswer shortWork uncountable pastEnd shortPage pickRefusal
+unfolding holds insideb belowb lowest lead done nodesOf capacity families family soundb keysFrom keysOf firstOf oversize strayIn stray unsound
+    unknownAnswer shortWork uncountable pastEnd shortPage pickRefusal
 picked = record { result = refl; pages = refl }
 
 -- it is what the demand says

@@ -83,7 +83,8 @@ pub is-blank : replicate 5401 0 ≡ blank
 unfolding blank
 is-blank = refl
 
-module _ (s t : ℕ) (Q : Problem) (C : List ℕ) {b : List ℕ} {w d : ℕ} {r : Report} {t′ : List ℕ} (eb : b ≡ blank) (ew : w ≡ 3604) (ed : d ≡ allItems (s + t)) (M : CoverPost Q (s + t) b d 1000000 w r t′) where
+module _ (s t : ℕ) (Q : Problem) (C : List ℕ) {b : List ℕ} {w d : ℕ} {r : Report} {t′ : List ℕ}
+    (eb : b ≡ blank) (ew : w ≡ 3604) (ed : d ≡ allItems (s + t)) (M : CoverPost Q (s + t) b d 1000000 w r t′) where
   M0 : CoverPost Q (s + t) blank (allItems (s + t)) 1000000 3604 r t′
   M0 = rw (eb, ew, ed) at M
 

@@ -11,7 +11,9 @@ use Rattle.statement.specs.Calls.{callRefusal}
 use Rattle.statement.specs.Examples.{PaperExamples}
 
 pub paper-examples : PaperExamples
-unfolding holds insideb without belowb size lowest lead done nodesOf capacity families order allSets sets filter soundb eqSet starting others weight branchesTo branches eqFamily amongb fresh missing keysFrom keysOf holders allInside once covers covering fits down candidates each visit steps firstOf oversize strayIn stray unsound unknownItem shortWork spent full callRefusal
+unfolding holds insideb without belowb size lowest lead done nodesOf capacity families order allSets sets filter soundb eqSet starting others weight
+    branchesTo branches eqFamily amongb fresh missing keysFrom keysOf holders allInside once covers covering fits down candidates each visit steps
+    firstOf oversize strayIn stray unsound unknownItem shortWork spent full callRefusal
 paper-examples = record {
   p1 = refl;
   p2 = refl;

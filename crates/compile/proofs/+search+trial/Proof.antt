@@ -8,7 +8,8 @@ use Prim.Native.Nat.{_+_, _*_}
 use Rattle.itemset.proofs.Laws.{lowest-lt, without-back}
 use Rattle.exact_cover.specs.Problem.{problemOf, lead}
 use Rattle.exact_cover.proofs.Lead.{open-pos, pos-open, zero-done}
-use Rattle.compile.proofs.TurnLaws.{At, Turn, search-over, search-empty, search-hit, search-tried, at-first, at-falls, at-later, turn-start, turn-later, turn-pass, turn-over, turn-none, turn-idle, turn-made, turn-done}
+use Rattle.compile.proofs.TurnLaws.{At, Turn, search-over, search-empty, search-hit, search-tried, at-first, at-falls}
+use Rattle.compile.proofs.TurnLaws.{at-later, turn-start, turn-later, turn-pass, turn-over, turn-none, turn-idle, turn-made, turn-done}
 use borrow.Author.Needs.{needs}
 use Prim.Native.Nat.{ℕ, _<_}
 use borrow.Fn.Kinds.{In}
@@ -274,7 +275,12 @@ trial-search-requires t c κs =
     let q = pre .1 in
     let u = loop .inv .0 in
     let k = wide2 .result in
-    let f = open-pos _ _ (q .0 .rows .some k (omega (arith, wide2 .ensures, loop .inv .1 .0 .inside, c .before .before .before .before .before .before .before .before .before .before .loop-test .taken))) in (
+    let f = open-pos _ _ (q .0 .rows .some k (omega (
+      arith,
+      wide2 .ensures,
+      loop .inv .1 .0 .inside,
+      c .before .before .before .before .before .before .before .before .before .before .loop-test .taken,
+    ))) in (
       omega (
         arith,
         pre .0,

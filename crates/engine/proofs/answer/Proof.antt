@@ -4,7 +4,7 @@ use Rattle.engine.proofs.answer.Statement.{statement}
 use Rattle.engine.proofs.answer.Tie as tie
 
 returns : tie.Need-returns
-returns c = same-call _ _ _ _ (c .before .before .before .before .before .before .before .before .c .given .1) (c .before .before .before .before .answer-cover .ensures)
+returns c = same-call _ _ _ _ (c .before .before .before .before .before .before .before .before .c .given .1) (c .before .before .before .before .cover .ensures)
 
 returns-2 : tie.Need-returns-2
 returns-2 c = same-call _ _ _ _ (c .before .before .before .before .before .before .before .before .c2 .given .1) (c .before .before .before .before .answer-pair .ensures)

@@ -12,10 +12,12 @@ returns-2 : tie.Need-returns-2
 returns-2 c = first-fails _ (c .before .before .before .before .args .q) (c .before .before .if1 .left) (sym (c .before .passes .ensures) ∙ not-true _ (c .if2 .taken))
 
 returns-3 : tie.Need-returns-3
-returns-3 c = first-only _ (c .before .before .before .before .before .before .args .q) (c .before .before .before .before .if1 .left) (sym (c .before .before .before .passes .ensures) ∙ not-false _ (c .before .before .if2 .left)) (c .if3 .taken)
+returns-3 c = first-only _ (c .before .before .before .before .before .before .args .q) (c .before .before .before .before .if1 .left)
+    (sym (c .before .before .before .passes .ensures) ∙ not-false _ (c .before .before .if2 .left)) (c .if3 .taken)
 
 returns-4 : tie.Need-returns-4
-returns-4 c = c .passes2 .ensures ∙ then-second _ (c .before .before .before .before .before .before .before .args .q) (c .before .before .before .before .before .if1 .left) (sym (c .before .before .before .before .passes .ensures) ∙ not-false _ (c .before .before .before .if2 .left)) (c .before .if3 .left)
+returns-4 c = c .passes2 .ensures ∙ then-second _ (c .before .before .before .before .before .before .before .args .q) (c .before .before .before .before .before .if1 .left)
+    (sym (c .before .before .before .before .passes .ensures) ∙ not-false _ (c .before .before .before .if2 .left)) (c .before .if3 .left)
 
 pub operands-pass-spec : {M : Type 1} → statement M
 operands-pass-spec =

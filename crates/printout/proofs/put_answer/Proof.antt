@@ -19,7 +19,8 @@ put-sheet-requires c κs =
     let q = was-given _ (countRefusal (problemOf (a .packages .now)) (a .c .s + a .c .t) (a .table .now) (a .c .answer) (length (a .work .now))) (length (familyAt (a .table .now) (a .c .answer)))
     (sym (ap countReply (c .before .before .before .counted2 .given .1)) ∙ c .before .before .before .before .before .before .before .count .ensures .result) in (
       record {
-        askable = subst⁻¹ (λ (w : ℕ). Askable (problemOf (a .packages .now)) (a .c .s + a .c .t) (a .table .now) (a .c .answer) w) (c .before .before .before .before .before .before .work .given) (pre .0);
+        askable = subst⁻¹ (λ (w : ℕ). Askable (problemOf (a .packages .now)) (a .c .s + a .c .t) (a .table .now) (a .c .answer) w) (c .before .before .before .before .before .before .work .given)
+            (pre .0);
         few = few-of (familyAt (a .table .now) (a .c .answer)) (sym k ∙ q .0);
       },
       (pre .1 .0, (q .1, pre .1 .1)),

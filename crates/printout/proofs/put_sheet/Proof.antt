@@ -22,7 +22,8 @@ put-last-requires c κs =
     let least = c .before .before .before .before .before .before .before .before .before in
     let here = least .before .before .before .before .before .before .before .before .before .before .before .before .before .before .before in
     let args = here .args in let pre = here .pre in (
-      subst⁻¹ (λ (w : ℕ). Listable (problemOf (args .packages .now)) (args .c .s + args .c .t) (args .table .now) (args .c .answer) w) (c .before .before .before .before .before .work .given) (pre .0),
+      subst⁻¹ (λ (w : ℕ). Listable (problemOf (args .packages .now)) (args .c .s + args .c .t) (args .table .now) (args .c .answer) w) (c .before .before .before .before .before .work .given)
+          (pre .0),
       (pre .1 .0, pre .1 .1 .0),
     )
 

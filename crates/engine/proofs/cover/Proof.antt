@@ -6,8 +6,8 @@ use borrow.Author.Tests.{not-true, not-false}
 use native.Mathlib.Omega.{arith}
 use mathlib.Core.Path.{refl, sym, _∙_}
 use borrow.Author.Needs.{needs}
-use Rattle.engine.proofs.answer_cover.Statement.{statement}
-use Rattle.engine.proofs.answer_cover.Tie as tie
+use Rattle.engine.proofs.cover.Statement.{statement}
+use Rattle.engine.proofs.cover.Tie as tie
 
 admit-requires : tie.Need-admit-requires
 admit-requires c κs = blank 512 65536 refl refl
@@ -82,8 +82,8 @@ returns-6 c =
     (cover-answers _ _ (sym (below .ensures) ∙ not-false _ (if2 .left)) (omega (arith, if3 .left)) (c .before .before .before .before .before .before .before .cover .ensures)
     (c .before .before .if4 .left) (c .before .if5 .left) _ refl refl refl)
 
-pub answer-cover-spec : {M : Type 1} → statement M
-answer-cover-spec =
+pub cover-spec : {M : Type 1} → statement M
+cover-spec =
     tie.close
     (tie.spec (λ c. search needs) admit-requires (λ c κs. search needs) (λ c. search needs) returns below-requires (λ c κs. search needs)
     (λ c. search needs) returns-2 (λ c κs. search needs) (λ c. search needs) returns-3 cover-requires (λ c κs. search needs) (λ c. search needs)
