@@ -32,44 +32,53 @@ use Rattle.statement.specs.declared.Placed.the-variants.{Refused as PlaceRefuse
 use Rattle.statement.specs.declared.Priced.{Priced}
 use Rattle.statement.specs.declared.Priced.the-variants.{Refused as PriceRefused}
 use Rattle.statement.specs.Replies.{gives, reply, countReply, pickReply, placeReply, cheapestReply}
-use Rattle.statement.specs.Refusals.{firstOf, packageTests, unpriced, notTimetable, uncountable, pastEnd, absent, shortPage}
+use Rattle.statement.specs.Refusals.{firstOf, packageTests, tableTests, unpriced, notTimetable, uncountable, pastEnd, absent, shortPage}
 use Rattle.statement.specs.Refusals.{countRefusal, pickRefusal, placeRefusal, cheapestRefusal}
 use Rattle.statement.specs.Postconditions.{CountPost, PickPost, PlacePost, CheapestPost}
 use Rattle.statement.proofs.FirstOf.{pass, hit, none, passed, front, Numbered, behind}
-use Rattle.statement.proofs.Admission.{fit-passes, fit-of, fit-refused}
+use Rattle.statement.proofs.Admission.{fit-passes, fit-of, fit-refused, table-passes}
 use Rattle.statement.proofs.TestLaws.{reply-refused, reply-gives, page-left, page-written, all-priced, not-priced, answer-known, answer-unknown, enough, too-few}
 use Rattle.statement.proofs.TestLaws.{countable, too-many, not-past, something, is-nothing, page-fits, page-short}
 use Rattle.engine.specs.Answers.{tallyReply, endRefusal, writtenReply, placedReply, cheapReply}
-use Rattle.engine.specs.Opened.{knownTests, openTests, pricedTests, Opened}
-use Rattle.guard.specs.Admitted.{Usable, Tested}
+use Rattle.engine.specs.Opened.{openTests, pricedTests, Opened}
+use Rattle.guard.specs.Admitted.{Usable, Admitted}
+use Rattle.guard.proofs.GuardLaws.{admit-refused}
 
 module _ {Q : Problem} {t keys heads next : List ℕ} (g : Usable Q t keys heads next) where
   pub readable : Readable t
   readable = record { keys = keysOf Q; sound = g .sound; few = omega (arith, length-keys Q, g .rows .few) }
 
--- ---- refusals 4 and 5
+-- ---- refusals 1, 2, 4 and 5
 
-module _ {Q : Problem} {t keys heads next : List ℕ} {b : Bool} (a : ℕ) (o : Tested Q t keys heads next b) where
-  pub known-spoilt : b ≡ false → Opened (knownTests Q t a) Q t keys a 4
-  known-spoilt e = record { says = sym (hit 4 _ (not-false _ (sym (o .says) ∙ e))); ready = λ z. absurd (omega arith) }
+module _ {Q : Problem} {m : ℕ} {t keys heads next : List ℕ} {r : ℕ} (a : ℕ) (o : Admitted Q m t keys heads next r) where
+  pub opened-refused : (r ≡ 0 → ⊥) → Opened (openTests Q m t a) Q t keys a r
+  opened-refused f = record { says = sym (admit-refused _ o f); ready = λ z. absurd (f z) }
 
-  pub known-unknown : b ≡ true → count t + 2 ≤ a → Opened (knownTests Q t a) Q t keys a 5
-  known-unknown e h = record { says = sym (pass 4 _ (o .usable e .unspoilt) ∙ hit 5 _ (answer-unknown t a h)); ready = λ z. absurd (omega arith) }
+  module _ (e : r ≡ 0) where
+    passes : (ts : List (Bool × ℕ)) → firstOf (tableTests Q m t ts) ≡ firstOf ts
+    passes ts = table-passes t ts (o .fit e) (o .usable e .unspoilt)
 
-  pub known-known : b ≡ true → a < count t + 2 → Opened (knownTests Q t a) Q t keys a 0
-  known-known e h = record {
-    says = sym (pass 4 _ (o .usable e .unspoilt) ∙ pass 5 _ (answer-known t a h) ∙ none);
-    ready = λ z. record { heads = heads; next = next; usable = o .usable e; known = h };
-  }
+    pub opened-unknown : count t + 2 ≤ a → Opened (openTests Q m t a) Q t keys a 5
+    opened-unknown h = record { says = sym (passes _ ∙ hit 5 _ (answer-unknown t a h)); ready = λ z. absurd (omega arith) }
 
--- ---- 1 and 2 in front
+    pub opened-known : a < count t + 2 → Opened (openTests Q m t a) Q t keys a 0
+    opened-known h = record {
+      says = sym (passes _ ∙ pass 5 _ (answer-known t a h) ∙ none);
+      ready = λ z. record { heads = heads; next = next; usable = o .usable e; known = h };
+    }
+
+-- ---- the tests of the packages, in front of others and passed again
 
 module _ {Q : Problem} (m : ℕ) {ts : List (Bool × ℕ)} {t keys : List ℕ} {a r : ℕ} where
   pub opened-packages : r ≡ firstOf (packageTests Q m []) → (r ≡ 0 → ⊥) → Opened (packageTests Q m ts) Q t keys a r
   opened-packages e f = record { says = sym (fit-refused Q m ts e f); ready = λ z. absurd (f z) }
 
-  pub opened-rest : firstOf (packageTests Q m []) ≡ 0 → Opened ts Q t keys a r → Opened (packageTests Q m ts) Q t keys a r
-  opened-rest e o = record { says = o .says ∙ sym (fit-passes ts (fit-of [] e .0)); ready = o .ready }
+  module _ (e : firstOf (packageTests Q m []) ≡ 0) where
+    pub opened-rest : Opened ts Q t keys a r → Opened (packageTests Q m ts) Q t keys a r
+    opened-rest o = record { says = o .says ∙ sym (fit-passes ts (fit-of [] e .0)); ready = o .ready }
+
+    pub opened-again : Opened (packageTests Q m ts) Q t keys a r → Opened ts Q t keys a r
+    opened-again o = record { says = o .says ∙ fit-passes ts (fit-of [] e .0); ready = o .ready }
 
 -- ---- and 3
 

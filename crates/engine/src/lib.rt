@@ -6,12 +6,12 @@ ghost use mathlib.Core.Path.{_≡_};
 ghost use Prim.Native.Nat.{_≤_, _<_};
 ghost use lib.ListN.{length};
 ghost use Rattle.zdd.specs.Table.{count as nodes};
-ghost use Rattle.exact_cover.specs.Problem.{problemOf, Rows};
+ghost use Rattle.exact_cover.specs.Problem.{problemOf};
 ghost use Rattle.statement.specs.Replies.{countReply, pickReply, placeReply, cheapestReply};
 ghost use Rattle.statement.specs.Postconditions.{CheckPost, CountPost, PickPost, PlacePost, CheapestPost};
 ghost use Rattle.statement.specs.Postconditions.{AnswerPost, CoverPost, EitherPost, BothPost, OnlyPost, WithPost, WithoutPost};
 ghost use Rattle.engine.specs.Answers.{tallyReply, endRefusal, writtenReply, placedReply, cheapReply};
-ghost use Rattle.engine.specs.Opened.{knownTests, openTests, Opened, OpenedPriced};
+ghost use Rattle.engine.specs.Opened.{openTests, Opened, OpenedPriced};
 ghost use Rattle.engine.specs.Reports.{Reported, pairCall, partCall};
 use query::Cheap;
 use query::Spot;
@@ -40,33 +40,22 @@ pub fn check(m: u32, packages: &[u64], t: &[u32]) -> Soundness
     Soundness::Sound
 }
 
-// Refusal 4 or 5 of a call that reads an answer, where 1 and 2 do not apply; 0 where none applies, and then the keys are ready.
-fn known(packages: &[u64], t: &[u32], answer: u32, keys: &mut [u32; 512]) -> u8
-    requires { ⌜ Rows (problemOf (now packages)) ⌝ }
+// Refusal 1, 2, 4 or 5 of a call that reads an answer; 0 where none applies, and then the keys are ready.
+fn opened(m: u32, packages: &[u64], t: &[u32], answer: u32, keys: &mut [u32; 512]) -> u8
     requires { ⌜ length (now keys) ≡ 512 ⌝ }
-    ensures { λ r. ⌜ Opened (knownTests (problemOf (now (packages .entry))) (now (t .entry)) answer) (problemOf (now (packages .entry))) (now (t .entry)) (now (keys .exit)) answer r ⌝ }
+    ensures { λ r. ⌜ Opened (openTests (problemOf (now (packages .entry))) m (now (t .entry)) answer) (problemOf (now (packages .entry))) (now (t .entry))
+        (now (keys .exit)) answer r ⌝ }
 {
     let mut heads = [0u32; 65536];
     let mut next = [0u32; 65536];
-    if !guard::usable(packages, t, keys, &mut heads, &mut next) {
-        return 4;
+    let r = guard::admit(m, packages, t, keys, &mut heads, &mut next);
+    if r != 0 {
+        return r;
     }
     if base::wide(t[0]) + 2 <= base::wide(answer) {
         return 5;
     }
     0
-}
-
-// Refusal 1, 2, 4 or 5.
-fn opened(m: u32, packages: &[u64], t: &[u32], answer: u32, keys: &mut [u32; 512]) -> u8
-    requires { ⌜ length (now keys) ≡ 512 ⌝ }
-    ensures { λ r. ⌜ Opened (openTests (problemOf (now (packages .entry))) m (now (t .entry)) answer) (problemOf (now (packages .entry))) (now (t .entry)) (now (keys .exit)) answer r ⌝ }
-{
-    let r = guard::packages_refusal(m, packages);
-    if r != 0 {
-        return r;
-    }
-    known(packages, t, answer, keys)
 }
 
 fn counted(c: Tally) -> Counted
@@ -192,7 +181,7 @@ pub fn place(
     placed(c, s)
 }
 
-// Refusal 1, 2, 3, 4 or 5: 3 stands between the tests of the packages and of the table.
+// Refusal 1, 2, 3, 4 or 5: the tests of the packages come before 3, and once more, passed, before those of the table.
 fn opened_priced(
     m: u32,
     packages: &[u64],
@@ -211,7 +200,7 @@ fn opened_priced(
     if costs.len() != packages.len() {
         return 3;
     }
-    known(packages, t, answer, keys)
+    opened(m, packages, t, answer, keys)
 }
 
 fn priced(c: Cheap) -> Priced

@@ -50,7 +50,7 @@ pub fn packages_refusal(m: u32, packages: &[u64]) -> u8
 }
 
 // Whether the table is sound; where it is, the keys and the index are ready.
-pub fn usable(
+fn usable(
     packages: &[u64],
     t: &[u32],
     keys: &mut [u32],

@@ -1,6 +1,4 @@
-use Rattle.engine.proofs.Delivery.{opened-packages, opened-rest, priced-3, priced-rest}
-use Rattle.guard.proofs.GuardLaws.{rows}
-use Rattle.statement.proofs.Admission.{fit-of}
+use Rattle.engine.proofs.Delivery.{opened-packages, opened-rest, opened-again, priced-3, priced-rest}
 use mathlib.Core.Path.{sym, _∙_}
 use borrow.Author.Needs.{needs}
 use Rattle.engine.proofs.opened_priced.Statement.{statement}
@@ -12,13 +10,14 @@ returns c = opened-packages _ (c .before .packages-refusal .ensures) (c .if1 .ta
 returns-2 : tie.Need-returns-2
 returns-2 c = opened-rest _ (sym (c .before .before .packages-refusal .ensures) ∙ c .before .if1 .left) (priced-3 _ (c .if2 .taken))
 
-known-requires : tie.Need-known-requires
-known-requires c κs = (rows (fit-of _ (sym (c .before .before .before .packages-refusal .ensures) ∙ c .before .before .if1 .left) .0), c .before .before .before .before .before .before .before .pre)
+opened-requires : tie.Need-opened-requires
+opened-requires c κs = c .before .before .before .before .before .before .before .pre
 
 returns-3 : tie.Need-returns-3
-returns-3 c = opened-rest _ (sym (c .before .before .before .before .packages-refusal .ensures) ∙ c .before .before .before .if1 .left)
-    (priced-rest _ (c .before .before .if2 .left) (c .known .ensures))
+returns-3 c =
+    let e = sym (c .before .before .before .before .packages-refusal .ensures) ∙ c .before .before .before .if1 .left in
+    opened-rest _ e (priced-rest _ (c .before .before .if2 .left) (opened-again _ e (c .opened .ensures)))
 
 pub opened-priced-spec : {M : Type 1} → statement M
 opened-priced-spec =
-    tie.close (tie.spec (λ c κs. search needs) returns returns-2 known-requires returns-3)
+    tie.close (tie.spec (λ c κs. search needs) returns returns-2 opened-requires returns-3)
