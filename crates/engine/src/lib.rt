@@ -362,8 +362,8 @@ fn answer_part(
     report(t, n, k)
 }
 
-// Any call that makes an answer. (Cover, the pairs and the parts have an index each: one for all would put the largest memory of results on the stack of
-// every call.)
+// Any call that makes an answer. (Cover, the pairs and the parts have an index each: with one for all the compiler puts what the parts remember on the
+// stack of the others too.)
 pub fn answer(m: u32, packages: &[u64], t: &mut [u32], c: Call, work: &mut [u64]) -> Report
     ensures { λ r. ⌜ AnswerPost (problemOf (now (packages .entry))) m (now (t .entry)) c (length (now (work .entry))) r (now (t .exit)) ⌝ }
 {
