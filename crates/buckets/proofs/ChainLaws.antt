@@ -8,14 +8,14 @@ use native.Mathlib.Omega.{arith}
 use native.Mathlib.Decide.{ℕ-discrete}
 use lib.ListN.{length, getD, set, length-set}
 use lib.Seq.{getD-set-same, getD-set-other}
-use Rattle.buckets.specs.Chain.{Last, Index}
+use Rattle.buckets.specs.Chain.{Last, Index, inserted}
 
 -- nothing is in any bucket
-pub empty : (b : ℕ → ℕ) (base : ℕ) (heads next : List ℕ) → 0 < base → base ≤ length next → ((h : ℕ) → getD heads h 0 ≡ 0) → Index b base base heads next
-empty b base heads next p q z = record {
+pub empty : (b : ℕ → ℕ) (base n : ℕ) (index : List ℕ) → 0 < base → n + base ≤ length index → ((h : ℕ) → getD index h 0 ≡ 0) → Index b base n base index
+empty b base n index p q z = record {
   some = p;
   room = q;
-  at-heads = λ h lt. record {
+  at-head = λ h lt. record {
     below = omega (arith, z h);
     own = λ u. absurd (omega (arith, z h));
     gap = λ k u v w e. omega arith;
@@ -31,13 +31,13 @@ last-same b b′ base h m r s l = record {
   gap = λ k u v w e. l .gap k u v w (s k v w ∙ e);
 }
 
-pub same : (b b′ : ℕ → ℕ) (base m : ℕ) (heads next : List ℕ) → ((k : ℕ) → base ≤ k → k < m → b k ≡ b′ k) → Index b base m heads next → Index b′ base m heads next
-same b b′ base m heads next s i = record {
+pub same : (b b′ : ℕ → ℕ) (base n m : ℕ) (index : List ℕ) → ((k : ℕ) → base ≤ k → k < m → b k ≡ b′ k) → Index b base n m index → Index b′ base n m index
+same b b′ base n m index s i = record {
   some = i .some;
   room = i .room;
-  at-heads = λ h lt. last-same b b′ base h m (getD heads h 0) s (i .at-heads h lt);
-  at-next = λ k u v. last-same b b′ base (b′ k) k (getD next k 0) (λ j p q. s j p (omega arith))
-      (subst (λ (x : ℕ). Last b base x k (getD next k 0)) (s k u v) (i .at-next k u v));
+  at-head = λ h lt. last-same b b′ base h m (getD index h 0) s (i .at-head h lt);
+  at-next = λ k u v. last-same b b′ base (b′ k) k (getD index (n + k) 0) (λ j p q. s j p (omega arith))
+      (subst (λ (x : ℕ). Last b base x k (getD index (n + k) 0)) (s k u v) (i .at-next k u v));
 }
 
 -- m goes into bucket h: it is the last there, and no other bucket's last changes
@@ -58,19 +58,31 @@ last-old b base h m r f l = record {
     le : (k m : ℕ) → k < m + 1 → k ≤ m
     le k m w = omega arith
 
-pub more : (b : ℕ → ℕ) (base m h : ℕ) (heads next : List ℕ) → base ≤ m → m < length next → h < length heads → b m ≡ h → Index b base m heads next
-    → Index b base (m + 1) (set heads h m) (set next m (getD heads h 0))
-more b base m h heads next p q lt e i = record {
+pub more : (b : ℕ → ℕ) (base n m h : ℕ) (index : List ℕ) → base ≤ m → n + m < length index → h < n → b m ≡ h → Index b base n m index
+    → Index b base n (m + 1) (inserted n h m index)
+more b base n m h index p q lt e i = record {
   some = omega (arith, i .some);
   room = simp length-set (omega arith);
-  at-heads = λ j l. at j (simp length-set at l) (ℕ-discrete j h);
-  at-next = λ k u v. next-at k u (ℕ-discrete k m) v;
+  at-head = λ j l. at j l (ℕ-discrete j h);
+  at-next = λ k u v. next-at k u v (ℕ-discrete k m);
 }
   where
-    at : (j : ℕ) → j < length heads → Dec (j ≡ h) → Last b base j (m + 1) (getD (set heads h m) j 0)
-    at j l (yes x) = rw (x, getD-set-same heads h m 0 lt) (last-new b base h m (i .some) p e)
-    at j l (no f) = rw (getD-set-other heads h j m 0 f) (last-old b base j m (getD heads j 0) (λ y. f (sym y ∙ e)) (i .at-heads j l))
+    linked : List ℕ
+    linked = set index (n + m) (getD index h 0)
 
-    next-at : (k : ℕ) → base ≤ k → Dec (k ≡ m) → k < m + 1 → Last b base (b k) k (getD (set next m (getD heads h 0)) k 0)
-    next-at k u (yes x) v = rw (x, e, getD-set-same next m (getD heads h 0) 0 q) (i .at-heads h lt)
-    next-at k u (no f) v = rw (getD-set-other next m k (getD heads h 0) 0 f) (i .at-next k u (omega arith))
+    -- the links are not the heads
+    apart : (j k : ℕ) → j < n → j ≡ n + k → ⊥
+    apart j k l x = omega arith
+
+    at : (j : ℕ) → j < n → Dec (j ≡ h) → Last b base j (m + 1) (getD (inserted n h m index) j 0)
+    at j l (yes x) = rw (x, getD-set-same linked h m 0 (simp length-set (omega arith))) (last-new b base h m (i .some) p e)
+    at j l (no f) =
+        rw (getD-set-other linked h j m 0 f, getD-set-other index (n + m) j (getD index h 0) 0 (apart j m l))
+        (last-old b base j m (getD index j 0) (λ y. f (sym y ∙ e)) (i .at-head j l))
+
+    link : (k : ℕ) → getD (inserted n h m index) (n + k) 0 ≡ getD linked (n + k) 0
+    link k = getD-set-other linked h (n + k) m 0 (λ x. apart h k lt (sym x))
+
+    next-at : (k : ℕ) → base ≤ k → k < m + 1 → Dec (k ≡ m) → Last b base (b k) k (getD (inserted n h m index) (n + k) 0)
+    next-at k u v (yes x) = rw (link k, x, e, getD-set-same index (n + m) (getD index h 0) 0 q) (i .at-head h lt)
+    next-at k u v (no f) = rw (link k, getD-set-other index (n + m) (n + k) (getD index h 0) 0 (λ x. f (omega arith))) (i .at-next k u (omega arith))

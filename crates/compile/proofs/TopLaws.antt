@@ -5,7 +5,7 @@ use mathlib.Core.List.{List}
 use Prim.Native.Nat.{ℕ, zero, _+_, _-_, _*_, _/_, _<_, _≤_}
 use native.Mathlib.Omega.{arith}
 use lib.Dec.{ltb}
-use lib.ListN.{length, getD, set, length-set, replicate, length-replicate}
+use lib.ListN.{length, getD, length-set, replicate, length-replicate}
 use borrow.Author.Tests.{lt-ltb, le-ltb}
 use Rattle.base.specs.Words.{Cleared}
 use Rattle.base.proofs.Bools.{never}
@@ -15,52 +15,44 @@ use Rattle.zdd.proofs.Got.{got-known, got-flag, got-made-exactly}
 use Rattle.exact_cover.specs.Problem.{Problem, row, lead, Rows}
 use Rattle.exact_cover.specs.Cover.{keysOf}
 use Rattle.exact_cover.specs.Steps.{Walk, search, steps}
-use Rattle.buckets.specs.Chain.{Index}
+use Rattle.buckets.specs.Chain.{Index, inserted}
 use Rattle.buckets.proofs.ChainLaws as chain
 use Rattle.compile.specs.State.{leadOf, Packs, Held, Is, Explored, NoPacks, Covered}
 
 -- ---- the package index
 
 -- the packages below k are in it
-pub record Built (Q : Problem) (k : ℕ) (first after : List ℕ) : Type 0 where
-  pub first-long : length first ≡ 65
-  pub after-long : length after ≡ 513
+pub record Built (Q : Problem) (k : ℕ) (leads : List ℕ) : Type 0 where
+  pub long : length leads ≡ 578
   pub within : k ≤ length (Q .packages)
-  pub index : Index (leadOf Q) 1 (k + 1) first after
+  pub chain : Index (leadOf Q) 1 65 (k + 1) leads
 
-pub built-start : (Q : Problem) {first after : List ℕ} → NoPacks first after → Built Q 0 first after
-built-start Q {first} {after} b = record {
-  first-long = b .first-long;
-  after-long = b .after-long;
+pub built-start : (Q : Problem) {leads : List ℕ} → NoPacks leads → Built Q 0 leads
+built-start Q {leads} b = record {
+  long = b .long;
   within = omega arith;
-  index = chain.empty (leadOf Q) 1 first after (omega arith) (omega (arith, b .after-long)) (b .zero);
+  chain = chain.empty (leadOf Q) 1 65 leads (omega arith) (omega (arith, b .long)) (b .zero);
 }
 
-pub built-more : {Q : Problem} {first after : List ℕ} (k h : ℕ) → Rows Q → k < length (Q .packages) → h < 64 → h ≡ lead Q (row Q k) → Built Q k first after
-    → Built Q (k + 1) (set first h (k + 1)) (set after (k + 1) (getD first h 0))
+pub built-more : {Q : Problem} {leads : List ℕ} (k h : ℕ) → Rows Q → k < length (Q .packages) → h < 64 → h ≡ lead Q (row Q k) → Built Q k leads
+    → Built Q (k + 1) (inserted 65 h (k + 1) leads)
 unfolding leadOf
-built-more {Q} {first} {after} k h r lt m e b =
+built-more {Q} {leads} k h r lt m e b =
     let z : k + 1 - 1 ≡ k = omega arith in
     record {
-      first-long = length-set first h (k + 1) ∙ b .first-long;
-      after-long = length-set after (k + 1) (getD first h 0) ∙ b .after-long;
+      long = simp length-set (b .long);
       within = omega arith;
-      index = chain.more (leadOf Q) 1 (k + 1) h first after (omega arith) (omega (arith, b .after-long, r .few)) (omega (arith, b .first-long))
-          (ap (λ (i : ℕ). lead Q (row Q i)) z ∙ sym e) (b .index);
+      chain = chain.more (leadOf Q) 1 65 (k + 1) h leads (omega arith) (omega (arith, b .long, r .few)) (omega arith)
+          (ap (λ (i : ℕ). lead Q (row Q i)) z ∙ sym e) (b .chain);
     }
 
-pub built-all : {Q : Problem} {first after : List ℕ} (k : ℕ) → Rows Q → length (Q .packages) ≤ k → Built Q k first after → Packs Q first after
-built-all {Q} {first} {after} k r le b =
+pub built-all : {Q : Problem} {leads : List ℕ} (k : ℕ) → Rows Q → length (Q .packages) ≤ k → Built Q k leads → Packs Q leads
+built-all {Q} {leads} k r le b =
     let z : k ≡ length (Q .packages) = omega (arith, b .within) in
-    record {
-      rows = r;
-      first-long = b .first-long;
-      after-long = b .after-long;
-      index = subst (λ (i : ℕ). Index (leadOf Q) 1 (i + 1) first after) z (b .index);
-    }
+    record { rows = r; long = b .long; chain = subst (λ (i : ℕ). Index (leadOf Q) 1 65 (i + 1) leads) z (b .chain) }
 
-pub blank : (m n : ℕ) → m ≡ 65 → n ≡ 513 → NoPacks (replicate m 0) (replicate n 0)
-blank m n d e = record { first-long = length-replicate m 0 ∙ d; after-long = length-replicate n 0 ∙ e; zero = zeros m }
+pub blank : (n : ℕ) → n ≡ 578 → NoPacks (replicate n 0)
+blank n e = record { long = length-replicate n 0 ∙ e; zero = zeros n }
 
 -- ---- the memo
 
@@ -90,10 +82,10 @@ steps-walk Q P A = refl
 
 -- ---- what cover answers
 
-module _ {Q : Problem} {A limit : ℕ} {t memo₀ memo t′ heads′ next′ memo′ : List ℕ} {P a n : ℕ} {full over : Bool} (s : Sound (keysOf Q) t) (c : Cleared memo₀ memo) (e : P ≡ length memo₀ / 2)
-    (d : Explored (search Q P A) Q P A limit t memo 0 false t′ heads′ next′ memo′ a n full over) where
-  pub covered-over : (t″ heads″ next″ : List ℕ) → over ≡ true → t″ ≡ t → Covered Q P A limit t t″ heads″ next″ 0 0 0 false true
-  covered-over t″ heads″ next″ o z = record {
+module _ {Q : Problem} {A limit : ℕ} {t memo₀ memo t′ index′ memo′ : List ℕ} {P a n : ℕ} {full over : Bool} (s : Sound (keysOf Q) t) (c : Cleared memo₀ memo) (e : P ≡ length memo₀ / 2)
+    (d : Explored (search Q P A) Q P A limit t memo 0 false t′ index′ memo′ a n full over) where
+  pub covered-over : (t″ index″ : List ℕ) → over ≡ true → t″ ≡ t → Covered Q P A limit t t″ index″ 0 0 0 false true
+  covered-over t″ index″ o z = record {
     spent = sym (lt-ltb limit (steps Q P A) (omega (arith, d .spent o (first-walk c e) (cleared-is c e), steps-walk Q P A)));
     short = λ q. absurd (never refl q);
     back = λ q. z;
@@ -107,8 +99,8 @@ module _ {Q : Problem} {A limit : ℕ} {t memo₀ memo t′ heads′ next′ mem
   in-time : over ≡ false → false ≡ ltb limit (steps Q P A)
   in-time o = sym (le-ltb limit (steps Q P A) (omega (arith, counted o, d .within o)))
 
-  pub covered-full : (t″ heads″ next″ : List ℕ) (k : ℕ) → over ≡ false → full ≡ true → t″ ≡ t → Covered Q P A limit t t″ heads″ next″ 0 k 0 true false
-  covered-full t″ heads″ next″ k o f z = record {
+  pub covered-full : (t″ index″ : List ℕ) (k : ℕ) → over ≡ false → full ≡ true → t″ ≡ t → Covered Q P A limit t t″ index″ 0 k 0 true false
+  covered-full t″ index″ k o f z = record {
     spent = in-time o;
     short = λ q. sym f ∙ sym (got-flag t (d .grown .sound) (d .grown .long) (d .got o));
     back = λ q. z;
@@ -116,7 +108,7 @@ module _ {Q : Problem} {A limit : ℕ} {t memo₀ memo t′ heads′ next′ mem
     answer = λ q y. absurd (never refl y);
   }
 
-  pub covered-answer : (m : ℕ) → over ≡ false → full ≡ false → m ≡ count t′ - count t → Covered Q P A limit t t′ heads′ next′ a n m false false
+  pub covered-answer : (m : ℕ) → over ≡ false → full ≡ false → m ≡ count t′ - count t → Covered Q P A limit t t′ index′ a n m false false
   covered-answer m o f z =
       let g = got-made-exactly t (d .grown .sound) (d .grown .long) (d .got o) f in
       record {

@@ -41,9 +41,9 @@ pub record At (Q : Problem) (A p : ℕ) : Type 0 where
   pub own : 0 < p → leadOf Q p ≡ lead Q A
 
 -- the packages from m on are tried, and l is the number so far
-pub record Turn (Q : Problem) (P A limit : ℕ) (t₀ memo₀ : List ℕ) (n₀ : ℕ) (b₀ : Bool) (t heads next memo : List ℕ) (m l n : ℕ) (b : Bool) : Type 0 where
+pub record Turn (Q : Problem) (P A limit : ℕ) (t₀ memo₀ : List ℕ) (n₀ : ℕ) (b₀ : Bool) (t index memo : List ℕ) (m l n : ℕ) (b : Bool) : Type 0 where
   pub grown : Grown (keysOf Q) t₀ t
-  pub indexed : Indexed t heads next
+  pub indexed : Indexed t index
   pub same : length memo ≡ length memo₀
   pub held : Held Q P t memo b
   pub within : n ≤ limit
@@ -52,9 +52,9 @@ pub record Turn (Q : Problem) (P A limit : ℕ) (t₀ memo₀ : List ℕ) (n₀ 
 
 -- ---- search
 
-module _ {Q : Problem} {first after : List ℕ} (ps : Packs Q first after) {P limit : ℕ} {t heads next memo : List ℕ} {n : ℕ} {b : Bool} (r : Searchable Q P t heads next memo b) (A : ℕ) where
+module _ {Q : Problem} {leads : List ℕ} (ps : Packs Q leads) {P limit : ℕ} {t index memo : List ℕ} {n : ℕ} {b : Bool} (r : Searchable Q P t index memo b) (A : ℕ) where
   -- the limit is met
-  pub search-over : limit ≤ n → (a n′ : ℕ) → Explored (search Q P A) Q P A limit t memo n b t heads next memo a n′ b true
+  pub search-over : limit ≤ n → (a n′ : ℕ) → Explored (search Q P A) Q P A limit t memo n b t index memo a n′ b true
   search-over h a n′ = record {
     grown = grown-refl (r .sound);
     indexed = r .indexed;
@@ -68,7 +68,7 @@ module _ {Q : Problem} {first after : List ℕ} (ps : Packs Q first after) {P li
 
   -- nothing is left, or the memo has the answer
   here : (a n′ : ℕ) → n < limit → n′ ≡ n + 1 → a < count t + 2 → (b ≡ false → family (nodesOf t) a ≡ covering Q A)
-      → ((w : Walk) → Is P w n memo → known Q P A w ≡ true) → Explored (search Q P A) Q P A limit t memo n b t heads next memo a n′ b false
+      → ((w : Walk) → Is P w n memo → known Q P A w ≡ true) → Explored (search Q P A) Q P A limit t memo n b t index memo a n′ b false
   here a n′ h e k f g = record {
     grown = grown-refl (r .sound);
     indexed = r .indexed;
@@ -83,21 +83,21 @@ module _ {Q : Problem} {first after : List ℕ} (ps : Packs Q first after) {P li
     spent = λ z. absurd (never z refl);
   }
 
-  pub search-empty : (n′ : ℕ) → n < limit → n′ ≡ n + 1 → A < 2 ^ 64 → done Q A ≡ true → Explored (search Q P A) Q P A limit t memo n b t heads next memo 1 n′ b false
+  pub search-empty : (n′ : ℕ) → n < limit → n′ ≡ n + 1 → A < 2 ^ 64 → done Q A ≡ true → Explored (search Q P A) Q P A limit t memo n b t index memo 1 n′ b false
   search-empty n′ h e w64 z =
       here 1 n′ h e (omega arith) (λ q. family-one (nodesOf t) ∙ sym (covering-done Q (ps .rows) A w64 z)) (λ w s. known-done Q P A w z)
 
   pub search-hit : (j a n′ : ℕ) → n < limit → n′ ≡ n + 1 → done Q A ≡ false → j ≡ A % P → getD memo (2 * j) 0 ≡ A → a ≡ getD memo (2 * j + 1) 0
-      → Explored (search Q P A) Q P A limit t memo n b t heads next memo a n′ b false
+      → Explored (search Q P A) Q P A limit t memo n b t index memo a n′ b false
   search-hit j a n′ h e p q k z =
       let lt : j < P = omega (arith, mod-lt A (r .held .some)) in
       here a n′ h e (omega (arith, r .held .values j lt)) (λ y. ap (family (nodesOf t)) z ∙ r .held .right y j lt (omega (arith, open-pos Q A p)) ∙ ap (covering Q) k)
       (λ w s. is-known s (r .held .some) Q A (ap (λ (i : ℕ). getD memo (2 * i) 0) (sym q) ∙ k))
 
   -- trial's answer is search's
-  pub search-tried : (j n′ : ℕ) {t′ heads′ next′ memo′ : List ℕ} {a n″ : ℕ} {b′ over : Bool} → n′ ≡ n + 1 → done Q A ≡ false → j ≡ A % P → (getD memo (2 * j) 0 ≡ A → ⊥)
-      → Explored (tried Q P A) Q P A limit t memo n′ b t′ heads′ next′ memo′ a n″ b′ over → Explored (search Q P A) Q P A limit t memo n b t′ heads′ next′ memo′ a n″ b′ over
-  search-tried j n′ {t′} {heads′} {next′} {memo′} {a} {n″} {b′} {over} e p q k d = record {
+  pub search-tried : (j n′ : ℕ) {t′ index′ memo′ : List ℕ} {a n″ : ℕ} {b′ over : Bool} → n′ ≡ n + 1 → done Q A ≡ false → j ≡ A % P → (getD memo (2 * j) 0 ≡ A → ⊥)
+      → Explored (tried Q P A) Q P A limit t memo n′ b t′ index′ memo′ a n″ b′ over → Explored (search Q P A) Q P A limit t memo n b t′ index′ memo′ a n″ b′ over
+  search-tried j n′ {t′} {index′} {memo′} {a} {n″} {b′} {over} e p q k d = record {
     grown = d .grown;
     indexed = d .indexed;
     same = d .same;
@@ -113,7 +113,7 @@ module _ {Q : Problem} {first after : List ℕ} (ps : Packs Q first after) {P li
 
 -- ---- trial
 
-module _ {Q : Problem} {first after : List ℕ} (ps : Packs Q first after) (A : ℕ) (w64 : A < 2 ^ 64) (some : done Q A ≡ false) where
+module _ {Q : Problem} {leads : List ℕ} (ps : Packs Q leads) (A : ℕ) (w64 : A < 2 ^ 64) (some : done Q A ≡ false) where
   -- a package with another lead is no candidate
   other : (q k : ℕ) → k ≡ q + 1 → (leadOf Q k ≡ lead Q A → ⊥) → fits Q A q ≡ false
   unfolding leadOf
@@ -132,32 +132,33 @@ module _ {Q : Problem} {first after : List ℕ} (ps : Packs Q first after) (A : 
   unfit : (q : ℕ) → insideb (row Q q) A ≡ false → fits Q A q ≡ false
   unfit q i = is-false (fits Q A q) (λ e. never (fits-inside Q A q e) i)
 
-  head : Last (leadOf Q) 1 (lead Q A) (length (Q .packages) + 1) (getD first (lead Q A) 0)
-  head = ps .index .at-heads (lead Q A) (omega (arith, ps .first-long, lead-lt Q A some w64))
+  head : Last (leadOf Q) 1 (lead Q A) (length (Q .packages) + 1) (getD leads (lead Q A) 0)
+  head = ps .chain .at-head (lead Q A) (omega (arith, lead-lt Q A some w64))
 
-  pub at-first : At Q A (getD first (lead Q A) 0)
+  pub at-first : At Q A (getD leads (lead Q A) 0)
   at-first = record { inside = omega (arith, head .below); own = λ h. head .own h .1 }
 
   module _ (p k : ℕ) (e : p ≡ k + 1) (a : At Q A p) where
-    next-last : Last (leadOf Q) 1 (lead Q A) p (getD after (k + 1) 0)
+    next-last : Last (leadOf Q) 1 (lead Q A) p (getD leads (k + 66) 0)
     next-last =
-        subst (λ (i : ℕ). Last (leadOf Q) 1 (lead Q A) p (getD after i 0)) e
-        (subst (λ (h : ℕ). Last (leadOf Q) 1 h p (getD after p 0)) (a .own (omega arith)) (ps .index .at-next p (omega arith) (omega (arith, a .inside))))
+        let z : 65 + p ≡ k + 66 = omega arith in
+        subst (λ (i : ℕ). Last (leadOf Q) 1 (lead Q A) p (getD leads i 0)) z
+        (subst (λ (h : ℕ). Last (leadOf Q) 1 h p (getD leads (65 + p) 0)) (a .own (omega arith)) (ps .chain .at-next p (omega arith) (omega (arith, a .inside))))
 
-    pub at-falls : getD after (k + 1) 0 < p
+    pub at-falls : getD leads (k + 66) 0 < p
     at-falls = next-last .below
 
-    pub at-later : At Q A (getD after (k + 1) 0)
+    pub at-later : At Q A (getD leads (k + 66) 0)
     at-later = record { inside = omega (arith, at-falls, a .inside); own = λ h. next-last .own h .1 }
 
     pub at-fits : insideb (row Q k) A ≡ true → fits Q A k ≡ true
     at-fits i = fit k p e (omega (arith, a .inside)) (a .own (omega arith)) i
 
   module _ {P limit : ℕ} {t₀ memo₀ : List ℕ} {n₀ : ℕ} {b₀ : Bool} where
-    module _ {t heads next memo : List ℕ} {l n : ℕ} {b : Bool} where
+    module _ {t index memo : List ℕ} {l n : ℕ} {b : Bool} where
       -- the numbers from m to k are no candidates
       turn-skip : (d m k : ℕ) → k ≡ d + m → ((q : ℕ) → m ≤ q → q < k → fits Q A q ≡ false)
-          → Turn Q P A limit t₀ memo₀ n₀ b₀ t heads next memo k l n b → Turn Q P A limit t₀ memo₀ n₀ b₀ t heads next memo m l n b
+          → Turn Q P A limit t₀ memo₀ n₀ b₀ t index memo k l n b → Turn Q P A limit t₀ memo₀ n₀ b₀ t index memo m l n b
       turn-skip d m k e f u = record {
         grown = u .grown;
         indexed = u .indexed;
@@ -169,22 +170,22 @@ module _ {Q : Problem} {first after : List ℕ} (ps : Packs Q first after) (A : 
       }
 
       -- on to the next entry
-      pub turn-later : (p k : ℕ) → p ≡ k + 1 → At Q A p → Turn Q P A limit t₀ memo₀ n₀ b₀ t heads next memo k l n b
-          → Turn Q P A limit t₀ memo₀ n₀ b₀ t heads next memo (getD after (k + 1) 0) l n b
+      pub turn-later : (p k : ℕ) → p ≡ k + 1 → At Q A p → Turn Q P A limit t₀ memo₀ n₀ b₀ t index memo k l n b
+          → Turn Q P A limit t₀ memo₀ n₀ b₀ t index memo (getD leads (k + 66) 0) l n b
       turn-later p k e a u =
-          turn-skip (k - getD after (k + 1) 0) (getD after (k + 1) 0) k (omega (arith, at-falls p k e a))
+          turn-skip (k - getD leads (k + 66) 0) (getD leads (k + 66) 0) k (omega (arith, at-falls p k e a))
           (λ q x y. other q (q + 1) refl (λ z. next-last p k e a .gap (q + 1) (omega arith) (omega arith) (omega arith) z)) u
 
       -- k does not lie inside A
       pub turn-pass : (p k : ℕ) → p ≡ k + 1 → At Q A p → insideb (row Q k) A ≡ false
-          → Turn Q P A limit t₀ memo₀ n₀ b₀ t heads next memo p l n b → Turn Q P A limit t₀ memo₀ n₀ b₀ t heads next memo (getD after (k + 1) 0) l n b
+          → Turn Q P A limit t₀ memo₀ n₀ b₀ t index memo p l n b → Turn Q P A limit t₀ memo₀ n₀ b₀ t index memo (getD leads (k + 66) 0) l n b
       turn-pass p k e a i u =
           turn-later p k e a (turn-skip 1 k p (omega arith) (λ q x y. let z : q ≡ k = omega arith in ap (fits Q A) z ∙ unfit k i) u)
 
       -- search met the limit
-      pub turn-over : (p k B : ℕ) {t′ heads′ next′ memo′ : List ℕ} {h n′ : ℕ} {b′ over : Bool} → p ≡ k + 1 → At Q A p → insideb (row Q k) A ≡ true → B ≡ without A (row Q k) → over ≡ true
-          → Turn Q P A limit t₀ memo₀ n₀ b₀ t heads next memo p l n b → Explored (search Q P B) Q P B limit t memo n b t′ heads′ next′ memo′ h n′ b′ over
-          → Explored (tried Q P A) Q P A limit t₀ memo₀ n₀ b₀ t′ heads′ next′ memo′ h n′ b′ over
+      pub turn-over : (p k B : ℕ) {t′ index′ memo′ : List ℕ} {h n′ : ℕ} {b′ over : Bool} → p ≡ k + 1 → At Q A p → insideb (row Q k) A ≡ true → B ≡ without A (row Q k) → over ≡ true
+          → Turn Q P A limit t₀ memo₀ n₀ b₀ t index memo p l n b → Explored (search Q P B) Q P B limit t memo n b t′ index′ memo′ h n′ b′ over
+          → Explored (tried Q P A) Q P A limit t₀ memo₀ n₀ b₀ t′ index′ memo′ h n′ b′ over
       turn-over p k B e a i z o u d = record {
         grown = grown-trans (u .grown) (d .grown);
         indexed = d .indexed;
@@ -204,8 +205,8 @@ module _ {Q : Problem} {first after : List ℕ} (ps : Packs Q first after) (A : 
       }
 
       -- search gave h
-      module _ (p k B : ℕ) {t′ heads′ next′ memo′ : List ℕ} {h n′ : ℕ} {b′ over : Bool} (e : p ≡ k + 1) (a : At Q A p) (i : insideb (row Q k) A ≡ true) (z : B ≡ without A (row Q k)) (o : over ≡ false)
-          (u : Turn Q P A limit t₀ memo₀ n₀ b₀ t heads next memo p l n b) (d : Explored (search Q P B) Q P B limit t memo n b t′ heads′ next′ memo′ h n′ b′ over) where
+      module _ (p k B : ℕ) {t′ index′ memo′ : List ℕ} {h n′ : ℕ} {b′ over : Bool} (e : p ≡ k + 1) (a : At Q A p) (i : insideb (row Q k) A ≡ true) (z : B ≡ without A (row Q k)) (o : over ≡ false)
+          (u : Turn Q P A limit t₀ memo₀ n₀ b₀ t index memo p l n b) (d : Explored (search Q P B) Q P B limit t memo n b t′ index′ memo′ h n′ b′ over) where
         cap : capacity t ≡ capacity t₀
         cap = same-capacity t t₀ (u .grown .long)
 
@@ -226,7 +227,7 @@ module _ {Q : Problem} {first after : List ℕ} (ps : Packs Q first after) (A : 
             (sub Q P A k v, (subst (λ (C : ℕ). Is P (search Q P C v) n′ memo′) z (d .walk o v (x .1 .0)), x .1 .1 ∙ ap (λ (j : ℕ). onward Q P A j v) q ∙ onward-take Q P A k v (at-fits p k e a i)))
 
         -- no cover begins with k
-        pub turn-none : h ≡ 0 → Turn Q P A limit t₀ memo₀ n₀ b₀ t′ heads′ next′ memo′ k l n′ b′
+        pub turn-none : h ≡ 0 → Turn Q P A limit t₀ memo₀ n₀ b₀ t′ index′ memo′ k l n′ b′
         turn-none y = record {
           grown = grown-trans (u .grown) (d .grown);
           indexed = d .indexed;
@@ -242,7 +243,7 @@ module _ {Q : Problem} {first after : List ℕ} (ps : Packs Q first after) (A : 
         still-known = omega (arith, u .trial .got .known, length-nodes t, grown-more (d .grown))
 
         -- the flag is up: nothing is made
-        pub turn-idle : b′ ≡ true → Turn Q P A limit t₀ memo₀ n₀ b₀ t′ heads′ next′ memo′ k l n′ b′
+        pub turn-idle : b′ ≡ true → Turn Q P A limit t₀ memo₀ n₀ b₀ t′ index′ memo′ k l n′ b′
         turn-idle y = record {
           grown = grown-trans (u .grown) (d .grown);
           indexed = d .indexed;
@@ -278,10 +279,10 @@ module _ {Q : Problem} {first after : List ℕ} (ps : Packs Q first after) (A : 
               }
 
           -- the node is found or made, or there is no room
-          pub turn-made : (j r : ℕ) {t″ heads″ next″ : List ℕ} → j ≡ k → Unique t′ t″ heads″ next″ (node j l h) r
-              → Turn Q P A limit t₀ memo₀ n₀ b₀ t″ heads″ next″ memo′ k r n′ (eqb r 0)
-          turn-made j r {t″} {heads″} {next″} x m =
-              let made : Made (keysOf Q) t′ t″ heads″ next″ (node k l h) r = subst (λ (i : ℕ). Unique t′ t″ heads″ next″ (node i l h) r) x m (keysOf Q) may in
+          pub turn-made : (j r : ℕ) {t″ index″ : List ℕ} → j ≡ k → Unique t′ t″ index″ (node j l h) r
+              → Turn Q P A limit t₀ memo₀ n₀ b₀ t″ index″ memo′ k r n′ (eqb r 0)
+          turn-made j r {t″} {index″} x m =
+              let made : Made (keysOf Q) t′ t″ index″ (node k l h) r = subst (λ (i : ℕ). Unique t′ t″ index″ (node i l h) r) x m (keysOf Q) may in
               let g : Got (keysOf Q) (capacity t₀) (nodesOf t′) b′ r (nodesOf t″) (eqb r 0) (fork k (family (nodesOf t′) h) (family (nodesOf t′) l)) =
               subst⁻¹ (λ (c : Bool). Got (keysOf Q) (capacity t₀) (nodesOf t′) c r (nodesOf t″) (eqb r 0) (fork k (family (nodesOf t′) h) (family (nodesOf t′) l))) y
               (made-got made (capacity t₀) (sym (same-capacity t′ t₀ (d .grown .long ∙ u .grown .long)))) in
@@ -296,8 +297,8 @@ module _ {Q : Problem} {first after : List ℕ} (ps : Packs Q first after) (A : 
               }
 
       -- every package is tried, and the answer is stored
-      pub turn-done : (p j : ℕ) {over : Bool} → over ≡ false → p ≡ 0 → j ≡ A % P → Turn Q P A limit t₀ memo₀ n₀ b₀ t heads next memo p l n b
-          → Explored (tried Q P A) Q P A limit t₀ memo₀ n₀ b₀ t heads next (set (set memo (2 * j) A) (2 * j + 1) l) l n b over
+      pub turn-done : (p j : ℕ) {over : Bool} → over ≡ false → p ≡ 0 → j ≡ A % P → Turn Q P A limit t₀ memo₀ n₀ b₀ t index memo p l n b
+          → Explored (tried Q P A) Q P A limit t₀ memo₀ n₀ b₀ t index (set (set memo (2 * j) A) (2 * j + 1) l) l n b over
       turn-done p j o z q u =
           let g : Got (keysOf Q) (capacity t₀) (nodesOf t₀) b₀ l (nodesOf t) b (covering Q A) =
           trial-end Q (ps .rows) A w64 some l (subst (λ (m : ℕ). Trial Q A (capacity t₀) (nodesOf t₀) b₀ m l (nodesOf t) b) z (u .trial)) in
@@ -318,10 +319,10 @@ module _ {Q : Problem} {first after : List ℕ} (ps : Packs Q first after) (A : 
           }
 
     -- nothing is tried yet
-    pub turn-start : {heads next : List ℕ} → Searchable Q P t₀ heads next memo₀ b₀ → n₀ ≤ limit
-        → Turn Q P A limit t₀ memo₀ n₀ b₀ t₀ heads next memo₀ (getD first (lead Q A) 0) 0 n₀ b₀
+    pub turn-start : {index : List ℕ} → Searchable Q P t₀ index memo₀ b₀ → n₀ ≤ limit
+        → Turn Q P A limit t₀ memo₀ n₀ b₀ t₀ index memo₀ (getD leads (lead Q A) 0) 0 n₀ b₀
     turn-start r h =
-        turn-skip (length (Q .packages) - getD first (lead Q A) 0) (getD first (lead Q A) 0) (length (Q .packages)) (omega (arith, head .below))
+        turn-skip (length (Q .packages) - getD leads (lead Q A) 0) (getD leads (lead Q A) 0) (length (Q .packages)) (omega (arith, head .below))
         (λ q x y. other q (q + 1) refl (λ z. head .gap (q + 1) (omega arith) (omega arith) (omega arith) z))
         (record {
           grown = grown-refl (r .sound);

@@ -20,11 +20,10 @@ use Rattle.table.specs.State.{Grown, Indexed, Obtained}
 unfoldable pub leadOf : Problem → ℕ → ℕ
 leadOf Q p = lead Q (row Q (p - 1))
 
-pub record Packs (Q : Problem) (first after : List ℕ) : Type 0 where
+pub record Packs (Q : Problem) (leads : List ℕ) : Type 0 where
   pub rows : Rows Q
-  pub first-long : length first ≡ 65
-  pub after-long : length after ≡ 513
-  pub index : Index (leadOf Q) 1 (length (Q .packages) + 1) first after
+  pub long : length leads ≡ 578
+  pub chain : Index (leadOf Q) 1 65 (length (Q .packages) + 1) leads
 
 -- ---- the memo: place j has its key in word 2 j (0 where it is empty) and its number in the next
 
@@ -36,9 +35,9 @@ pub record Held (Q : Problem) (P : ℕ) (t memo : List ℕ) (b : Bool) : Type 0 
   pub right : b ≡ false → (j : ℕ) → j < P → 0 < getD memo (2 * j) 0 → family (nodesOf t) (getD memo (2 * j + 1) 0) ≡ covering Q (getD memo (2 * j) 0)
 
 -- a table, its index and the memo, as search asks for them
-pub record Searchable (Q : Problem) (P : ℕ) (t heads next memo : List ℕ) (b : Bool) : Type 0 where
+pub record Searchable (Q : Problem) (P : ℕ) (t index memo : List ℕ) (b : Bool) : Type 0 where
   pub sound : Sound (keysOf Q) t
-  pub indexed : Indexed t heads next
+  pub indexed : Indexed t index
   pub held : Held Q P t memo b
 
 -- ---- the walk
@@ -54,9 +53,9 @@ abbrev pub tried : Problem → ℕ → ℕ → Walk → Walk
 tried Q P A w = store P A (each (λ (p : ℕ). search Q P (without A (row Q p))) (candidates Q A) w)
 
 -- ---- what search and trial of A ensure: n entries and the flag b before, n′ and b′ after, f the walk's step
-pub record Explored (f : Walk → Walk) (Q : Problem) (P A limit : ℕ) (t memo : List ℕ) (n : ℕ) (b : Bool) (t′ heads′ next′ memo′ : List ℕ) (a n′ : ℕ) (b′ over : Bool) : Type 0 where
+pub record Explored (f : Walk → Walk) (Q : Problem) (P A limit : ℕ) (t memo : List ℕ) (n : ℕ) (b : Bool) (t′ index′ memo′ : List ℕ) (a n′ : ℕ) (b′ over : Bool) : Type 0 where
   pub grown : Grown (keysOf Q) t t′
-  pub indexed : Indexed t′ heads′ next′
+  pub indexed : Indexed t′ index′
   pub same : length memo′ ≡ length memo
   -- the limit was not met: the covers of A are got, and the entries and the memo's keys are those of the walk
   pub held : over ≡ false → Held Q P t′ memo′ b′
@@ -66,27 +65,26 @@ pub record Explored (f : Walk → Walk) (Q : Problem) (P A limit : ℕ) (t memo 
   -- it was met: the walk exceeds it
   pub spent : over ≡ true → (w : Walk) → Is P w n memo → limit < f w .entered
 
-abbrev pub Searched : Problem → ℕ → ℕ → ℕ → List ℕ → List ℕ → ℕ → Bool → List ℕ → List ℕ → List ℕ → List ℕ → ℕ → ℕ → Bool → Bool → Type 0
+abbrev pub Searched : Problem → ℕ → ℕ → ℕ → List ℕ → List ℕ → ℕ → Bool → List ℕ → List ℕ → List ℕ → ℕ → ℕ → Bool → Bool → Type 0
 Searched Q P A = Explored (search Q P A) Q P A
 
-abbrev pub Tried : Problem → ℕ → ℕ → ℕ → List ℕ → List ℕ → ℕ → Bool → List ℕ → List ℕ → List ℕ → List ℕ → ℕ → ℕ → Bool → Bool → Type 0
+abbrev pub Tried : Problem → ℕ → ℕ → ℕ → List ℕ → List ℕ → ℕ → Bool → List ℕ → List ℕ → List ℕ → ℕ → ℕ → Bool → Bool → Type 0
 Tried Q P A = Explored (tried Q P A) Q P A
 
 -- ---- the whole
 
--- the arrays of the package index before the first package joins. (What after holds does not matter.)
-pub record NoPacks (first after : List ℕ) : Type 0 where
-  pub first-long : length first ≡ 65
-  pub after-long : length after ≡ 513
-  pub zero : (h : ℕ) → getD first h 0 ≡ 0
+-- the package index before the first package joins
+pub record NoPacks (leads : List ℕ) : Type 0 where
+  pub long : length leads ≡ 578
+  pub zero : (h : ℕ) → getD leads h 0 ≡ 0
 
 -- the answer a, after n steps and with m nodes made
-pub record CoverFound (Q : Problem) (P A : ℕ) (t t′ heads′ next′ : List ℕ) (a n m : ℕ) : Type 0 where
-  pub got : Obtained (keysOf Q) t t′ heads′ next′ a (covering Q A)
+pub record CoverFound (Q : Problem) (P A : ℕ) (t t′ index′ : List ℕ) (a n m : ℕ) : Type 0 where
+  pub got : Obtained (keysOf Q) t t′ index′ a (covering Q A)
   pub counted : n ≡ steps Q P A
   pub exactly : m ≡ missing (nodesOf t) (covering Q A)
 
-pub record Covered (Q : Problem) (P A limit : ℕ) (t t′ heads′ next′ : List ℕ) (a n m : ℕ) (full over : Bool) : Type 0 where
+pub record Covered (Q : Problem) (P A limit : ℕ) (t t′ index′ : List ℕ) (a n m : ℕ) (full over : Bool) : Type 0 where
   -- spent is said exactly where the steps exceed the limit
   pub spent : over ≡ ltb limit (steps Q P A)
   -- otherwise full exactly where what is missing exceeds the free places
@@ -94,7 +92,7 @@ pub record Covered (Q : Problem) (P A limit : ℕ) (t t′ heads′ next′ : Li
   -- then the table is as it was
   pub back : over ≡ true → t′ ≡ t
   pub back-full : full ≡ true → t′ ≡ t
-  pub answer : over ≡ false → full ≡ false → CoverFound Q P A t t′ heads′ next′ a n m
+  pub answer : over ≡ false → full ≡ false → CoverFound Q P A t t′ index′ a n m
 
 -- no place of the memo has a key
 abbrev pub Unkeyed : ℕ → List ℕ → Type 0

@@ -2,8 +2,8 @@
 //
 // Search of an item set and trial of its packages call each other: a trial searches a smaller set, and has fewer packages left after it.
 //
-// What the functions are lent: packs, the packages' items; first and after, the packages by lowest item (entry p is package p - 1, and 0 is none);
-// t, the node table, with heads and next, its index; memo, with `places` places of two words: an item set (0 where the place is empty) and the
+// What the functions are lent: packs, the packages' items; leads, the packages by lowest item, in 65 buckets (entry p is package p - 1, and 0 is none);
+// t, the node table, with its index; memo, with `places` places of two words: an item set (0 where the place is empty) and the
 // number of its covers. limit is document 01's B. Steps depend on the item sets alone, so a search that finds no room in the table goes on, makes
 // nothing more, and its count of steps stays right: spent is told before full.
 ghost use mathlib.Core.Path.{_≡_};
@@ -35,22 +35,20 @@ fn place(items: u64, places: usize) -> usize
 // The covers of the items. Each call is one entry, and counts, unless the limit is met.
 fn search(
     packs: &[u64],
-    first: &[u32; 65],
-    after: &[u32; 513],
+    leads: &[u16; 578],
     t: &mut [u32],
-    heads: &mut [u32; 65536],
-    next: &mut [u32; 65536],
+    index: &mut [u16; 131072],
     memo: &mut [u64],
     places: usize,
     items: u64,
     limit: u64,
     start: Run,
 ) -> Run
-    requires { ⌜ Packs (problemOf (now packs)) (now first) (now after) ⌝ }
-    requires { ⌜ Searchable (problemOf (now packs)) places (now t) (now heads) (now next) (now memo) (start .full) ⌝ }
+    requires { ⌜ Packs (problemOf (now packs)) (now leads) ⌝ }
+    requires { ⌜ Searchable (problemOf (now packs)) places (now t) (now index) (now memo) (start .full) ⌝ }
     requires { ⌜ start .steps ≤ limit ⌝ }
     ensures { λ r. ⌜ Searched (problemOf (now (packs .entry))) places items limit (now (t .entry)) (now (memo .entry)) (start .steps) (start .full)
-        (now (t .exit)) (now (heads .exit)) (now (next .exit)) (now (memo .exit)) (r .answer) (r .steps) (r .full) (r .over) ⌝ }
+        (now (t .exit)) (now (index .exit)) (now (memo .exit)) (r .answer) (r .steps) (r .full) (r .over) ⌝ }
 {
     let steps = start.steps;
     let full = start.full;
@@ -82,11 +80,9 @@ fn search(
     }
     trial(
         packs,
-        first,
-        after,
+        leads,
         t,
-        heads,
-        next,
+        index,
         memo,
         places,
         at,
@@ -105,11 +101,9 @@ fn search(
 // the answer goes into the memo, at the items' place.
 fn trial(
     packs: &[u64],
-    first: &[u32; 65],
-    after: &[u32; 513],
+    leads: &[u16; 578],
     t: &mut [u32],
-    heads: &mut [u32; 65536],
-    next: &mut [u32; 65536],
+    index: &mut [u16; 131072],
     memo: &mut [u64],
     places: usize,
     at: usize,
@@ -117,15 +111,15 @@ fn trial(
     limit: u64,
     start: Run,
 ) -> Run
-    requires { ⌜ Packs (problemOf (now packs)) (now first) (now after) ⌝ }
-    requires { ⌜ Searchable (problemOf (now packs)) places (now t) (now heads) (now next) (now memo) (start .full) ⌝ }
+    requires { ⌜ Packs (problemOf (now packs)) (now leads) ⌝ }
+    requires { ⌜ Searchable (problemOf (now packs)) places (now t) (now index) (now memo) (start .full) ⌝ }
     requires { ⌜ start .steps ≤ limit ⌝ }
     requires { ⌜ (done (problemOf (now packs)) items ≡ false) × (at ≡ items % places) ⌝ }
     ensures { λ r. ⌜ Tried (problemOf (now (packs .entry))) places items limit (now (t .entry)) (now (memo .entry)) (start .steps) (start .full)
-        (now (t .exit)) (now (heads .exit)) (now (next .exit)) (now (memo .exit)) (r .answer) (r .steps) (r .full) (r .over) ⌝ }
+        (now (t .exit)) (now (index .exit)) (now (memo .exit)) (r .answer) (r .steps) (r .full) (r .over) ⌝ }
 {
     let low = base::wide(itemset::lowest(items));
-    let mut p = first[low];
+    let mut p = leads[low];
     let mut run = Run {
         answer: 0,
         steps: start.steps,
@@ -133,28 +127,16 @@ fn trial(
         over: false,
     };
     while p != 0 {
-        let label = p - 1;
+        let label = (p - 1) as u32;
         let k = base::wide(label);
         let pack = packs[k];
-        let later = after[k + 1];
+        let later = leads[k + 66];
         if !itemset::inside(pack, items) {
             p = later;
             continue;
         }
         let rest = itemset::without(items, pack);
-        let r = search(
-            packs,
-            first,
-            after,
-            t,
-            heads,
-            next,
-            memo,
-            places,
-            rest,
-            limit,
-            run,
-        );
+        let r = search(packs, leads, t, index, memo, places, rest, limit, run);
         if r.over {
             return r;
         }
@@ -168,7 +150,7 @@ fn trial(
         if r.full {
             continue;
         }
-        let z = table::unique(t, heads, next, label, run.answer, y);
+        let z = table::unique(t, index, label, run.answer, y);
         run.answer = z;
         run.full = z == 0;
     }
@@ -178,15 +160,15 @@ fn trial(
 }
 
 // Every package goes into the index by lowest item.
-fn enlist(packs: &[u64], first: &mut [u32; 65], after: &mut [u32; 513])
+fn enlist(packs: &[u64], leads: &mut [u16; 578])
     requires { ⌜ Rows (problemOf (now packs)) ⌝ }
-    requires { ⌜ NoPacks (now first) (now after) ⌝ }
-    ensures { λ _. ⌜ Packs (problemOf (now (packs .entry))) (now (first .exit)) (now (after .exit)) ⌝ }
+    requires { ⌜ NoPacks (now leads) ⌝ }
+    ensures { λ _. ⌜ Packs (problemOf (now (packs .entry))) (now (leads .exit)) ⌝ }
 {
     let mut k: usize = 0;
     while k < packs.len() {
         let low = base::wide(itemset::lowest(packs[k]));
-        buckets::insert(first, after, low, (k + 1) as u32);
+        buckets::insert(leads, 65, low, (k + 1) as u16);
         k += 1;
     }
 }
@@ -194,21 +176,19 @@ fn enlist(packs: &[u64], first: &mut [u32; 65], after: &mut [u32; 513])
 // The covers of the items: search with a memo that holds nothing. (It calls trial, so that search has one caller and is compiled into it.)
 fn begin(
     packs: &[u64],
-    first: &[u32; 65],
-    after: &[u32; 513],
+    leads: &[u16; 578],
     t: &mut [u32],
-    heads: &mut [u32; 65536],
-    next: &mut [u32; 65536],
+    index: &mut [u16; 131072],
     memo: &mut [u64],
     places: usize,
     items: u64,
     limit: u64,
 ) -> Run
-    requires { ⌜ Packs (problemOf (now packs)) (now first) (now after) ⌝ }
-    requires { ⌜ Searchable (problemOf (now packs)) places (now t) (now heads) (now next) (now memo) false ⌝ }
+    requires { ⌜ Packs (problemOf (now packs)) (now leads) ⌝ }
+    requires { ⌜ Searchable (problemOf (now packs)) places (now t) (now index) (now memo) false ⌝ }
     requires { ⌜ Unkeyed places (now memo) ⌝ }
     ensures { λ r. ⌜ Searched (problemOf (now (packs .entry))) places items limit (now (t .entry)) (now (memo .entry)) 0 false
-        (now (t .exit)) (now (heads .exit)) (now (next .exit)) (now (memo .exit)) (r .answer) (r .steps) (r .full) (r .over) ⌝ }
+        (now (t .exit)) (now (index .exit)) (now (memo .exit)) (r .answer) (r .steps) (r .full) (r .over) ⌝ }
 {
     if limit == 0 {
         return Run {
@@ -229,11 +209,9 @@ fn begin(
     let at = place(items, places);
     trial(
         packs,
-        first,
-        after,
+        leads,
         t,
-        heads,
-        next,
+        index,
         memo,
         places,
         at,
@@ -262,37 +240,24 @@ pub struct Answer {
 pub fn cover(
     packs: &[u64],
     t: &mut [u32],
-    heads: &mut [u32; 65536],
-    next: &mut [u32; 65536],
+    index: &mut [u16; 131072],
     memo: &mut [u64],
     items: u64,
     limit: u64,
 ) -> Answer
     requires { ⌜ Rows (problemOf (now packs)) ⌝ }
     requires { ⌜ Sound (keysOf (problemOf (now packs))) (now t) ⌝ }
-    requires { ⌜ Indexed (now t) (now heads) (now next) ⌝ }
+    requires { ⌜ Indexed (now t) (now index) ⌝ }
     requires { ⌜ 2 ≤ length (now memo) ⌝ }
     ensures { λ r. ⌜ Covered (problemOf (now (packs .entry))) (length (now (memo .entry)) / 2) items limit (now (t .entry))
-        (now (t .exit)) (now (heads .exit)) (now (next .exit)) (r .answer) (r .steps) (r .made) (r .full) (r .over) ⌝ }
+        (now (t .exit)) (now (index .exit)) (r .answer) (r .steps) (r .made) (r .full) (r .over) ⌝ }
 {
     let places = memo.len() / 2;
-    let mut first = [0u32; 65];
-    let mut after = [0u32; 513];
-    enlist(packs, &mut first, &mut after);
+    let mut leads = [0u16; 578];
+    enlist(packs, &mut leads);
     base::clear(memo);
     let n = t[0];
-    let r = begin(
-        packs,
-        &first,
-        &after,
-        t,
-        heads,
-        next,
-        memo,
-        places,
-        items,
-        limit,
-    );
+    let r = begin(packs, &leads, t, index, memo, places, items, limit);
     if r.over {
         table::rollback(t, n);
         return Answer {

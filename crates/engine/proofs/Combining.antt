@@ -50,8 +50,8 @@ second-unknown t a b h = go (unknownAnswer t a) (answer-unknown t b h)
 
 -- ---- admitted
 
-module _ {Q : Problem} {t keys heads next : List ℕ} (g : Usable Q t keys heads next) where
-  pub ready : Operable (take (length (Q .packages)) keys) t heads next
+module _ {Q : Problem} {t keys index : List ℕ} (g : Usable Q t keys index) where
+  pub ready : Operable (take (length (Q .packages)) keys) t index
   ready = rw (g .keyed .are) (record { keys = g .apart; sound = g .sound; indexed = g .indexed })
 
   pub keys-fit : length (Q .packages) ≤ length keys
@@ -63,13 +63,13 @@ module _ {Q : Problem} {t keys heads next : List ℕ} (g : Usable Q t keys heads
 -- ---- the whole call
 
 -- refused by 1, 2 or 4
-pub call-refused : {Q : Problem} {m : ℕ} {t keys heads next : List ℕ} {k : ℕ} {r : Report} (c : Call) (words : ℕ)
-    → Admitted Q m t keys heads next k → (k ≡ 0 → ⊥) → Declined k t r t → AnswerPost Q m t c words r t
+pub call-refused : {Q : Problem} {m : ℕ} {t keys index : List ℕ} {k : ℕ} {r : Report} (c : Call) (words : ℕ)
+    → Admitted Q m t keys index k → (k ≡ 0 → ⊥) → Declined k t r t → AnswerPost Q m t c words r t
 unfolding callRefusal
 call-refused {k = k} c words o f d = refused-makes k (admit-refused _ o f) f d
 
 -- otherwise its own tests and its work make the call's contract
-pub call-makes : {Q : Problem} {m : ℕ} {t keys heads next : List ℕ} {r : Report} {t′ : List ℕ} {c : Call} (d : Call) (words : ℕ) → Fit Q m → Usable Q t keys heads next → c ≡ d
+pub call-makes : {Q : Problem} {m : ℕ} {t keys index : List ℕ} {r : Report} {t′ : List ℕ} {c : Call} (d : Call) (words : ℕ) → Fit Q m → Usable Q t keys index → c ≡ d
     → Makes (keysOf Q) (firstOf (callTests Q m t d words)) (familyOf Q t d) (stepsOf Q d words) t r t′ → AnswerPost Q m t c words r t′
 unfolding callRefusal
 call-makes {Q} {m} {t} {r = r} {t′} d words f g e w =
@@ -81,7 +81,7 @@ same-call Q m t words {r} {t′} e w = subst⁻¹ (λ (x : Call). AnswerPost Q m
 
 -- ---- the calls of one shape
 
-module _ {Q : Problem} {m : ℕ} {t keys heads next : List ℕ} (f : Fit Q m) (g : Usable Q t keys heads next) (a b words : ℕ) {r : Report} {t′ : List ℕ} where
+module _ {Q : Problem} {m : ℕ} {t keys index : List ℕ} (f : Fit Q m) (g : Usable Q t keys index) (a b words : ℕ) {r : Report} {t′ : List ℕ} where
   pub pair-makes : (op : ℕ) → let F : Family = combined op (keysOf Q) (familyAt t a) (familyAt t b) in
       Makes (keysOf Q) (firstOf (pairTests t a b F words)) F 0 t r t′ → AnswerPost Q m t (pairCall op a b) words r t′
   pair-makes zero w = call-makes (Either a b) words f g refl w
@@ -96,7 +96,7 @@ module _ {Q : Problem} {m : ℕ} {t keys heads next : List ℕ} (f : Fit Q m) (g
 -- ---- what the inner function gave, and what is reported of it
 
 -- no test holds, and the number of the answer was got
-pub answers : {K t t′ heads′ next′ : List ℕ} {n k s : ℕ} {F : Family} {r : Report} → n ≡ 0 → Obtained K t t′ heads′ next′ k F
+pub answers : {K t t′ index′ : List ℕ} {n k s : ℕ} {F : Family} {r : Report} → n ≡ 0 → Obtained K t t′ index′ k F
     → outcomeReply (r .outcome) ≡ gives k → r .steps ≡ s → r .made ≡ missing (nodesOf t) F → Makes K n F s t r t′
 answers {K} {t′ = t′} {k = k} z d out steps made = record {
   declined = λ l. absurd (omega (arith, z));
@@ -114,7 +114,7 @@ answers {K} {t′ = t′} {k = k} z d out steps made = record {
   };
 }
 
-module _ {K t t′ heads′ next′ : List ℕ} {k : ℕ} {F : Family} (f : Produced K t t′ heads′ next′ k F) where
+module _ {K t t′ index′ : List ℕ} {k : ℕ} {F : Family} (f : Produced K t t′ index′ k F) where
   -- the table still has its word 0
   pub makes-words : 0 < length t → 0 < length t′
   makes-words h = go (eq-or-lt-of-le (f .small))
@@ -126,7 +126,7 @@ module _ {K t t′ heads′ next′ : List ℕ} {k : ℕ} {F : Family} (f : Prod
   pub makes-more : k < 65536 → count t ≤ count t′
   makes-more h = omega (arith, f .done h .made)
 
-module _ {K t t′ heads′ next′ : List ℕ} {k : ℕ} {F : Family} {r : Report} (f : Produced K t t′ heads′ next′ k F) (w : Reported t′ (count t) k r) where
+module _ {K t t′ index′ : List ℕ} {k : ℕ} {F : Family} {r : Report} (f : Produced K t t′ index′ k F) (w : Reported t′ (count t) k r) where
   reported-full : k ≡ 65536 → Makes K (firstOf ((full t F, 10) ∷ [])) F 0 t r t′
   unfolding full
   reported-full e =

@@ -37,8 +37,8 @@ module _ (Q : Problem) (m : ℕ) (t : List ℕ) (d limit words : ℕ) where
   words-short e h = pass 7 _ (ap not e) ∙ hit 8 _ (too-few 2 words h)
 
 -- the search was done: 9, 10 or its answer
-module _ {Q : Problem} (m : ℕ) {t : List ℕ} {d limit : ℕ} (words : ℕ) {t′ heads′ next′ : List ℕ} {a n k : ℕ} {filled over : Bool} (e : belowb d m ≡ true)
-    (h : 2 ≤ words) (c : Covered Q (words / 2) d limit t t′ heads′ next′ a n k filled over) where
+module _ {Q : Problem} (m : ℕ) {t : List ℕ} {d limit : ℕ} (words : ℕ) {t′ index′ : List ℕ} {a n k : ℕ} {filled over : Bool} (e : belowb d m ≡ true)
+    (h : 2 ≤ words) (c : Covered Q (words / 2) d limit t t′ index′ a n k filled over) where
   so-far : firstOf (coverTests Q m t d limit words) ≡ firstOf ((over, 9) ∷ (full t (covering Q d), 10) ∷ [])
   unfolding unknownItem spent
   so-far = pass 7 _ (ap not e) ∙ pass 8 _ (enough 2 words h) ∙ rw (c .spent)

@@ -44,13 +44,13 @@ use Rattle.engine.specs.Opened.{openTests, pricedTests, Opened}
 use Rattle.guard.specs.Admitted.{Usable, Admitted}
 use Rattle.guard.proofs.GuardLaws.{admit-refused}
 
-module _ {Q : Problem} {t keys heads next : List ℕ} (g : Usable Q t keys heads next) where
+module _ {Q : Problem} {t keys index : List ℕ} (g : Usable Q t keys index) where
   pub readable : Readable t
   readable = record { keys = keysOf Q; sound = g .sound; few = omega (arith, length-keys Q, g .rows .few) }
 
 -- ---- refusals 1, 2, 4 and 5
 
-module _ {Q : Problem} {m : ℕ} {t keys heads next : List ℕ} {r : ℕ} (a : ℕ) (o : Admitted Q m t keys heads next r) where
+module _ {Q : Problem} {m : ℕ} {t keys index : List ℕ} {r : ℕ} (a : ℕ) (o : Admitted Q m t keys index r) where
   pub opened-refused : (r ≡ 0 → ⊥) → Opened (openTests Q m t a) Q t keys a r
   opened-refused f = record { says = sym (admit-refused _ o f); ready = λ z. absurd (f z) }
 
@@ -64,7 +64,7 @@ module _ {Q : Problem} {m : ℕ} {t keys heads next : List ℕ} {r : ℕ} (a : �
     pub opened-known : a < count t + 2 → Opened (openTests Q m t a) Q t keys a 0
     opened-known h = record {
       says = sym (passes _ ∙ pass 5 _ (answer-known t a h) ∙ none);
-      ready = λ z. record { heads = heads; next = next; usable = o .usable e; known = h };
+      ready = λ z. record { index = index; usable = o .usable e; known = h };
     }
 
 -- ---- the tests of the packages, in front of others and passed again

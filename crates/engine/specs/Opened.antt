@@ -23,9 +23,8 @@ pricedTests Q m C t a = packageTests Q m ((unpriced Q C, 3) ∷ knownTests Q t a
 
 -- the table is good, the keys are computed, and the table knows the answer
 pub record Known (Q : Problem) (t keys : List ℕ) (a : ℕ) : Type 0 where
-  pub heads : List ℕ
-  pub next : List ℕ
-  pub usable : Usable Q t keys heads next
+  pub index : List ℕ
+  pub usable : Usable Q t keys index
   pub known : a < count t + 2
 
 -- r is the refusal by the tests ts; where it is 0, none, the answer can be read

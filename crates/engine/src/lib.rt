@@ -31,9 +31,8 @@ pub fn check(m: u32, packages: &[u64], t: &[u32]) -> Soundness
     ensures { λ r. ⌜ CheckPost (problemOf (now (packages .entry))) m (now (t .entry)) r ⌝ }
 {
     let mut keys = [0u32; 512];
-    let mut heads = [0u32; 65536];
-    let mut next = [0u32; 65536];
-    let r = guard::admit(m, packages, t, &mut keys, &mut heads, &mut next);
+    let mut index = [0u16; 131072];
+    let r = guard::admit(m, packages, t, &mut keys, &mut index);
     if r != 0 {
         return Soundness::Refused(r);
     }
@@ -46,9 +45,8 @@ fn opened(m: u32, packages: &[u64], t: &[u32], answer: u32, keys: &mut [u32; 512
     ensures { λ r. ⌜ Opened (openTests (problemOf (now (packages .entry))) m (now (t .entry)) answer) (problemOf (now (packages .entry))) (now (t .entry))
         (now (keys .exit)) answer r ⌝ }
 {
-    let mut heads = [0u32; 65536];
-    let mut next = [0u32; 65536];
-    let r = guard::admit(m, packages, t, keys, &mut heads, &mut next);
+    let mut index = [0u16; 131072];
+    let r = guard::admit(m, packages, t, keys, &mut index);
     if r != 0 {
         return r;
     }
@@ -268,9 +266,8 @@ pub fn cover(
     ensures { λ r. ⌜ CoverPost (problemOf (now (packages .entry))) m (now (t .entry)) d limit (length (now (work .entry))) r (now (t .exit)) ⌝ }
 {
     let mut keys = [0u32; 512];
-    let mut heads = [0u32; 65536];
-    let mut next = [0u32; 65536];
-    let r = guard::admit(m, packages, t, &mut keys, &mut heads, &mut next);
+    let mut index = [0u16; 131072];
+    let r = guard::admit(m, packages, t, &mut keys, &mut index);
     if r != 0 {
         return statement::declined(r);
     }
@@ -280,7 +277,7 @@ pub fn cover(
     if work.len() / 2 == 0 {
         return statement::declined(8);
     }
-    let found = compile::cover(packages, t, &mut heads, &mut next, work, d, limit as u64);
+    let found = compile::cover(packages, t, &mut index, work, d, limit as u64);
     if found.over {
         return statement::declined(9);
     }
@@ -307,9 +304,8 @@ fn answer_pair(
     ensures { λ r. ⌜ AnswerPost (problemOf (now (packages .entry))) m (now (t .entry)) (pairCall op a b) (length (now (work .entry))) r (now (t .exit)) ⌝ }
 {
     let mut keys = [0u32; 512];
-    let mut heads = [0u32; 65536];
-    let mut next = [0u32; 65536];
-    let r = guard::admit(m, packages, t, &mut keys, &mut heads, &mut next);
+    let mut index = [0u16; 131072];
+    let r = guard::admit(m, packages, t, &mut keys, &mut index);
     if r != 0 {
         return statement::declined(r);
     }
@@ -324,7 +320,7 @@ fn answer_pair(
         return statement::declined(8);
     }
     let last = packages.len();
-    let k = family::combination(t, &keys[..last], &mut heads, &mut next, work, op, a, b);
+    let k = family::combination(t, &keys[..last], &mut index, work, op, a, b);
     report(t, n, k)
 }
 
@@ -341,9 +337,8 @@ fn answer_part(
     ensures { λ r. ⌜ AnswerPost (problemOf (now (packages .entry))) m (now (t .entry)) (partCall holding a p) (length (now (work .entry))) r (now (t .exit)) ⌝ }
 {
     let mut keys = [0u32; 512];
-    let mut heads = [0u32; 65536];
-    let mut next = [0u32; 65536];
-    let r = guard::admit(m, packages, t, &mut keys, &mut heads, &mut next);
+    let mut index = [0u16; 131072];
+    let r = guard::admit(m, packages, t, &mut keys, &mut index);
     if r != 0 {
         return statement::declined(r);
     }
@@ -358,7 +353,7 @@ fn answer_part(
         return statement::declined(8);
     }
     let last = packages.len();
-    let k = family::restriction(t, &keys[..last], &mut heads, &mut next, p, holding, a);
+    let k = family::restriction(t, &keys[..last], &mut index, p, holding, a);
     report(t, n, k)
 }
 

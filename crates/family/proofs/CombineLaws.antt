@@ -294,9 +294,9 @@ module _ {K t : List ℕ} (s : Sound K t) (k : Keys K) (f g : ℕ) (wf : f < cou
 pub remembered-fresh : (op : ℕ) (K : List ℕ) (ns : List Node) (memo : List ℕ) → 0 < length memo → ((i : ℕ) → getD memo i 0 ≡ 0) → Remembered op K ns memo
 remembered-fresh op K ns memo l z = record { some = l; each = λ i f g e h w. absurd (omega (arith, z i)) }
 
-pub remembered-grown : {op : ℕ} {K t t′ heads′ next′ memo : List ℕ} {r : ℕ} {F : Family} → Gives K t t′ heads′ next′ r F → r < 65536
+pub remembered-grown : {op : ℕ} {K t t′ index′ memo : List ℕ} {r : ℕ} {F : Family} → Gives K t t′ index′ r F → r < 65536
     → Remembered op K (nodesOf t) memo → Remembered op K (nodesOf t′) memo
-remembered-grown {op} {K} {t} {t′} {heads′} {next′} {memo} g h m = record {
+remembered-grown {op} {K} {t} {t′} {index′} {memo} g h m = record {
   some = m .some;
   each = λ i x y e z w.
       let a = m .each i x y e z w in (
@@ -354,7 +354,7 @@ remembered-stored {op} {K} {memo} {ns} at f g r v la ev lr lg wf wg a m = record
 abbrev pub joint : ℕ → List ℕ → List ℕ → ℕ → ℕ → Family
 joint op K t f g = combined op K (family (nodesOf t) f) (family (nodesOf t) g)
 
-pub pair-of : {K t heads next : List ℕ} {f g : ℕ} → Operable K t heads next → (f < count t + 2) × (g < count t + 2) → Pair K (nodesOf t) f g
+pub pair-of : {K t index : List ℕ} {f g : ℕ} → Operable K t index → (f < count t + 2) × (g < count t + 2) → Pair K (nodesOf t) f g
 pair-of {K} {t} y w = record {
   keys = y .keys;
   nodes = y .sound .nodes;
@@ -363,52 +363,52 @@ pair-of {K} {t} y w = record {
   right = omega (arith, w .1, length-nodes t);
 }
 
-pub ended-gives : {op : ℕ} {K t heads next memo : List ℕ} {f g r : ℕ} → Operable K t heads next → Remembered op K (nodesOf t) memo → (f < count t + 2) × (g < count t + 2)
+pub ended-gives : {op : ℕ} {K t index memo : List ℕ} {f g r : ℕ} → Operable K t index → Remembered op K (nodesOf t) memo → (f < count t + 2) × (g < count t + 2)
     → Ends op memo f g r → (r ≡ 65537 → ⊥)
-    → Gives K t t heads next r (joint op K t f g) × (r < 65536 → Remembered op K (nodesOf t) memo)
-ended-gives {op} {K} {t} {heads} {next} {memo} {f} {g} {r} y m w s d =
+    → Gives K t t index r (joint op K t f g) × (r < 65536 → Remembered op K (nodesOf t) memo)
+ended-gives {op} {K} {t} {index} {memo} {f} {g} {r} y m w s d =
     let x = s K (nodesOf t) (pair-of y w) m in
     let z : r < 65537 = omega (arith, x .small) in
     (gives-there (y .sound) (y .indexed) (x .answer z .0) (x .answer z .1), λ h. m)
 
-pub ends-two : {op : ℕ} {K t heads next memo : List ℕ} {f g r : ℕ} → Operable K t heads next → Remembered op K (nodesOf t) memo → (f < count t + 2) × (g < count t + 2)
+pub ends-two : {op : ℕ} {K t index memo : List ℕ} {f g r : ℕ} → Operable K t index → Remembered op K (nodesOf t) memo → (f < count t + 2) × (g < count t + 2)
     → Ends op memo f g r → r ≡ 65537 → Two f g
 ends-two {op} {K} {t} y m w s e = s K (nodesOf t) (pair-of y w) m .two e
 
-pub hi-known : {K t heads next : List ℕ} {f g p f1 g1 f0 g0 : ℕ} → Operable K t heads next → Cut K (nodesOf t) f g p f1 g1 f0 g0 → (f1 < count t + 2) × (g1 < count t + 2)
+pub hi-known : {K t index : List ℕ} {f g p f1 g1 f0 g0 : ℕ} → Operable K t index → Cut K (nodesOf t) f g p f1 g1 f0 g0 → (f1 < count t + 2) × (g1 < count t + 2)
 hi-known {K} {t} y c = (omega (arith, c .f1-known, length-nodes t), omega (arith, c .g1-known, length-nodes t))
 
-module _ (op : ℕ) {K t heads next : List ℕ} {f g : ℕ} (y : Operable K t heads next) (w : (f < count t + 2) × (g < count t + 2)) {p f1 g1 f0 g0 : ℕ} (c : Cut K (nodesOf t) f g p f1 g1 f0 g0)
-    {t1 heads1 next1 : List ℕ} {h : ℕ} (q1 : Gives K t t1 heads1 next1 h (joint op K t f1 g1)) where
+module _ (op : ℕ) {K t index : List ℕ} {f g : ℕ} (y : Operable K t index) (w : (f < count t + 2) × (g < count t + 2)) {p f1 g1 f0 g0 : ℕ} (c : Cut K (nodesOf t) f g p f1 g1 f0 g0)
+    {t1 index1 : List ℕ} {h : ℕ} (q1 : Gives K t t1 index1 h (joint op K t f1 g1)) where
   split-o : Split K (joint op K t f g) p (joint op K t f1 g1) (joint op K t f0 g0)
   split-o = c .split (opOf op) (off op)
 
-  pub hi-none : {memo1 : List ℕ} → h ≡ 65536 → Gives K t t1 heads1 next1 65536 (joint op K t f g) × (65536 < 65536 → Remembered op K (nodesOf t1) memo1)
+  pub hi-none : {memo1 : List ℕ} → h ≡ 65536 → Gives K t t1 index1 65536 (joint op K t f g) × (65536 < 65536 → Remembered op K (nodesOf t1) memo1)
   hi-none e = (step-none-hi split-o q1 e, λ z. absurd (omega arith))
 
-  pub hi-ready : Operable K t1 heads1 next1
+  pub hi-ready : Operable K t1 index1
   hi-ready = record { keys = y .keys; sound = q1 .sound; indexed = q1 .indexed }
 
   module _ (w1 : h < 65536) where
     pub lo-known : (f0 < count t1 + 2) × (g0 < count t1 + 2)
     lo-known = (omega (arith, c .f0-known, gives-more q1 w1, length-nodes t1), omega (arith, c .g0-known, gives-more q1 w1, length-nodes t1))
 
-    module _ {t0 heads0 next0 : List ℕ} {l : ℕ} (q0 : Gives K t1 t0 heads0 next0 l (joint op K t1 f0 g0)) where
-      p0 : Gives K t1 t0 heads0 next0 l (joint op K t f0 g0)
+    module _ {t0 index0 : List ℕ} {l : ℕ} (q0 : Gives K t1 t0 index0 l (joint op K t1 f0 g0)) where
+      p0 : Gives K t1 t0 index0 l (joint op K t f0 g0)
       p0 = gives-eq (ap₂ (combined op K) (gives-keeps q1 w1 f0 (c .f0-known)) (gives-keeps q1 w1 g0 (c .g0-known))) q0
 
-      pub lo-none : {memo0 : List ℕ} → l ≡ 65536 → Gives K t t0 heads0 next0 65536 (joint op K t f g) × (65536 < 65536 → Remembered op K (nodesOf t0) memo0)
+      pub lo-none : {memo0 : List ℕ} → l ≡ 65536 → Gives K t t0 index0 65536 (joint op K t f g) × (65536 < 65536 → Remembered op K (nodesOf t0) memo0)
       lo-none e = (step-none-lo split-o q1 w1 p0 e, λ z. absurd (omega arith))
 
-      module _ (w0 : l < 65536) {t′ heads′ next′ : List ℕ} {r : ℕ} (n : Noded t0 t′ heads′ next′ p l h r) where
-        whole : Gives K t t′ heads′ next′ r (joint op K t f g)
+      module _ (w0 : l < 65536) {t′ index′ : List ℕ} {r : ℕ} (n : Noded t0 t′ index′ p l h r) where
+        whole : Gives K t t′ index′ r (joint op K t f g)
         whole = step-node split-o q1 w1 p0 (c .label-known) w0 n
 
-        pub last-none : {memo0 : List ℕ} → r ≡ 65536 → Gives K t t′ heads′ next′ 65536 (joint op K t f g) × (65536 < 65536 → Remembered op K (nodesOf t′) memo0)
-        last-none e = (subst (λ (x : ℕ). Gives K t t′ heads′ next′ x (joint op K t f g)) e whole, λ z. absurd (omega arith))
+        pub last-none : {memo0 : List ℕ} → r ≡ 65536 → Gives K t t′ index′ 65536 (joint op K t f g) × (65536 < 65536 → Remembered op K (nodesOf t′) memo0)
+        last-none e = (subst (λ (x : ℕ). Gives K t t′ index′ x (joint op K t f g)) e whole, λ z. absurd (omega arith))
 
         pub last-stored : {memo0 : List ℕ} (at v : ℕ) {k : ℕ} (e : Packed op f g k) → at < length memo0 → v ≡ k * 65536 + r → Remembered op K (nodesOf t0) memo0
-            → Gives K t t′ heads′ next′ r (joint op K t f g) × (r < 65536 → Remembered op K (nodesOf t′) (set memo0 at v))
+            → Gives K t t′ index′ r (joint op K t f g) × (r < 65536 → Remembered op K (nodesOf t′) (set memo0 at v))
         last-stored {memo0} at v {k} e la ev m = (whole, λ z. kept z)
           where
             kept : r < 65536 → Remembered op K (nodesOf t′) (set memo0 at v)

@@ -18,8 +18,8 @@ use Rattle.family.specs.Gives.{Gives, Child, Noded, Answers, Produced}
 
 -- ---- a number that is there
 
-pub gives-there : {K t heads next : List ℕ} {F : Family} {r : ℕ} → Sound K t → Indexed t heads next → r < 65536 → Answers (nodesOf t) r F → Gives K t t heads next r F
-gives-there {K} {t} {heads} {next} {F} {r} s d l a = record {
+pub gives-there : {K t index : List ℕ} {F : Family} {r : ℕ} → Sound K t → Indexed t index → r < 65536 → Answers (nodesOf t) r F → Gives K t t index r F
+gives-there {K} {t} {index} {F} {r} s d l a = record {
   long = refl;
   sound = s;
   indexed = d;
@@ -29,11 +29,11 @@ gives-there {K} {t} {heads} {next} {F} {r} s d l a = record {
 
 -- ---- find or make
 
-module _ {K t t′ heads′ next′ : List ℕ} {x : Node} {r : ℕ} (m : Made K t t′ heads′ next′ x r) where
+module _ {K t t′ index′ : List ℕ} {x : Node} {r : ℕ} (m : Made K t t′ index′ x r) where
   abbrev J : Family
   J = fork (x .label) (family (nodesOf t) (x .hi)) (family (nodesOf t) (x .lo))
 
-  pub made-gives : 0 < r → Gives K t t′ heads′ next′ r J
+  pub made-gives : 0 < r → Gives K t t′ index′ r J
   made-gives p =
       let g : Got K (capacity t) (nodesOf t) false r (nodesOf t′) false J = m .gained .got (λ e. omega arith) in
       let b : r < 65536 = omega (arith, g .known, length-nodes t′, m .grown .sound .few) in
@@ -45,7 +45,7 @@ module _ {K t t′ heads′ next′ : List ℕ} {x : Node} {r : ℕ} (m : Made K
         gained = record { got = λ n. g; full = λ e. absurd (omega arith) };
       }
 
-  pub made-short : r ≡ 0 → Gives K t t′ heads′ next′ 65536 J
+  pub made-short : r ≡ 0 → Gives K t t′ index′ 65536 J
   made-short z = record {
     long = m .grown .long;
     sound = m .grown .sound;
@@ -55,8 +55,8 @@ module _ {K t t′ heads′ next′ : List ℕ} {x : Node} {r : ℕ} (m : Made K
   }
 
 -- what make says
-pub noded-lo : {t heads next : List ℕ} (label lo hi : ℕ) → Indexed t heads next → hi ≡ 0 → Noded t t heads next label lo hi lo
-noded-lo {t} {heads} {next} label lo hi d e K c =
+pub noded-lo : {t index : List ℕ} (label lo hi : ℕ) → Indexed t index → hi ≡ 0 → Noded t t index label lo hi lo
+noded-lo {t} {index} label lo hi d e K c =
     gives-there (c .sound) d (omega (arith, c .lo-known, c .sound .few)) (record {
       known = omega (arith, c .lo-known, length-nodes t);
       holds = sym (ap (λ (F : Family). fork label F (family (nodesOf t) lo)) (ap (family (nodesOf t)) e ∙ family-zero (nodesOf t)));
@@ -65,39 +65,39 @@ noded-lo {t} {heads} {next} label lo hi d e K c =
 may : {K t : List ℕ} {label lo hi : ℕ} → Child K t label lo hi → 0 < hi → May K t (node label lo hi)
 may c h = record { sound = c .sound; fine = c .fine h }
 
-module _ (t t′ heads′ next′ : List ℕ) (label lo hi : ℕ) where
-  pub noded-made : (r : ℕ) → 0 < hi → 0 < r → Unique t t′ heads′ next′ (node label lo hi) r → Noded t t′ heads′ next′ label lo hi r
+module _ (t t′ index′ : List ℕ) (label lo hi : ℕ) where
+  pub noded-made : (r : ℕ) → 0 < hi → 0 < r → Unique t t′ index′ (node label lo hi) r → Noded t t′ index′ label lo hi r
   noded-made r h p u K c = made-gives (u K (may c h)) p
 
-  pub noded-none : (r : ℕ) → 0 < hi → r ≡ 0 → Unique t t′ heads′ next′ (node label lo hi) r → Noded t t′ heads′ next′ label lo hi 65536
+  pub noded-none : (r : ℕ) → 0 < hi → r ≡ 0 → Unique t t′ index′ (node label lo hi) r → Noded t t′ index′ label lo hi 65536
   noded-none r h p u K c = made-short (u K (may c h)) p
 
 -- ---- the parts, then the node
 
-given : {K t t′ heads′ next′ : List ℕ} {r : ℕ} {F : Family} → Gives K t t′ heads′ next′ r F → r < 65536 → Got K (capacity t) (nodesOf t) false r (nodesOf t′) false F
+given : {K t t′ index′ : List ℕ} {r : ℕ} {F : Family} → Gives K t t′ index′ r F → r < 65536 → Got K (capacity t) (nodesOf t) false r (nodesOf t′) false F
 given g h = g .gained .got (λ e. omega arith)
 
-pub gives-answers : {K t t′ heads′ next′ : List ℕ} {r : ℕ} {F : Family} → Gives K t t′ heads′ next′ r F → r < 65536 → Answers (nodesOf t′) r F
+pub gives-answers : {K t t′ index′ : List ℕ} {r : ℕ} {F : Family} → Gives K t t′ index′ r F → r < 65536 → Answers (nodesOf t′) r F
 gives-answers g h = let q = given g h in record { known = q .known; holds = q .holds refl }
 
-pub gives-keeps : {K t t′ heads′ next′ : List ℕ} {r : ℕ} {F : Family} → Gives K t t′ heads′ next′ r F → r < 65536 → (k : ℕ) → k < suc (suc (length (nodesOf t)))
+pub gives-keeps : {K t t′ index′ : List ℕ} {r : ℕ} {F : Family} → Gives K t t′ index′ r F → r < 65536 → (k : ℕ) → k < suc (suc (length (nodesOf t)))
     → family (nodesOf t′) k ≡ family (nodesOf t) k
 gives-keeps g h = nowaste-keeps (given g h .work .nowaste)
 
-pub gives-more : {K t t′ heads′ next′ : List ℕ} {r : ℕ} {F : Family} → Gives K t t′ heads′ next′ r F → r < 65536 → length (nodesOf t) ≤ length (nodesOf t′)
+pub gives-more : {K t t′ index′ : List ℕ} {r : ℕ} {F : Family} → Gives K t t′ index′ r F → r < 65536 → length (nodesOf t) ≤ length (nodesOf t′)
 gives-more g h = omega (arith, nowaste-length (given g h .work .nowaste))
 
-pub gives-eq : {K t t′ heads′ next′ : List ℕ} {r : ℕ} {F G : Family} → F ≡ G → Gives K t t′ heads′ next′ r F → Gives K t t′ heads′ next′ r G
-gives-eq {K} {t} {t′} {heads′} {next′} {r} e g = subst (λ (H : Family). Gives K t t′ heads′ next′ r H) e g
+pub gives-eq : {K t t′ index′ : List ℕ} {r : ℕ} {F G : Family} → F ≡ G → Gives K t t′ index′ r F → Gives K t t′ index′ r G
+gives-eq {K} {t} {t′} {index′} {r} e g = subst (λ (H : Family). Gives K t t′ index′ r H) e g
 
 -- the room is the same
 move : (t u u′ : List ℕ) {K : List ℕ} {b b′ : Bool} {k : ℕ} {F : Family} → length u ≡ length t
     → Got K (capacity u) (nodesOf u) b k (nodesOf u′) b′ F → Got K (capacity t) (nodesOf u) b k (nodesOf u′) b′ F
 move t u u′ {K} {b} {b′} {k} {F} e g = subst (λ (c : ℕ). Got K c (nodesOf u) b k (nodesOf u′) b′ F) (same-capacity u t e) g
 
-module _ {K t : List ℕ} {R R1 R0 : Family} {p : ℕ} (s : Split K R p R1 R0) {t1 heads1 next1 : List ℕ} {h : ℕ} (g1 : Gives K t t1 heads1 next1 h R1) where
+module _ {K t : List ℕ} {R R1 R0 : Family} {p : ℕ} (s : Split K R p R1 R0) {t1 index1 : List ℕ} {h : ℕ} (g1 : Gives K t t1 index1 h R1) where
   -- no room for the first part
-  pub step-none-hi : h ≡ 65536 → Gives K t t1 heads1 next1 65536 R
+  pub step-none-hi : h ≡ 65536 → Gives K t t1 index1 65536 R
   step-none-hi e = record {
     long = g1 .long;
     sound = g1 .sound;
@@ -111,12 +111,12 @@ module _ {K t : List ℕ} {R R1 R0 : Family} {p : ℕ} (s : Split K R p R1 R0) {
     };
   }
 
-  module _ (w1 : h < 65536) {t0 heads0 next0 : List ℕ} {l : ℕ} (g0 : Gives K t1 t0 heads0 next0 l R0) where
+  module _ (w1 : h < 65536) {t0 index0 : List ℕ} {l : ℕ} (g0 : Gives K t1 t0 index0 l R0) where
     long0 : length t0 ≡ length t
     long0 = g0 .long ∙ g1 .long
 
     -- no room for the second
-    pub step-none-lo : l ≡ 65536 → Gives K t t0 heads0 next0 65536 R
+    pub step-none-lo : l ≡ 65536 → Gives K t t0 index0 65536 R
     step-none-lo e = record {
       long = long0;
       sound = g0 .sound;
@@ -149,8 +149,8 @@ module _ {K t : List ℕ} {R R1 R0 : Family} {p : ℕ} (s : Split K R p R1 R0) {
         }
 
     -- and then it is the whole
-    pub step-node : {t′ heads′ next′ : List ℕ} {r : ℕ} → p < length K → l < 65536 → Noded t0 t′ heads′ next′ p l h r → Gives K t t′ heads′ next′ r R
-    step-node {t′} {heads′} {next′} {r} k w0 n =
+    pub step-node : {t′ index′ : List ℕ} {r : ℕ} → p < length K → l < 65536 → Noded t0 t′ index′ p l h r → Gives K t t′ index′ r R
+    step-node {t′} {index′} {r} k w0 n =
         let g = n K (step-child k w0) in
         record {
           long = g .long ∙ long0;
@@ -165,8 +165,8 @@ module _ {K t : List ℕ} {R R1 R0 : Family} {p : ℕ} (s : Split K R p R1 R0) {
 
 -- ---- a call: what was made is taken back where there was no room
 
-module _ {K t t′ heads′ next′ : List ℕ} {r : ℕ} {F : Family} (g : Gives K t t′ heads′ next′ r F) where
-  pub produced-done : (r ≡ 65536 → ⊥) → Produced K t t′ heads′ next′ r F
+module _ {K t t′ index′ : List ℕ} {r : ℕ} {F : Family} (g : Gives K t t′ index′ r F) where
+  pub produced-done : (r ≡ 65536 → ⊥) → Produced K t t′ index′ r F
   produced-done d = record {
     small = g .small;
     full = λ e. absurd (d e);
@@ -183,7 +183,7 @@ module _ {K t t′ heads′ next′ : List ℕ} {r : ℕ} {F : Family} (g : Give
         };
   }
 
-  pub produced-full : {n : ℕ} {u heads next : List ℕ} → r ≡ 65536 → Sound K t → n ≡ count t → Rolled t′ n u → Produced K t u heads next 65536 F
+  pub produced-full : {n : ℕ} {u index : List ℕ} → r ≡ 65536 → Sound K t → n ≡ count t → Rolled t′ n u → Produced K t u index 65536 F
   produced-full {n} {u} e s c back = record {
     small = omega arith;
     full = λ z. got-flag t (g .sound) (g .long) (g .gained .full e);

@@ -142,9 +142,9 @@ kept-fresh b K p ns memo l z = record {
   each = λ k h. absurd (omega (arith, z k));
 }
 
-pub kept-grown : {b : Bool} {K t t′ heads′ next′ memo : List ℕ} {p r : ℕ} {F : Family} → Gives K t t′ heads′ next′ r F → r < 65536
+pub kept-grown : {b : Bool} {K t t′ index′ memo : List ℕ} {p r : ℕ} {F : Family} → Gives K t t′ index′ r F → r < 65536
     → Kept b K p (nodesOf t) memo → Kept b K p (nodesOf t′) memo
-kept-grown {b} {K} {t} {t′} {heads′} {next′} {memo} {p} g h m = record {
+kept-grown {b} {K} {t} {t′} {index′} {memo} {p} g h m = record {
   long = m .long;
   place = λ k z. omega (arith, m .place k z, gives-more g h);
   each = λ k z.
@@ -181,8 +181,8 @@ kept-stored {b} {K} {memo} {ns} {p} f r v ev l w a m = record {
 
 -- ---- the recursion: f is a node whose three words begin at a, and its restriction is to be made
 
-pub record Open (b : Bool) (K : List ℕ) (p : ℕ) (t heads next memo : List ℕ) (f a : ℕ) : Type 0 where
-  pub ready : Operable K t heads next
+pub record Open (b : Bool) (K : List ℕ) (p : ℕ) (t index memo : List ℕ) (f a : ℕ) : Type 0 where
+  pub ready : Operable K t index
   pub kept : Kept b K p (nodesOf t) memo
   pub low : 2 ≤ f
   pub below : f < count t + 2
@@ -190,9 +190,9 @@ pub record Open (b : Bool) (K : List ℕ) (p : ℕ) (t heads next memo : List �
   pub p-known : p < length K
   pub own : getD t a 0 ≡ p → b ≡ true
 
-pub open-of : {b : Bool} {K t heads next memo : List ℕ} {p f : ℕ} {r : ℕ} (a : ℕ) → Operable K t heads next → Kept b K p (nodesOf t) memo → (f < count t + 2) × (p < length K)
-    → Soon b K p (nodesOf t) f r → r ≡ 65537 → a ≡ 3 * f - 5 → Open b K p t heads next memo f a
-open-of {b} {K} {t} {heads} {next} {memo} {p} {f} {r} a y m w s e q =
+pub open-of : {b : Bool} {K t index memo : List ℕ} {p f : ℕ} {r : ℕ} (a : ℕ) → Operable K t index → Kept b K p (nodesOf t) memo → (f < count t + 2) × (p < length K)
+    → Soon b K p (nodesOf t) f r → r ≡ 65537 → a ≡ 3 * f - 5 → Open b K p t index memo f a
+open-of {b} {K} {t} {index} {memo} {p} {f} {r} a y m w s e q =
     let l : 2 ≤ f = s .branch e in
     record {
       ready = y;
@@ -205,13 +205,13 @@ open-of {b} {K} {t} {heads} {next} {memo} {p} {f} {r} a y m w s e q =
     }
 
 -- the answer at once
-pub soon-gives : {b : Bool} {K t heads next memo : List ℕ} {p f r : ℕ} → Operable K t heads next → Kept b K p (nodesOf t) memo → Soon b K p (nodesOf t) f r → (r ≡ 65537 → ⊥)
-    → Gives K t t heads next r (restricted b K p (family (nodesOf t) f)) × (r < 65536 → Kept b K p (nodesOf t) memo)
-soon-gives {b} {K} {t} {heads} {next} {memo} {p} {f} {r} y m s d =
+pub soon-gives : {b : Bool} {K t index memo : List ℕ} {p f r : ℕ} → Operable K t index → Kept b K p (nodesOf t) memo → Soon b K p (nodesOf t) f r → (r ≡ 65537 → ⊥)
+    → Gives K t t index r (restricted b K p (family (nodesOf t) f)) × (r < 65536 → Kept b K p (nodesOf t) memo)
+soon-gives {b} {K} {t} {index} {memo} {p} {f} {r} y m s d =
     let z : r < 65537 = omega (arith, s .small) in
     (gives-there (y .sound) (y .indexed) (s .answer z .0) (s .answer z .1), λ h. m)
 
-module _ {b : Bool} {K : List ℕ} {p : ℕ} {t heads next memo : List ℕ} {f a : ℕ} (o : Open b K p t heads next memo f a) where
+module _ {b : Bool} {K : List ℕ} {p : ℕ} {t index memo : List ℕ} {f a : ℕ} (o : Open b K p t index memo f a) where
   fine-o : Fine K (nodesOf t) (f - 2) (at-word t a)
   fine-o = word-fine (o .ready .sound) f a (o .low) (o .below) (o .place)
 
@@ -228,52 +228,52 @@ module _ {b : Bool} {K : List ℕ} {p : ℕ} {t heads next memo : List ℕ} {f a
   lo-len = omega (arith, lo-falls, o .below, length-nodes t)
 
   -- the label is p
-  pub own-gives : {t′ heads′ next′ : List ℕ} {r : ℕ} → getD t a 0 ≡ p → Noded t t′ heads′ next′ p 0 (getD t (a + 2) 0) r
-      → Gives K t t′ heads′ next′ r (restricted b K p (family (nodesOf t) f)) × (r < 65536 → Kept b K p (nodesOf t′) memo)
-  own-gives {t′} {heads′} {next′} {r} d n =
+  pub own-gives : {t′ index′ : List ℕ} {r : ℕ} → getD t a 0 ≡ p → Noded t t′ index′ p 0 (getD t (a + 2) 0) r
+      → Gives K t t′ index′ r (restricted b K p (family (nodesOf t) f)) × (r < 65536 → Kept b K p (nodesOf t′) memo)
+  own-gives {t′} {index′} {r} d n =
       let s = o .ready .sound in
-      let g1 : Gives K t t heads next (getD t (a + 2) 0) (family (nodesOf t) (getD t (a + 2) 0)) =
+      let g1 : Gives K t t index (getD t (a + 2) 0) (family (nodesOf t) (getD t (a + 2) 0)) =
       gives-there s (o .ready .indexed) (omega (arith, hi-below, s .few)) (record { known = omega (arith, hi-below, length-nodes t); holds = refl }) in
-      let g0 : Gives K t t heads next 0 [] = gives-there s (o .ready .indexed) (omega arith) (record { known = omega arith; holds = family-zero (nodesOf t) }) in
-      let g : Gives K t t′ heads′ next′ r (restricted b K p (family (nodesOf t) f)) =
-      subst⁻¹ (λ (c : Bool). Gives K t t′ heads′ next′ r (restricted c K p (family (nodesOf t) f))) (o .own d)
+      let g0 : Gives K t t index 0 [] = gives-there s (o .ready .indexed) (omega arith) (record { known = omega arith; holds = family-zero (nodesOf t) }) in
+      let g : Gives K t t′ index′ r (restricted b K p (family (nodesOf t) f)) =
+      subst⁻¹ (λ (c : Bool). Gives K t t′ index′ r (restricted c K p (family (nodesOf t) f))) (o .own d)
       (step-node (split-own s f a (o .low) (o .below) (o .place) (o .ready .keys) p d) g1 (omega (arith, hi-below, s .few)) g0 (o .p-known) (omega arith) n) in
       (g, λ h. kept-grown g h (o .kept))
 
   -- the label is another one: hi, then lo, then the node
-  module _ (d : getD t a 0 ≡ p → ⊥) {t1 heads1 next1 : List ℕ} {h : ℕ} (g1 : Gives K t t1 heads1 next1 h (restricted b K p (family (nodesOf t) (getD t (a + 2) 0)))) where
+  module _ (d : getD t a 0 ≡ p → ⊥) {t1 index1 : List ℕ} {h : ℕ} (g1 : Gives K t t1 index1 h (restricted b K p (family (nodesOf t) (getD t (a + 2) 0)))) where
     split-o : Split K (restricted b K p (family (nodesOf t) f)) (getD t a 0) (restricted b K p (family (nodesOf t) (getD t (a + 2) 0))) (restricted b K p (family (nodesOf t) (getD t (a + 1) 0)))
     split-o = split-other (o .ready .sound) f a (o .low) (o .below) (o .place) (o .ready .keys) b p d
 
-    pub hi-none : {memo1 : List ℕ} → h ≡ 65536 → Gives K t t1 heads1 next1 65536 (restricted b K p (family (nodesOf t) f)) × (65536 < 65536 → Kept b K p (nodesOf t1) memo1)
+    pub hi-none : {memo1 : List ℕ} → h ≡ 65536 → Gives K t t1 index1 65536 (restricted b K p (family (nodesOf t) f)) × (65536 < 65536 → Kept b K p (nodesOf t1) memo1)
     hi-none e = (step-none-hi split-o g1 e, λ z. absurd (omega arith))
 
-    pub hi-ready : Operable K t1 heads1 next1
+    pub hi-ready : Operable K t1 index1
     hi-ready = record { keys = o .ready .keys; sound = g1 .sound; indexed = g1 .indexed }
 
     module _ (w1 : h < 65536) where
       pub lo-below : getD t (a + 1) 0 < count t1 + 2
       lo-below = omega (arith, lo-len, gives-more g1 w1, length-nodes t1)
 
-      module _ {t0 heads0 next0 : List ℕ} {l : ℕ} (q0 : Gives K t1 t0 heads0 next0 l (restricted b K p (family (nodesOf t1) (getD t (a + 1) 0)))) where
-        g0 : Gives K t1 t0 heads0 next0 l (restricted b K p (family (nodesOf t) (getD t (a + 1) 0)))
+      module _ {t0 index0 : List ℕ} {l : ℕ} (q0 : Gives K t1 t0 index0 l (restricted b K p (family (nodesOf t1) (getD t (a + 1) 0)))) where
+        g0 : Gives K t1 t0 index0 l (restricted b K p (family (nodesOf t) (getD t (a + 1) 0)))
         g0 = gives-eq (ap (restricted b K p) (gives-keeps g1 w1 (getD t (a + 1) 0) lo-len)) q0
 
-        pub lo-none : {memo0 : List ℕ} → l ≡ 65536 → Gives K t t0 heads0 next0 65536 (restricted b K p (family (nodesOf t) f)) × (65536 < 65536 → Kept b K p (nodesOf t0) memo0)
+        pub lo-none : {memo0 : List ℕ} → l ≡ 65536 → Gives K t t0 index0 65536 (restricted b K p (family (nodesOf t) f)) × (65536 < 65536 → Kept b K p (nodesOf t0) memo0)
         lo-none e = (step-none-lo split-o g1 w1 g0 e, λ z. absurd (omega arith))
 
-        module _ (w0 : l < 65536) {t′ heads′ next′ : List ℕ} {r : ℕ} (n : Noded t0 t′ heads′ next′ (getD t a 0) l h r) where
-          whole : Gives K t t′ heads′ next′ r (restricted b K p (family (nodesOf t) f))
+        module _ (w0 : l < 65536) {t′ index′ : List ℕ} {r : ℕ} (n : Noded t0 t′ index′ (getD t a 0) l h r) where
+          whole : Gives K t t′ index′ r (restricted b K p (family (nodesOf t) f))
           whole = step-node split-o g1 w1 g0 (fine-o .label-known) w0 n
 
           pub last-small : r ≤ 65536
           last-small = whole .small
 
-          pub last-none : {memo0 : List ℕ} → r ≡ 65536 → Gives K t t′ heads′ next′ 65536 (restricted b K p (family (nodesOf t) f)) × (65536 < 65536 → Kept b K p (nodesOf t′) memo0)
-          last-none e = (subst (λ (x : ℕ). Gives K t t′ heads′ next′ x (restricted b K p (family (nodesOf t) f))) e whole, λ z. absurd (omega arith))
+          pub last-none : {memo0 : List ℕ} → r ≡ 65536 → Gives K t t′ index′ 65536 (restricted b K p (family (nodesOf t) f)) × (65536 < 65536 → Kept b K p (nodesOf t′) memo0)
+          last-none e = (subst (λ (x : ℕ). Gives K t t′ index′ x (restricted b K p (family (nodesOf t) f))) e whole, λ z. absurd (omega arith))
 
           pub last-stored : {memo0 : List ℕ} (k v : ℕ) → k ≡ f → v ≡ r + 1 → Kept b K p (nodesOf t0) memo0
-              → Gives K t t′ heads′ next′ r (restricted b K p (family (nodesOf t) f)) × (r < 65536 → Kept b K p (nodesOf t′) (set memo0 k v))
+              → Gives K t t′ index′ r (restricted b K p (family (nodesOf t) f)) × (r < 65536 → Kept b K p (nodesOf t′) (set memo0 k v))
           last-stored {memo0} k v ek ev m = (whole, λ z. kept z)
             where
               kept : r < 65536 → Kept b K p (nodesOf t′) (set memo0 k v)

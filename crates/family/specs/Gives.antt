@@ -10,16 +10,16 @@ use Rattle.zdd.specs.Branches.{noRoom}
 use Rattle.table.specs.State.{Indexed, Obtained}
 
 -- a sound indexed table over distinct keys
-pub record Operable (K t heads next : List ℕ) : Type 0 where
+pub record Operable (K t index : List ℕ) : Type 0 where
   pub keys : Keys K
   pub sound : Sound K t
-  pub indexed : Indexed t heads next
+  pub indexed : Indexed t index
 
--- t before; t′, heads′ and next′ after. r is F's number, below 65536; or 65536: there was no room
-pub record Gives (K t t′ heads′ next′ : List ℕ) (r : ℕ) (F : Family) : Type 0 where
+-- t before; t′ and index′ after. r is F's number, below 65536; or 65536: there was no room
+pub record Gives (K t t′ index′ : List ℕ) (r : ℕ) (F : Family) : Type 0 where
   pub long : length t′ ≡ length t
   pub sound : Sound K t′
-  pub indexed : Indexed t′ heads′ next′
+  pub indexed : Indexed t′ index′
   pub small : r ≤ 65536
   pub gained : Gained 65536 K (capacity t) (nodesOf t) r (nodesOf t′) F
 
@@ -30,9 +30,9 @@ pub record Child (K t : List ℕ) (label lo hi : ℕ) : Type 0 where
   pub fine : 0 < hi → Fine K (nodesOf t) (count t) (node label lo hi)
 
 -- what make ensures, whatever the keys
-abbrev pub Noded : List ℕ → List ℕ → List ℕ → List ℕ → ℕ → ℕ → ℕ → ℕ → Type 0
-Noded t t′ heads′ next′ label lo hi r =
-    (K : List ℕ) → Child K t label lo hi → Gives K t t′ heads′ next′ r (fork label (family (nodesOf t) hi) (family (nodesOf t) lo))
+abbrev pub Noded : List ℕ → List ℕ → List ℕ → ℕ → ℕ → ℕ → ℕ → Type 0
+Noded t t′ index′ label lo hi r =
+    (K : List ℕ) → Child K t label lo hi → Gives K t t′ index′ r (fork label (family (nodesOf t) hi) (family (nodesOf t) lo))
 
 -- the number r is known and holds F
 pub record Answers (ns : List Node) (r : ℕ) (F : Family) : Type 0 where
@@ -41,9 +41,9 @@ pub record Answers (ns : List Node) (r : ℕ) (F : Family) : Type 0 where
 
 -- what an operation that makes F ensures: where what is missing for F exceeds the free places it says 65536 and the table is as before; where it does
 -- not, r is F's number
-pub record Produced (K t t′ heads′ next′ : List ℕ) (r : ℕ) (F : Family) : Type 0 where
+pub record Produced (K t t′ index′ : List ℕ) (r : ℕ) (F : Family) : Type 0 where
   pub small : r ≤ 65536
   pub full : r ≡ 65536 → noRoom t F ≡ true
   pub same : r ≡ 65536 → t′ ≡ t
   pub room : r < 65536 → noRoom t F ≡ false
-  pub done : r < 65536 → Obtained K t t′ heads′ next′ r F
+  pub done : r < 65536 → Obtained K t t′ index′ r F

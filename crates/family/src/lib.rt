@@ -8,21 +8,14 @@ ghost use Rattle.family.specs.Gives.{Operable, Gives, Produced, Noded, A
 ghost use Rattle.family.specs.Memo.{restricted, Kept, Soon, combined, Packed, Remembered, Ends, Two, Top, Cut};
 
 // The number of the node with these three words, found or made: lo where hi is 0; 65536 where there is no room.
-fn make(
-    t: &mut [u32],
-    heads: &mut [u32; 65536],
-    next: &mut [u32; 65536],
-    label: u32,
-    lo: u32,
-    hi: u32,
-) -> u32
-    requires { ⌜ Indexed (now t) (now heads) (now next) ⌝ }
-    ensures { λ r. ⌜ Noded (now (t .entry)) (now (t .exit)) (now (heads .exit)) (now (next .exit)) label lo hi r ⌝ }
+fn make(t: &mut [u32], index: &mut [u16; 131072], label: u32, lo: u32, hi: u32) -> u32
+    requires { ⌜ Indexed (now t) (now index) ⌝ }
+    ensures { λ r. ⌜ Noded (now (t .entry)) (now (t .exit)) (now (index .exit)) label lo hi r ⌝ }
 {
     if hi == 0 {
         return lo;
     }
-    let r = table::unique(t, heads, next, label, lo, hi);
+    let r = table::unique(t, index, label, lo, hi);
     if r == 0 {
         return 65536;
     }
@@ -71,17 +64,16 @@ fn soon(t: &[u32], keys: &[u32], memo: &[u32; 65536], p: u32, holding: bool, f: 
 fn restrict(
     t: &mut [u32],
     keys: &[u32],
-    heads: &mut [u32; 65536],
-    next: &mut [u32; 65536],
+    index: &mut [u16; 131072],
     memo: &mut [u32; 65536],
     p: u32,
     holding: bool,
     f: u32,
 ) -> u32
-    requires { ⌜ Operable (now keys) (now t) (now heads) (now next) ⌝ }
+    requires { ⌜ Operable (now keys) (now t) (now index) ⌝ }
     requires { ⌜ Kept holding (now keys) p (nodesOf (now t)) (now memo) ⌝ }
     requires { ⌜ (f < count (now t) + 2) × (p < length (now keys)) ⌝ }
-    ensures { λ r. ⌜ Gives (now (keys .entry)) (now (t .entry)) (now (t .exit)) (now (heads .exit)) (now (next .exit)) r
+    ensures { λ r. ⌜ Gives (now (keys .entry)) (now (t .entry)) (now (t .exit)) (now (index .exit)) r
         (restricted holding (now (keys .entry)) p (family (nodesOf (now (t .entry))) f)) ⌝ }
     ensures { λ r. ⌜ (r < 65536 → Kept holding (now (keys .entry)) p (nodesOf (now (t .exit))) (now (memo .exit))) ⌝ }
 {
@@ -95,17 +87,17 @@ fn restrict(
     let lo = t[w + 1];
     let hi = t[w + 2];
     if label == p {
-        return make(t, heads, next, p, 0, hi);
+        return make(t, index, p, 0, hi);
     }
-    let h = restrict(t, keys, heads, next, memo, p, holding, hi);
+    let h = restrict(t, keys, index, memo, p, holding, hi);
     if h == 65536 {
         return 65536;
     }
-    let l = restrict(t, keys, heads, next, memo, p, holding, lo);
+    let l = restrict(t, keys, index, memo, p, holding, lo);
     if l == 65536 {
         return 65536;
     }
-    let r = make(t, heads, next, label, l, h);
+    let r = make(t, index, label, l, h);
     if r == 65536 {
         return 65536;
     }
@@ -233,17 +225,16 @@ fn cut(t: &[u32], keys: &[u32], f: u32, g: u32) -> Parts
 fn combine(
     t: &mut [u32],
     keys: &[u32],
-    heads: &mut [u32; 65536],
-    next: &mut [u32; 65536],
+    index: &mut [u16; 131072],
     memo: &mut [u64],
     op: u8,
     f: u32,
     g: u32,
 ) -> u32
-    requires { ⌜ Operable (now keys) (now t) (now heads) (now next) ⌝ }
+    requires { ⌜ Operable (now keys) (now t) (now index) ⌝ }
     requires { ⌜ Remembered op (now keys) (nodesOf (now t)) (now memo) ⌝ }
     requires { ⌜ (f < count (now t) + 2) × (g < count (now t) + 2) ⌝ }
-    ensures { λ r. ⌜ Gives (now (keys .entry)) (now (t .entry)) (now (t .exit)) (now (heads .exit)) (now (next .exit)) r
+    ensures { λ r. ⌜ Gives (now (keys .entry)) (now (t .entry)) (now (t .exit)) (now (index .exit)) r
         (combined op (now (keys .entry)) (family (nodesOf (now (t .entry))) f) (family (nodesOf (now (t .entry))) g)) ⌝ }
     ensures { λ r. ⌜ (r < 65536 → Remembered op (now (keys .entry)) (nodesOf (now (t .exit))) (now (memo .exit))) ⌝ }
 {
@@ -254,15 +245,15 @@ fn combine(
         return known;
     }
     let c = cut(t, keys, f, g);
-    let h = combine(t, keys, heads, next, memo, op, c.f1, c.g1);
+    let h = combine(t, keys, index, memo, op, c.f1, c.g1);
     if h == 65536 {
         return 65536;
     }
-    let l = combine(t, keys, heads, next, memo, op, c.f0, c.g0);
+    let l = combine(t, keys, index, memo, op, c.f0, c.g0);
     if l == 65536 {
         return 65536;
     }
-    let r = make(t, heads, next, c.label, l, h);
+    let r = make(t, index, c.label, l, h);
     if r == 65536 {
         return 65536;
     }
@@ -274,20 +265,19 @@ fn combine(
 pub fn restriction(
     t: &mut [u32],
     keys: &[u32],
-    heads: &mut [u32; 65536],
-    next: &mut [u32; 65536],
+    index: &mut [u16; 131072],
     p: u32,
     holding: bool,
     f: u32,
 ) -> u32
-    requires { ⌜ Operable (now keys) (now t) (now heads) (now next) ⌝ }
+    requires { ⌜ Operable (now keys) (now t) (now index) ⌝ }
     requires { ⌜ (f < count (now t) + 2) × (p < length (now keys)) ⌝ }
-    ensures { λ r. ⌜ Produced (now (keys .entry)) (now (t .entry)) (now (t .exit)) (now (heads .exit)) (now (next .exit)) r
+    ensures { λ r. ⌜ Produced (now (keys .entry)) (now (t .entry)) (now (t .exit)) (now (index .exit)) r
         (restricted holding (now (keys .entry)) p (family (nodesOf (now (t .entry))) f)) ⌝ }
 {
     let n = t[0];
     let mut memo = [0u32; 65536];
-    let r = restrict(t, keys, heads, next, &mut memo, p, holding, f);
+    let r = restrict(t, keys, index, &mut memo, p, holding, f);
     if r == 65536 {
         table::rollback(t, n);
         return 65536;
@@ -311,65 +301,62 @@ fn places(words: usize) -> usize
 fn afresh(
     t: &mut [u32],
     keys: &[u32],
-    heads: &mut [u32; 65536],
-    next: &mut [u32; 65536],
+    index: &mut [u16; 131072],
     memo: &mut [u64],
     op: u8,
     f: u32,
     g: u32,
 ) -> u32
-    requires { ⌜ Operable (now keys) (now t) (now heads) (now next) ⌝ }
+    requires { ⌜ Operable (now keys) (now t) (now index) ⌝ }
     requires { ⌜ 0 < length (now memo) ⌝ }
     requires { ⌜ (f < count (now t) + 2) × (g < count (now t) + 2) ⌝ }
-    ensures { λ r. ⌜ Gives (now (keys .entry)) (now (t .entry)) (now (t .exit)) (now (heads .exit)) (now (next .exit)) r
+    ensures { λ r. ⌜ Gives (now (keys .entry)) (now (t .entry)) (now (t .exit)) (now (index .exit)) r
         (combined op (now (keys .entry)) (family (nodesOf (now (t .entry))) f) (family (nodesOf (now (t .entry))) g)) ⌝ }
 {
     base::clear(memo);
-    combine(t, keys, heads, next, memo, op, f, g)
+    combine(t, keys, index, memo, op, f, g)
 }
 
 // `combine` with the lent words as its memory where they are many, and a local array where they are few.
 fn remembering(
     t: &mut [u32],
     keys: &[u32],
-    heads: &mut [u32; 65536],
-    next: &mut [u32; 65536],
+    index: &mut [u16; 131072],
     work: &mut [u64],
     op: u8,
     f: u32,
     g: u32,
 ) -> u32
-    requires { ⌜ Operable (now keys) (now t) (now heads) (now next) ⌝ }
+    requires { ⌜ Operable (now keys) (now t) (now index) ⌝ }
     requires { ⌜ (f < count (now t) + 2) × (g < count (now t) + 2) ⌝ }
-    ensures { λ r. ⌜ Gives (now (keys .entry)) (now (t .entry)) (now (t .exit)) (now (heads .exit)) (now (next .exit)) r
+    ensures { λ r. ⌜ Gives (now (keys .entry)) (now (t .entry)) (now (t .exit)) (now (index .exit)) r
         (combined op (now (keys .entry)) (family (nodesOf (now (t .entry))) f) (family (nodesOf (now (t .entry))) g)) ⌝ }
 {
     if work.len() < 65536 {
         let mut memo = [0u64; 65536];
-        return combine(t, keys, heads, next, &mut memo, op, f, g);
+        return combine(t, keys, index, &mut memo, op, f, g);
     }
     let size = places(work.len());
-    afresh(t, keys, heads, next, &mut work[..size], op, f, g)
+    afresh(t, keys, index, &mut work[..size], op, f, g)
 }
 
 // The number of f's and g's union (op 0), intersection (1) or difference (2). Where there is no room it is 65536, and the table is as before.
 pub fn combination(
     t: &mut [u32],
     keys: &[u32],
-    heads: &mut [u32; 65536],
-    next: &mut [u32; 65536],
+    index: &mut [u16; 131072],
     work: &mut [u64],
     op: u8,
     f: u32,
     g: u32,
 ) -> u32
-    requires { ⌜ Operable (now keys) (now t) (now heads) (now next) ⌝ }
+    requires { ⌜ Operable (now keys) (now t) (now index) ⌝ }
     requires { ⌜ (f < count (now t) + 2) × (g < count (now t) + 2) ⌝ }
-    ensures { λ r. ⌜ Produced (now (keys .entry)) (now (t .entry)) (now (t .exit)) (now (heads .exit)) (now (next .exit)) r
+    ensures { λ r. ⌜ Produced (now (keys .entry)) (now (t .entry)) (now (t .exit)) (now (index .exit)) r
         (combined op (now (keys .entry)) (family (nodesOf (now (t .entry))) f) (family (nodesOf (now (t .entry))) g)) ⌝ }
 {
     let n = t[0];
-    let r = remembering(t, keys, heads, next, work, op, f, g);
+    let r = remembering(t, keys, index, work, op, f, g);
     if r == 65536 {
         table::rollback(t, n);
         return 65536;

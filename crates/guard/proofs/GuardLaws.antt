@@ -93,7 +93,7 @@ rows {Q} {m} f = record { some = λ p l. pos-open Q (row Q p) (some-items m (Q .
 
 -- ---- the table
 
-pub tested : {Q : Problem} {t keys heads next : List ℕ} {b : Bool} → Rows Q → Keyed Q keys → Checked (keysOf Q) t heads next b → Tested Q t keys heads next b
+pub tested : {Q : Problem} {t keys index : List ℕ} {b : Bool} → Rows Q → Keyed Q keys → Checked (keysOf Q) t index b → Tested Q t keys index b
 unfolding unsound
 tested {Q} {t} {b = b} r k c = record {
   says = c .says ∙ sym (twice (soundb (keysOf Q) t));
@@ -115,15 +115,15 @@ tested {Q} {t} {b = b} r k c = record {
 
 -- ---- both
 
-module _ {Q : Problem} {m : ℕ} {t keys heads next : List ℕ} where
+module _ {Q : Problem} {m : ℕ} {t keys index : List ℕ} where
   -- the packages are refused
-  pub admitted-packages : (r : ℕ) → r ≡ firstOf (packageTests Q m []) → (r ≡ 0 → ⊥) → Admitted Q m t keys heads next r
+  pub admitted-packages : (r : ℕ) → r ≡ firstOf (packageTests Q m []) → (r ≡ 0 → ⊥) → Admitted Q m t keys index r
   unfolding checkRefusal
   admitted-packages r e f = record { says = sym (fit-refused Q m _ e f); fit = λ z. absurd (f z); usable = λ z. absurd (f z) }
 
   -- they are not
-  module _ (e : firstOf (packageTests Q m []) ≡ 0) {b : Bool} (c : Tested Q t keys heads next b) where
-    pub admitted-spoilt : b ≡ false → Admitted Q m t keys heads next 4
+  module _ (e : firstOf (packageTests Q m []) ≡ 0) {b : Bool} (c : Tested Q t keys index b) where
+    pub admitted-spoilt : b ≡ false → Admitted Q m t keys index 4
     unfolding checkRefusal
     admitted-spoilt q = record {
       says = sym (fit-passes _ (fit-of [] e .0) ∙ hit 4 _ (not-false _ (sym (c .says) ∙ q)));
@@ -131,7 +131,7 @@ module _ {Q : Problem} {m : ℕ} {t keys heads next : List ℕ} where
       usable = λ z. absurd (omega arith);
     }
 
-    pub admitted-sound : b ≡ true → Admitted Q m t keys heads next 0
+    pub admitted-sound : b ≡ true → Admitted Q m t keys index 0
     unfolding checkRefusal
     admitted-sound q = record {
       says = sym (table-passes t [] (fit-of [] e .0) (c .usable q .unspoilt) ∙ none);
@@ -141,10 +141,10 @@ module _ {Q : Problem} {m : ℕ} {t keys heads next : List ℕ} where
 
   -- ---- what the calls make of it: theirs are the same tests first, and others behind them
 
-  pub admit-refused : (ts : List (Bool × ℕ)) {r : ℕ} → Admitted Q m t keys heads next r → (r ≡ 0 → ⊥) → firstOf (tableTests Q m t ts) ≡ r
+  pub admit-refused : (ts : List (Bool × ℕ)) {r : ℕ} → Admitted Q m t keys index r → (r ≡ 0 → ⊥) → firstOf (tableTests Q m t ts) ≡ r
   unfolding checkRefusal
   admit-refused ts o f = front (tableTests Q m t []) ts (λ z. f (o .says ∙ z)) ∙ sym (o .says)
 
 -- new arrays of zeros
-pub blank : (k n : ℕ) → k ≡ 512 → n ≡ 65536 → Blank (replicate k 0) (replicate n 0) (replicate n 0)
-blank k n e d = record { keys-long = length-replicate k 0 ∙ e; index = fresh n d }
+pub blank : (k n : ℕ) → k ≡ 512 → n ≡ 131072 → Blank (replicate k 0) (replicate n 0)
+blank k n e d = record { keys-long = length-replicate k 0 ∙ e; fresh = fresh n d }

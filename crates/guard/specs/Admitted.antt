@@ -11,26 +11,26 @@ use Rattle.table.specs.State.{Fresh, Indexed}
 use Rattle.statement.specs.Refusals.{unsound, checkRefusal, Fit}
 
 -- the arrays before the check
-pub record Blank (keys heads next : List ℕ) : Type 0 where
+pub record Blank (keys index : List ℕ) : Type 0 where
   pub keys-long : length keys ≡ 512
-  pub index : Fresh heads next
+  pub fresh : Fresh index
 
 -- 4 does not apply: the table is sound, the keys are computed and the nodes indexed
-pub record Usable (Q : Problem) (t keys heads next : List ℕ) : Type 0 where
+pub record Usable (Q : Problem) (t keys index : List ℕ) : Type 0 where
   pub unspoilt : unsound Q t ≡ false
   pub rows : Rows Q
   pub apart : Keys (keysOf Q)
   pub keyed : Keyed Q keys
   pub sound : Sound (keysOf Q) t
-  pub indexed : Indexed t heads next
+  pub indexed : Indexed t index
 
 -- ok says whether 4 does not apply
-pub record Tested (Q : Problem) (t keys heads next : List ℕ) (ok : Bool) : Type 0 where
+pub record Tested (Q : Problem) (t keys index : List ℕ) (ok : Bool) : Type 0 where
   pub says : ok ≡ not (unsound Q t)
-  pub usable : ok ≡ true → Usable Q t keys heads next
+  pub usable : ok ≡ true → Usable Q t keys index
 
 -- r is the refusal of the soundness check: 1, 2, 4, or 0 for none
-pub record Admitted (Q : Problem) (m : ℕ) (t keys heads next : List ℕ) (r : ℕ) : Type 0 where
+pub record Admitted (Q : Problem) (m : ℕ) (t keys index : List ℕ) (r : ℕ) : Type 0 where
   pub says : r ≡ checkRefusal Q m t
   pub fit : r ≡ 0 → Fit Q m
-  pub usable : r ≡ 0 → Usable Q t keys heads next
+  pub usable : r ≡ 0 → Usable Q t keys index

@@ -50,39 +50,26 @@ pub fn packages_refusal(m: u32, packages: &[u64]) -> u8
 }
 
 // Whether the table is sound; where it is, the keys and the index are ready.
-fn usable(
-    packages: &[u64],
-    t: &[u32],
-    keys: &mut [u32],
-    heads: &mut [u32; 65536],
-    next: &mut [u32; 65536],
-) -> bool
+fn usable(packages: &[u64], t: &[u32], keys: &mut [u32], index: &mut [u16; 131072]) -> bool
     requires { ⌜ Rows (problemOf (now packages)) ⌝ }
-    requires { ⌜ Blank (now keys) (now heads) (now next) ⌝ }
-    ensures { λ r. ⌜ Tested (problemOf (now (packages .entry))) (now (t .entry)) (now (keys .exit)) (now (heads .exit)) (now (next .exit)) r ⌝ }
+    requires { ⌜ Blank (now keys) (now index) ⌝ }
+    ensures { λ r. ⌜ Tested (problemOf (now (packages .entry))) (now (t .entry)) (now (keys .exit)) (now (index .exit)) r ⌝ }
 {
     exact_cover::keys(packages, keys);
     let n = packages.len();
-    table::check(t, &keys[..n], heads, next)
+    table::check(t, &keys[..n], index)
 }
 
 // Refusal 1, 2 or 4; 0 where none applies, and then the keys and the index are ready.
-pub fn admit(
-    m: u32,
-    packages: &[u64],
-    t: &[u32],
-    keys: &mut [u32],
-    heads: &mut [u32; 65536],
-    next: &mut [u32; 65536],
-) -> u8
-    requires { ⌜ Blank (now keys) (now heads) (now next) ⌝ }
-    ensures { λ r. ⌜ Admitted (problemOf (now (packages .entry))) m (now (t .entry)) (now (keys .exit)) (now (heads .exit)) (now (next .exit)) r ⌝ }
+pub fn admit(m: u32, packages: &[u64], t: &[u32], keys: &mut [u32], index: &mut [u16; 131072]) -> u8
+    requires { ⌜ Blank (now keys) (now index) ⌝ }
+    ensures { λ r. ⌜ Admitted (problemOf (now (packages .entry))) m (now (t .entry)) (now (keys .exit)) (now (index .exit)) r ⌝ }
 {
     let r = packages_refusal(m, packages);
     if r != 0 {
         return r;
     }
-    if !usable(packages, t, keys, heads, next) {
+    if !usable(packages, t, keys, index) {
         return 4;
     }
     0

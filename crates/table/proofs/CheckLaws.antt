@@ -1,5 +1,5 @@
 -- What the words of a table say of its nodes, test by test, and how far the soundness test has come. Assumes nothing.
-use mathlib.Core.Path.{_≡_, refl, sym, ap, subst, _∙_}
+use mathlib.Core.Path.{_≡_, refl, sym, ap, ap₂, subst, _∙_}
 use mathlib.Core.Bool.{Bool, true, false}
 use mathlib.Core.Logic.{_⊎_, inl, inr}
 use mathlib.Core.List.{List}
@@ -7,6 +7,7 @@ use Prim.Native.Nat.{ℕ, suc, _+_, _-_, _*_, _<_, _≤_}
 use native.Mathlib.Nat.{eq-or-lt-of-le}
 use native.Mathlib.Decide.{decLt}
 use native.Mathlib.Omega.{arith}
+use lib.Bits.{bitOr, or-add-and, and-le-l, and-le-r}
 use lib.Dec.{ltb, eqb}
 use lib.ListN.{length, getD, List·getD-eq-default}
 use borrow.Author.Tests.{ltb-true, lt-ltb, eqb-true, eq-eqb}
@@ -93,43 +94,52 @@ module _ (K t : List ℕ) (i w : ℕ) (h : i < count t) (e : w ≡ 1 + 3 * i) wh
 
 -- ---- the words behind the nodes
 
--- the words from w to j - 1 are 0
-pub record ZerosTo (t : List ℕ) (w j : ℕ) : Type 0 where
+-- the words from w to j - 1 are 0 exactly where any, all of them or-ed, is
+pub record ZerosTo (t : List ℕ) (w j any : ℕ) : Type 0 where
   pub from : w ≤ j
-  pub clear : (k : ℕ) → w ≤ k → k < j → getD t k 0 ≡ 0
+  pub clear : any ≡ 0 → (k : ℕ) → w ≤ k → k < j → getD t k 0 ≡ 0
+  pub kept : ((k : ℕ) → w ≤ k → k < j → getD t k 0 ≡ 0) → any ≡ 0
 
-pub zeros-none : (t : List ℕ) (w : ℕ) → ZerosTo t w w
-zeros-none t w = record { from = omega arith; clear = λ k a b. absurd (omega arith) }
+pub zeros-none : (t : List ℕ) (w : ℕ) → ZerosTo t w w 0
+zeros-none t w = record { from = omega arith; clear = λ e k a b. absurd (omega arith); kept = λ f. refl }
 
-pub zeros-more : {t : List ℕ} {w j : ℕ} → ZerosTo t w j → getD t j 0 ≡ 0 → ZerosTo t w (j + 1)
-zeros-more {t} {w} {j} c z = record { from = omega (arith, c .from); clear = λ k a b. go k a (eq-or-lt-of-le (omega arith)) }
+-- two numbers or-ed are 0 where both are
+or-both : (a b : ℕ) → bitOr a b ≡ 0 → (a ≡ 0) × (b ≡ 0)
+or-both a b e = (omega (arith, or-add-and a b, and-le-r a b), omega (arith, or-add-and a b, and-le-l a b))
+
+pub zeros-more : {t : List ℕ} {w j any : ℕ} → ZerosTo t w j any → ZerosTo t w (j + 1) (bitOr any (getD t j 0))
+zeros-more {t} {w} {j} {any} c = record {
+  from = omega (arith, c .from);
+  clear = λ e k a b. let o = or-both any (getD t j 0) e in go k a (o .0) (o .1) (eq-or-lt-of-le (omega arith));
+  kept = λ f. ap₂ bitOr (c .kept (λ k a b. f k a (omega arith))) (f j (c .from) (omega arith));
+}
   where
-    go : (k : ℕ) → w ≤ k → (k ≡ j) ⊎ (k < j) → getD t k 0 ≡ 0
-    go k a (inl e) = ap (λ (i : ℕ). getD t i 0) e ∙ z
-    go k a (inr l) = c .clear k a l
+    go : (k : ℕ) → w ≤ k → any ≡ 0 → getD t j 0 ≡ 0 → (k ≡ j) ⊎ (k < j) → getD t k 0 ≡ 0
+    go k a z y (inl e) = ap (λ (i : ℕ). getD t i 0) e ∙ y
+    go k a z y (inr l) = c .clear z k a l
 
-pub zeros-all : {t : List ℕ} {w j : ℕ} → ZerosTo t w j → length t ≤ j → (k : ℕ) → w ≤ k → getD t k 0 ≡ 0
-zeros-all {t} {w} {j} c h k a = go (decLt k j)
+pub zeros-tell : {t : List ℕ} {w j any : ℕ} → ZerosTo t w j any → length t ≤ j → Tells ((k : ℕ) → w ≤ k → getD t k 0 ≡ 0) (eqb any 0)
+zeros-tell {t} {w} {j} {any} c h = tells-same (λ z k a. go z k a (decLt k j)) (λ f. c .kept (λ k a b. f k a)) (tells-eqb any 0)
   where
-    go : Dec (k < j) → getD t k 0 ≡ 0
-    go (yes l) = c .clear k a l
-    go (no g) = List·getD-eq-default t 0 (omega arith)
+    go : any ≡ 0 → (k : ℕ) → w ≤ k → Dec (k < j) → getD t k 0 ≡ 0
+    go z k a (yes l) = c .clear z k a l
+    go z k a (no g) = List·getD-eq-default t 0 (omega arith)
 
 -- ---- a node joins the index
 
-pub entered-twice : {ns : List Node} {i r : ℕ} {x : Node} (heads next : List ℕ) → Found ns (i + 2) x r → 0 < r → getD ns i blank ≡ x → Entered ns i heads next false
-entered-twice {ns} {i} {r} {x} heads next f p e =
+pub entered-twice : {ns : List Node} {i r : ℕ} {x : Node} (index : List ℕ) → Found ns (i + 2) x r → 0 < r → getD ns i blank ≡ x → Entered ns i index false
+entered-twice {ns} {i} {r} {x} index f p e =
     let n = f .node p in
     record {
-      index = λ z. absurd (never z refl);
+      joined = λ z. absurd (never z refl);
       fresh = λ z. absurd (never z refl);
       twice = λ z. (r - 2, (omega (arith, n .0, n .1 .0), n .1 .1 ∙ sym e));
     }
 
-pub entered-new : {ns : List Node} {i r : ℕ} {x : Node} {heads next : List ℕ} → Found ns (i + 2) x r → r ≡ 0 → getD ns i blank ≡ x → IndexedTo ns (i + 1 + 2) heads next
-    → Entered ns i heads next true
-entered-new {ns} {i} {r} {x} {heads} {next} f p e d = record {
-  index = λ z. d;
+pub entered-new : {ns : List Node} {i r : ℕ} {x : Node} {index : List ℕ} → Found ns (i + 2) x r → r ≡ 0 → getD ns i blank ≡ x → IndexedTo ns (i + 1 + 2) index
+    → Entered ns i index true
+entered-new {ns} {i} {r} {x} {index} f p e d = record {
+  joined = λ z. d;
   fresh = λ z j l q. f .none p j (omega arith) (q ∙ e);
   twice = λ z. absurd (never refl z);
 }
@@ -137,27 +147,27 @@ entered-new {ns} {i} {r} {x} {heads} {next} f p e d = record {
 -- ---- the pass
 
 -- the nodes before index i stand, none of them twice, and are indexed
-pub record NodesPassed (K t : List ℕ) (i : ℕ) (heads next : List ℕ) : Type 0 where
+pub record NodesPassed (K t : List ℕ) (i : ℕ) (index : List ℕ) : Type 0 where
   pub upto : i ≤ count t
   pub each : (j : ℕ) → j < i → Fine K (nodesOf t) j (getD (nodesOf t) j blank)
   pub once : (j k : ℕ) → j < i → k < i → getD (nodesOf t) j blank ≡ getD (nodesOf t) k blank → j ≡ k
-  pub index : IndexedTo (nodesOf t) (i + 2) heads next
+  pub entries : IndexedTo (nodesOf t) (i + 2) index
 
-pub passed-none : (K t : List ℕ) (heads next : List ℕ) → IndexedTo (nodesOf t) 2 heads next → NodesPassed K t 0 heads next
-passed-none K t heads next d = record {
+pub passed-none : (K t : List ℕ) (index : List ℕ) → IndexedTo (nodesOf t) 2 index → NodesPassed K t 0 index
+passed-none K t index d = record {
   upto = omega arith;
   each = λ j h. absurd (omega arith);
   once = λ j k h. absurd (omega arith);
-  index = d;
+  entries = d;
 }
 
-pub passed-more : {K t heads next heads′ next′ : List ℕ} {i : ℕ} {r : Bool} → NodesPassed K t i heads next → i < count t → Fine K (nodesOf t) i (getD (nodesOf t) i blank)
-    → Entered (nodesOf t) i heads′ next′ r → r ≡ true → NodesPassed K t (i + 1) heads′ next′
-passed-more {K} {t} {heads} {next} {heads′} {next′} {i} {r} p h f n y = record {
+pub passed-more : {K t index index′ : List ℕ} {i : ℕ} {r : Bool} → NodesPassed K t i index → i < count t → Fine K (nodesOf t) i (getD (nodesOf t) i blank)
+    → Entered (nodesOf t) i index′ r → r ≡ true → NodesPassed K t (i + 1) index′
+passed-more {K} {t} {index} {index′} {i} {r} p h f n y = record {
   upto = omega arith;
   each = λ j l. every j (eq-or-lt-of-le (omega arith));
   once = λ j k a b. single j k (eq-or-lt-of-le (omega arith)) (eq-or-lt-of-le (omega arith));
-  index = n .index y;
+  entries = n .joined y;
 }
   where
     every : (j : ℕ) → (j ≡ i) ⊎ (j < i) → Fine K (nodesOf t) j (getD (nodesOf t) j blank)
@@ -171,24 +181,24 @@ passed-more {K} {t} {heads} {next} {heads′} {next′} {i} {r} p h f n y = reco
     single j k (inr a) (inr b) e = p .once j k a b e
 
 -- no sound table
-pub refused : (K t heads next : List ℕ) → (Sound K t → ⊥) → Checked K t heads next false
-refused K t heads next f = record { says = sym (is-false (soundb K t) (λ e. f (sound-of K t e))); indexed = λ e. absurd (never e refl) }
+pub refused : (K t index : List ℕ) → (Sound K t → ⊥) → Checked K t index false
+refused K t index f = record { says = sym (is-false (soundb K t) (λ e. f (sound-of K t e))); indexed = λ e. absurd (never e refl) }
 
 pub not-fine : {K t : List ℕ} {i : ℕ} → i < count t → (Fine K (nodesOf t) i (getD (nodesOf t) i blank) → ⊥) → Sound K t → ⊥
 not-fine {K} {t} {i} h f s = f (s .nodes .each i (omega (arith, length-nodes t)))
 
-pub not-once : {K t heads next : List ℕ} {i : ℕ} {r : Bool} → i < count t → Entered (nodesOf t) i heads next r → r ≡ false → Sound K t → ⊥
-not-once {K} {t} {heads} {next} {i} {r} h n y s =
+pub not-once : {K t index : List ℕ} {i : ℕ} {r : Bool} → i < count t → Entered (nodesOf t) i index r → r ≡ false → Sound K t → ⊥
+not-once {K} {t} {index} {i} {r} h n y s =
     let w = n .twice y in
     let z : w .0 ≡ i = s .nodes .once (w .0) i (omega (arith, w .1 .0, length-nodes t)) (omega (arith, length-nodes t)) (w .1 .1) in
     omega (arith, w .1 .0)
 
 -- the nodes passed, the words behind them decide
-pub decided : {K t heads next : List ℕ} {i w : ℕ} {r : Bool} → NodesPassed K t i heads next → Room t → count t ≤ i → w ≡ 3 * count t + 1
-    → Tells ((j : ℕ) → w ≤ j → getD t j 0 ≡ 0) r → Checked K t heads next r
-decided {K} {t} {heads} {next} {i} {w} {r} p room all e d = record {
+pub decided : {K t index : List ℕ} {i w : ℕ} {r : Bool} → NodesPassed K t i index → Room t → count t ≤ i → w ≡ 3 * count t + 1
+    → Tells ((j : ℕ) → w ≤ j → getD t j 0 ≡ 0) r → Checked K t index r
+decided {K} {t} {index} {i} {w} {r} p room all e d = record {
   says = same-test r (soundb K t) (λ z. sound-test K t (sound z)) (λ z. kept z (cases r));
-  indexed = λ z. record { room = room; index = subst (λ (m : ℕ). IndexedTo (nodesOf t) (m + 2) heads next) whole (p .index) };
+  indexed = λ z. record { room = room; entries = subst (λ (m : ℕ). IndexedTo (nodesOf t) (m + 2) index) whole (p .entries) };
 }
   where
     whole : i ≡ count t

@@ -11,9 +11,9 @@ use Rattle.base.proofs.Bools.{by-test}
 use Rattle.table.specs.State.{Made}
 
 -- THEOREM: what find-or-make gives is got; the flag goes up where it gives 0
-pub made-got : {K t t′ heads′ next′ : List ℕ} {x : Node} {r : ℕ} → Made K t t′ heads′ next′ x r → (c : ℕ) → c ≡ capacity t
+pub made-got : {K t t′ index′ : List ℕ} {x : Node} {r : ℕ} → Made K t t′ index′ x r → (c : ℕ) → c ≡ capacity t
     → Got K c (nodesOf t) false r (nodesOf t′) (eqb r 0) (fork (x .label) (family (nodesOf t) (x .hi)) (family (nodesOf t) (x .lo)))
-made-got {K} {t} {t′} {heads′} {next′} {x} {r} m c e = subst⁻¹ (λ (d : ℕ). Got K d (nodesOf t) false r (nodesOf t′) (eqb r 0) F) e (by-test (eqb r 0) none some)
+made-got {K} {t} {t′} {index′} {x} {r} m c e = subst⁻¹ (λ (d : ℕ). Got K d (nodesOf t) false r (nodesOf t′) (eqb r 0) F) e (by-test (eqb r 0) none some)
   where
     F : Family
     F = fork (x .label) (family (nodesOf t) (x .hi)) (family (nodesOf t) (x .lo))

@@ -15,29 +15,29 @@ pub record FindWalk (ns : List Node) (m : ℕ) (x : Node) (k : ℕ) : Type 0 whe
   pub own : 0 < k → (2 ≤ k) × (bucket ns k ≡ hashOf x)
   pub past : (i : ℕ) → k < i + 2 → i + 2 < m → getD ns i blank ≡ x → ⊥
 
-pub start : {ns : List Node} {m : ℕ} {heads next : List ℕ} (x : Node) (h : ℕ) → IndexedTo ns m heads next → h ≡ hashOf x → h < 65536 → FindWalk ns m x (getD heads h 0)
-start {ns} {m} {heads} {next} x h d q lt =
-    let e = d .index .at-heads h (omega (arith, d .heads-long)) in
+pub start : {ns : List Node} {m : ℕ} {index : List ℕ} (x : Node) (h : ℕ) → IndexedTo ns m index → h ≡ hashOf x → h < 65536 → FindWalk ns m x (getD index h 0)
+start {ns} {m} {index} x h d q lt =
+    let e = d .chain .at-head h lt in
     record {
       below = e .below;
       own = λ u. (e .own u .0, e .own u .1 ∙ q);
       past = λ i p r n. e .gap (i + 2) p (omega arith) r (bucket-of ns (i + 2) i x (omega arith) n ∙ sym q);
     }
 
-module _ {ns : List Node} {m : ℕ} {heads next : List ℕ} (x : Node) (k : ℕ) (d : IndexedTo ns m heads next) (w : FindWalk ns m x k) (pos : 0 < k) where
-  pub falls : getD next k 0 < k
-  falls = d .index .at-next k (w .own pos .0) (w .below) .below
+module _ {ns : List Node} {m : ℕ} {index : List ℕ} (x : Node) (k : ℕ) (d : IndexedTo ns m index) (w : FindWalk ns m x k) (pos : 0 < k) where
+  pub falls : getD index (65536 + k) 0 < k
+  falls = d .chain .at-next k (w .own pos .0) (w .below) .below
 
-  pub step : (getD ns (k - 2) blank ≡ x → ⊥) → FindWalk ns m x (getD next k 0)
+  pub step : (getD ns (k - 2) blank ≡ x → ⊥) → FindWalk ns m x (getD index (65536 + k) 0)
   step f =
-      let e = subst (λ (b : ℕ). Last (bucket ns) 2 b k (getD next k 0)) (w .own pos .1) (d .index .at-next k (w .own pos .0) (w .below)) in
+      let e = subst (λ (b : ℕ). Last (bucket ns) 2 b k (getD index (65536 + k) 0)) (w .own pos .1) (d .chain .at-next k (w .own pos .0) (w .below)) in
       record {
         below = omega (arith, e .below, w .below);
         own = e .own;
         past = λ i p r n. at e f i p r n (decLt (i + 2) k) (ℕ-discrete (i + 2) k);
       }
     where
-      at : Last (bucket ns) 2 (hashOf x) k (getD next k 0) → (getD ns (k - 2) blank ≡ x → ⊥) → (i : ℕ) → getD next k 0 < i + 2 → i + 2 < m → getD ns i blank ≡ x
+      at : Last (bucket ns) 2 (hashOf x) k (getD index (65536 + k) 0) → (getD ns (k - 2) blank ≡ x → ⊥) → (i : ℕ) → getD index (65536 + k) 0 < i + 2 → i + 2 < m → getD ns i blank ≡ x
           → Dec (i + 2 < k) → Dec (i + 2 ≡ k) → ⊥
       at e f i p r n (yes lt) s = e .gap (i + 2) p (omega arith) lt (bucket-of ns (i + 2) i x (omega arith) n)
       at e f i p r n (no a) (yes z) = let y : k - 2 ≡ i = omega arith in f (ap (λ (j : ℕ). getD ns j blank) y ∙ n)

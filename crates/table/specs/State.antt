@@ -30,22 +30,20 @@ pub record Room (t : List ℕ) : Type 0 where
   pub fit : 3 * count t < length t
   pub few : count t ≤ 65534
 
--- heads and next index the numbers from 2 to m - 1 of the nodes ns
-pub record IndexedTo (ns : List Node) (m : ℕ) (heads next : List ℕ) : Type 0 where
-  pub heads-long : length heads ≡ 65536
-  pub next-long : length next ≡ 65536
-  pub index : Index (bucket ns) 2 m heads next
+-- the list indexes the numbers from 2 to m - 1 of the nodes ns, in 65536 buckets
+pub record IndexedTo (ns : List Node) (m : ℕ) (index : List ℕ) : Type 0 where
+  pub long : length index ≡ 131072
+  pub chain : Index (bucket ns) 2 65536 m index
 
--- heads and next before the first number joins. (What next holds does not matter.)
-pub record Fresh (heads next : List ℕ) : Type 0 where
-  pub heads-long : length heads ≡ 65536
-  pub next-long : length next ≡ 65536
-  pub zero : (h : ℕ) → getD heads h 0 ≡ 0
+-- the index before the first number joins
+pub record Fresh (index : List ℕ) : Type 0 where
+  pub long : length index ≡ 131072
+  pub zero : (h : ℕ) → getD index h 0 ≡ 0
 
--- heads and next index all nodes of t
-pub record Indexed (t heads next : List ℕ) : Type 0 where
+-- the list indexes all nodes of t
+pub record Indexed (t index : List ℕ) : Type 0 where
   pub room : Room t
-  pub index : IndexedTo (nodesOf t) (count t + 2) heads next
+  pub entries : IndexedTo (nodesOf t) (count t + 2) index
 
 -- what find answers: 0 exactly where no number below m is the node x
 pub record Found (ns : List Node) (m : ℕ) (x : Node) (r : ℕ) : Type 0 where
@@ -59,15 +57,15 @@ abbrev pub Labelled : List ℕ → List Node → ℕ → Type 0
 Labelled K ns i = (j : ℕ) → j < i → getD ns j blank .label < length K
 
 -- node i joins the index, unless one before it is the same
-pub record Entered (ns : List Node) (i : ℕ) (heads next : List ℕ) (r : Bool) : Type 0 where
-  pub index : r ≡ true → IndexedTo ns (i + 1 + 2) heads next
+pub record Entered (ns : List Node) (i : ℕ) (index : List ℕ) (r : Bool) : Type 0 where
+  pub joined : r ≡ true → IndexedTo ns (i + 1 + 2) index
   pub fresh : r ≡ true → (j : ℕ) → j < i → getD ns j blank ≡ getD ns i blank → ⊥
   pub twice : r ≡ false → (j : ℕ) × ((j < i) × (getD ns j blank ≡ getD ns i blank))
 
 -- what check answers
-pub record Checked (K t heads next : List ℕ) (r : Bool) : Type 0 where
+pub record Checked (K t index : List ℕ) (r : Bool) : Type 0 where
   pub says : r ≡ soundb K t
-  pub indexed : r ≡ true → Indexed t heads next
+  pub indexed : r ≡ true → Indexed t index
 
 -- ---- growth
 
@@ -87,14 +85,14 @@ pub record May (K t : List ℕ) (x : Node) : Type 0 where
   pub fine : Fine K (nodesOf t) (count t) x
 
 -- r is the number of the node x in t′, which is t or t with this node more; or 0, where x is not in t and t has no room
-pub record Made (K t t′ heads′ next′ : List ℕ) (x : Node) (r : ℕ) : Type 0 where
+pub record Made (K t t′ index′ : List ℕ) (x : Node) (r : ℕ) : Type 0 where
   pub grown : Grown K t t′
-  pub indexed : Indexed t′ heads′ next′
+  pub indexed : Indexed t′ index′
   pub gained : Gained 0 K (capacity t) (nodesOf t) r (nodesOf t′) (fork (x .label) (family (nodesOf t) (x .hi)) (family (nodesOf t) (x .lo)))
 
 -- what unique ensures, whatever the keys
-abbrev pub Unique : List ℕ → List ℕ → List ℕ → List ℕ → Node → ℕ → Type 0
-Unique t t′ heads′ next′ x r = (K : List ℕ) → May K t x → Made K t t′ heads′ next′ x r
+abbrev pub Unique : List ℕ → List ℕ → List ℕ → Node → ℕ → Type 0
+Unique t t′ index′ x r = (K : List ℕ) → May K t x → Made K t t′ index′ x r
 
 -- what rollback ensures: t goes back to any sound table of n nodes that it grew from
 abbrev pub Rolled : List ℕ → ℕ → List ℕ → Type 0
@@ -103,9 +101,9 @@ Rolled t n t′ = (K t₀ : List ℕ) → Sound K t₀ → Grown K t₀ t → n 
 -- ---- for the crates above
 
 -- F has its number r in the table t′, which is t with the branch nodes that were missing for it
-pub record Obtained (K t t′ heads′ next′ : List ℕ) (r : ℕ) (F : Family) : Type 0 where
+pub record Obtained (K t t′ index′ : List ℕ) (r : ℕ) (F : Family) : Type 0 where
   pub grown : Grown K t t′
-  pub indexed : Indexed t′ heads′ next′
+  pub indexed : Indexed t′ index′
   pub known : r < count t′ + 2
   pub holds : family (nodesOf t′) r ≡ F
   pub made : count t′ ≡ count t + missing (nodesOf t) F

@@ -1,4 +1,4 @@
-// The node table under every operation: the soundness test that builds the node index, find or make, and rollback.
+// The node table under every operation: the soundness test that builds the node index, find or make, and rollback. The index has 65536 buckets.
 ghost use mathlib.Core.Path.{_≡_};
 ghost use Prim.Native.Nat.{ℕ, suc, _+_, _-_, _*_, _<_, _≤_};
 ghost use lib.ListN.{length, getD, set};
@@ -30,29 +30,20 @@ fn is_node(t: &[u32], i: usize, label: u32, lo: u32, hi: u32) -> bool
 }
 
 // The number below m of the node that is the triple, whose bucket is h; or 0. (m is for the contract alone.)
-fn find(
-    t: &[u32],
-    heads: &[u32; 65536],
-    next: &[u32; 65536],
-    m: usize,
-    h: usize,
-    label: u32,
-    lo: u32,
-    hi: u32,
-) -> u32
+fn find(t: &[u32], index: &[u16; 131072], m: usize, h: usize, label: u32, lo: u32, hi: u32) -> u32
     requires { ⌜ Room (now t) ⌝ }
     requires { ⌜ m ≤ count (now t) + 2 ⌝ }
-    requires { ⌜ IndexedTo (nodesOf (now t)) m (now heads) (now next) ⌝ }
+    requires { ⌜ IndexedTo (nodesOf (now t)) m (now index) ⌝ }
     requires { ⌜ (h ≡ hashOf (node label lo hi)) × (h < 65536) ⌝ }
     ensures { λ r. ⌜ Found (nodesOf (now (t .entry))) m (node label lo hi) r ⌝ }
 {
-    let mut k = heads[h];
+    let mut k = index[h];
     while k != 0 {
-        let at = base::wide(k);
+        let at = k as usize;
         if is_node(t, at - 2, label, lo, hi) {
-            return k;
+            return k as u32;
         }
-        k = next[at];
+        k = index[65536 + at];
     }
     0
 }
@@ -100,42 +91,41 @@ fn node_fits(t: &[u32], keys: &[u32], i: usize) -> bool
 }
 
 // The node at index i goes into the index of those before it; false where one of those is the same.
-fn enter(t: &[u32], heads: &mut [u32; 65536], next: &mut [u32; 65536], i: usize) -> bool
+fn enter(t: &[u32], index: &mut [u16; 131072], i: usize) -> bool
     requires { ⌜ Room (now t) ⌝ }
     requires { ⌜ i < count (now t) ⌝ }
-    requires { ⌜ IndexedTo (nodesOf (now t)) (i + 2) (now heads) (now next) ⌝ }
-    ensures { λ r. ⌜ Entered (nodesOf (now (t .entry))) i (now (heads .exit)) (now (next .exit)) r ⌝ }
+    requires { ⌜ IndexedTo (nodesOf (now t)) (i + 2) (now index) ⌝ }
+    ensures { λ r. ⌜ Entered (nodesOf (now (t .entry))) i (now (index .exit)) r ⌝ }
 {
     let w = 1 + 3 * i;
     let label = t[w];
     let lo = t[w + 1];
     let hi = t[w + 2];
     let h = hash(label, lo, hi);
-    if find(t, heads, next, i + 2, h, label, lo, hi) != 0 {
+    if find(t, index, i + 2, h, label, lo, hi) != 0 {
         return false;
     }
-    buckets::insert(heads, next, h, (i + 2) as u32);
+    buckets::insert(index, 65536, h, (i + 2) as u16);
     true
 }
 
-// Whether the words from w on are 0.
+// Whether the words from w on are 0. (It reads all of them, without an early end, so that several are read at a time.)
 fn zeros(t: &[u32], w: usize) -> bool
     ensures { λ r. ⌜ Tells ((j : ℕ) → w ≤ j → getD (now (t .entry)) j 0 ≡ 0) r ⌝ }
 {
+    let mut any: u32 = 0;
     let mut j = w;
     while j < t.len() {
-        if t[j] != 0 {
-            return false;
-        }
+        any = any | t[j];
         j += 1;
     }
-    true
+    any == 0
 }
 
-// Whether the words are a sound table over the keys; if so, heads and next index its nodes. heads comes with zeros only.
-pub fn check(t: &[u32], keys: &[u32], heads: &mut [u32; 65536], next: &mut [u32; 65536]) -> bool
-    requires { ⌜ Fresh (now heads) (now next) ⌝ }
-    ensures { λ r. ⌜ Checked (now (keys .entry)) (now (t .entry)) (now (heads .exit)) (now (next .exit)) r ⌝ }
+// Whether the words are a sound table over the keys; if so, the index has its nodes. It comes with zeros only.
+pub fn check(t: &[u32], keys: &[u32], index: &mut [u16; 131072]) -> bool
+    requires { ⌜ Fresh (now index) ⌝ }
+    ensures { λ r. ⌜ Checked (now (keys .entry)) (now (t .entry)) (now (index .exit)) r ⌝ }
 {
     if t.len() == 0 {
         return false;
@@ -152,7 +142,7 @@ pub fn check(t: &[u32], keys: &[u32], heads: &mut [u32; 65536], next: &mut [u32;
         if !node_fits(t, keys, i) {
             return false;
         }
-        if !enter(t, heads, next, i) {
+        if !enter(t, index, i) {
             return false;
         }
         i += 1;
@@ -161,19 +151,11 @@ pub fn check(t: &[u32], keys: &[u32], heads: &mut [u32; 65536], next: &mut [u32;
 }
 
 // One more node, the triple, whose bucket is h; 0 where there is no room.
-fn make(
-    t: &mut [u32],
-    heads: &mut [u32; 65536],
-    next: &mut [u32; 65536],
-    h: usize,
-    label: u32,
-    lo: u32,
-    hi: u32,
-) -> u32
-    requires { ⌜ Indexed (now t) (now heads) (now next) ⌝ }
+fn make(t: &mut [u32], index: &mut [u16; 131072], h: usize, label: u32, lo: u32, hi: u32) -> u32
+    requires { ⌜ Indexed (now t) (now index) ⌝ }
     requires { ⌜ (h ≡ hashOf (node label lo hi)) × (h < 65536) ⌝ }
     requires { ⌜ Absent (now t) (node label lo hi) ⌝ }
-    ensures { λ r. ⌜ Unique (now (t .entry)) (now (t .exit)) (now (heads .exit)) (now (next .exit)) (node label lo hi) r ⌝ }
+    ensures { λ r. ⌜ Unique (now (t .entry)) (now (t .exit)) (now (index .exit)) (node label lo hi) r ⌝ }
 {
     let n = t[0];
     if n >= 65534 {
@@ -187,29 +169,22 @@ fn make(
     t[a + 2] = lo;
     t[a + 3] = hi;
     t[0] = n + 1;
-    buckets::insert(heads, next, h, n + 2);
+    buckets::insert(index, 65536, h, (n + 2) as u16);
     n + 2
 }
 
 // The number of the triple, found or made; 0 where it is not there and there is no room.
-pub fn unique(
-    t: &mut [u32],
-    heads: &mut [u32; 65536],
-    next: &mut [u32; 65536],
-    label: u32,
-    lo: u32,
-    hi: u32,
-) -> u32
-    requires { ⌜ Indexed (now t) (now heads) (now next) ⌝ }
-    ensures { λ r. ⌜ Unique (now (t .entry)) (now (t .exit)) (now (heads .exit)) (now (next .exit)) (node label lo hi) r ⌝ }
+pub fn unique(t: &mut [u32], index: &mut [u16; 131072], label: u32, lo: u32, hi: u32) -> u32
+    requires { ⌜ Indexed (now t) (now index) ⌝ }
+    ensures { λ r. ⌜ Unique (now (t .entry)) (now (t .exit)) (now (index .exit)) (node label lo hi) r ⌝ }
 {
     let h = hash(label, lo, hi);
     let m = base::wide(t[0]) + 2;
-    let old = find(t, heads, next, m, h, label, lo, hi);
+    let old = find(t, index, m, h, label, lo, hi);
     if old != 0 {
         return old;
     }
-    make(t, heads, next, h, label, lo, hi)
+    make(t, index, h, label, lo, hi)
 }
 
 // The nodes from index n on are taken away.

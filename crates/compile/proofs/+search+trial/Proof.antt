@@ -29,23 +29,23 @@ use Rattle.table.proofs.unique.Reads as unique-reads
 use Rattle.compile.proofs.+search+trial.{statement}
 use Rattle.compile.proofs.+search+trial.Tie.{close}
 
-abbrev μ-search : Measures 7 search-kinds.ps ℕ
-μ-search κs a = 2 * (a .1 .1 .1 .1 .1 .1 .1 .1 .0) + 1
+abbrev μ-search : Measures 5 search-kinds.ps ℕ
+μ-search κs a = 2 * (a .1 .1 .1 .1 .1 .1 .0) + 1
 
-abbrev μ-trial : Measures 7 trial-kinds.ps ℕ
-μ-trial κs a = 2 * (a .1 .1 .1 .1 .1 .1 .1 .1 .1 .0)
+abbrev μ-trial : Measures 5 trial-kinds.ps ℕ
+μ-trial κs a = 2 * (a .1 .1 .1 .1 .1 .1 .1 .0)
 
-abbrev search-at : ℕ → In 7 search-kinds.ps
-search-at t = and 7 search-kinds.ps (is 7 search-kinds.ps μ-search t) search′.Pre
+abbrev search-at : ℕ → In 5 search-kinds.ps
+search-at t = and 5 search-kinds.ps (is 5 search-kinds.ps μ-search t) search′.Pre
 
-abbrev search-below : ℕ → In 7 search-kinds.ps
-search-below t = and 7 search-kinds.ps (falls 7 search-kinds.ps _<_ μ-search t) search′.Pre
+abbrev search-below : ℕ → In 5 search-kinds.ps
+search-below t = and 5 search-kinds.ps (falls 5 search-kinds.ps _<_ μ-search t) search′.Pre
 
-abbrev trial-at : ℕ → In 7 trial-kinds.ps
-trial-at t = and 7 trial-kinds.ps (is 7 trial-kinds.ps μ-trial t) trial.Pre
+abbrev trial-at : ℕ → In 5 trial-kinds.ps
+trial-at t = and 5 trial-kinds.ps (is 5 trial-kinds.ps μ-trial t) trial.Pre
 
-abbrev trial-below : ℕ → In 7 trial-kinds.ps
-trial-below t = and 7 trial-kinds.ps (falls 7 trial-kinds.ps _<_ μ-trial t) trial.Pre
+abbrev trial-below : ℕ → In 5 trial-kinds.ps
+trial-below t = and 5 trial-kinds.ps (falls 5 trial-kinds.ps _<_ μ-trial t) trial.Pre
 
 -- what the calls in search ask and ensure, where search's measure is t
 abbrev search-claims : ℕ → search-lts.Claims
@@ -78,7 +78,7 @@ search-mul-if3 t c =
       c .place .ensures,
       mod-lt (c .before .before .before .before .before .before .args .items) (q .some),
       q .long,
-      c .before .before .before .before .before .before .good .1 .1 .1 .1 .1 .1 .0 .1,
+      c .before .before .before .before .before .before .good .1 .1 .1 .1 .0 .1,
     )
 
 search-mul-if3-2 : (t : ℕ) → search-lts.Need-mul-if3-2 (search-claims t) (search-at t) search′.Post
@@ -89,13 +89,35 @@ search-mul-if3-2 t c =
       c .place .ensures,
       mod-lt (c .before .before .before .before .before .before .args .items) (q .some),
       q .long,
-      c .before .before .before .before .before .before .good .1 .1 .1 .1 .1 .1 .0 .1,
+      c .before .before .before .before .before .before .good .1 .1 .1 .1 .0 .1,
     )
 
 search-slice-read-if3 : (t : ℕ) → search-lts.Need-slice-read-if3 (search-claims t) (search-at t) search′.Post
 search-slice-read-if3 t c =
     let q = c .before .before .before .before .before .before .before .pre .1 .1 .0 .held in
     omega (arith, c .before .place .ensures, mod-lt (c .before .before .before .before .before .before .before .args .items) (q .some), q .long)
+
+search-mul-t19 : (t : ℕ) → search-lts.Need-mul-t19 (search-claims t) (search-at t) search′.Post
+search-mul-t19 t c =
+    let q = c .before .before .before .before .before .before .before .before .pre .1 .1 .0 .held in
+    omega (
+      arith,
+      c .before .before .place .ensures,
+      mod-lt (c .before .before .before .before .before .before .before .before .args .items) (q .some),
+      q .long,
+      c .before .before .before .before .before .before .before .before .good .1 .1 .1 .1 .0 .1,
+    )
+
+search-add-t20 : (t : ℕ) → search-lts.Need-add-t20 (search-claims t) (search-at t) search′.Post
+search-add-t20 t c =
+    let q = c .before .before .before .before .before .before .before .before .pre .1 .1 .0 .held in
+    omega (
+      arith,
+      c .before .before .place .ensures,
+      mod-lt (c .before .before .before .before .before .before .before .before .args .items) (q .some),
+      q .long,
+      c .before .before .before .before .before .before .before .before .good .1 .1 .1 .1 .0 .1,
+    )
 
 search-mul-t21 : (t : ℕ) → search-lts.Need-mul-t21 (search-claims t) (search-at t) search′.Post
 search-mul-t21 t c =
@@ -105,38 +127,16 @@ search-mul-t21 t c =
       c .before .before .place .ensures,
       mod-lt (c .before .before .before .before .before .before .before .before .args .items) (q .some),
       q .long,
-      c .before .before .before .before .before .before .before .before .good .1 .1 .1 .1 .1 .1 .0 .1,
+      c .before .before .before .before .before .before .before .before .good .1 .1 .1 .1 .0 .1,
     )
 
-search-add-t22 : (t : ℕ) → search-lts.Need-add-t22 (search-claims t) (search-at t) search′.Post
-search-add-t22 t c =
-    let q = c .before .before .before .before .before .before .before .before .pre .1 .1 .0 .held in
-    omega (
-      arith,
-      c .before .before .place .ensures,
-      mod-lt (c .before .before .before .before .before .before .before .before .args .items) (q .some),
-      q .long,
-      c .before .before .before .before .before .before .before .before .good .1 .1 .1 .1 .1 .1 .0 .1,
-    )
-
-search-mul-t23 : (t : ℕ) → search-lts.Need-mul-t23 (search-claims t) (search-at t) search′.Post
-search-mul-t23 t c =
-    let q = c .before .before .before .before .before .before .before .before .pre .1 .1 .0 .held in
-    omega (
-      arith,
-      c .before .before .place .ensures,
-      mod-lt (c .before .before .before .before .before .before .before .before .args .items) (q .some),
-      q .long,
-      c .before .before .before .before .before .before .before .before .good .1 .1 .1 .1 .1 .1 .0 .1,
-    )
-
-search-slice-read-t25 : (t : ℕ) → search-lts.Need-slice-read-t25 (search-claims t) (search-at t) search′.Post
-search-slice-read-t25 t c =
+search-slice-read-t23 : (t : ℕ) → search-lts.Need-slice-read-t23 (search-claims t) (search-at t) search′.Post
+search-slice-read-t23 t c =
     let q = c .before .before .before .before .before .before .before .before .before .pre .1 .1 .0 .held in
     omega (arith, c .before .before .before .place .ensures, mod-lt (c .before .before .before .before .before .before .before .before .before .args .items) (q .some), q .long)
 
-search-cast-t26 : (t : ℕ) → search-lts.Need-cast-t26 (search-claims t) (search-at t) search′.Post
-search-cast-t26 t c =
+search-cast-t24 : (t : ℕ) → search-lts.Need-cast-t24 (search-claims t) (search-at t) search′.Post
+search-cast-t24 t c =
     let place′ = c .before .before .before .place in
     let q = c .before .before .before .before .before .before .before .before .before .pre .1 .1 .0 in
     omega (
@@ -159,7 +159,7 @@ search-returns-3 t c =
 
 search-trial-requires : (t : ℕ) → search-lts.Need-trial-requires (search-claims t) (search-at t) search′.Post
 search-trial-requires t c κs =
-    let pre = c .before .before .before .before .before .before .before .before .before .before .before .before .pre in
+    let pre = c .before .before .before .before .before .before .before .before .before .before .before .pre in
     let q = pre .1 in (
       omega (arith, pre .0),
       (
@@ -167,8 +167,8 @@ search-trial-requires t c κs =
         (
           q .1 .0,
           (
-            omega (arith, c .before .before .before .before .before .before .before .before .if1 .left),
-            (pos-open _ _ (omega (arith, c .before .before .before .before .before .before .before .if2 .left)), c .before .before .before .before .before .before .place .ensures),
+            omega (arith, c .before .before .before .before .before .before .before .if1 .left),
+            (pos-open _ _ (omega (arith, c .before .before .before .before .before .before .if2 .left)), c .before .before .before .before .before .place .ensures),
           ),
         ),
       ),
@@ -182,17 +182,17 @@ search-same-length-2 t c = c .before .before .before .before .trial .ensures .sa
 
 search-returns-4 : (t : ℕ) → search-lts.Need-returns-4 (search-claims t) (search-at t) search′.Post
 search-returns-4 t c =
-    let here = c .before .before .before .before .before .before .before .before .before .before .before in let place′ = here .place in let if2 = here .before .if2 in
+    let here = c .before .before .before .before .before .before .before .before .before .before in let place′ = here .place in let if2 = here .before .if2 in
     let args = here .before .before .before .before .before .before .args in let pre = here .before .before .before .before .before .before .pre in
     search-tried (pre .1 .0) (pre .1 .1 .0) (args .items) (place′ .result) _ refl (pos-open _ _ (omega (arith, if2 .left))) (place′ .ensures)
-    (c .before .before .before .before .before .before .before .before .before .if3 .left) (c .before .before .before .before .trial .ensures)
+    (c .before .before .before .before .before .before .before .before .if3 .left) (c .before .before .before .before .trial .ensures)
 
 abbrev trial-Inv-loop : trial-lts.InvT-loop
-trial-Inv-loop packs first after t₀ heads₀ next₀ memo₀ places at items limit low p₀ run₀ t heads next memo p run =
-    Turn (problemOf packs) places items limit t₀ memo₀ (run₀ .steps) (run₀ .full) t heads next memo p (run .answer) (run .steps) (run .full) × (At (problemOf packs) items p × (run .over ≡ false))
+trial-Inv-loop packs leads t₀ index₀ memo₀ places at items limit low p₀ run₀ t index memo p run =
+    Turn (problemOf packs) places items limit t₀ memo₀ (run₀ .steps) (run₀ .full) t index memo p (run .answer) (run .steps) (run .full) × (At (problemOf packs) items p × (run .over ≡ false))
 
 abbrev trial-μ-loop : trial-lts.MeasureT-loop
-trial-μ-loop packs first after t₀ heads₀ next₀ memo₀ places at items limit low p₀ run₀ t heads next memo p run =
+trial-μ-loop packs leads t₀ index₀ memo₀ places at items limit low p₀ run₀ t index memo p run =
     p
 
 -- what the calls in trial ask and ensure, where trial's measure is t
@@ -269,7 +269,7 @@ trial-loop-again t c =
 
 trial-search-requires : (t : ℕ) → trial-lts.Need-search-requires (trial-claims t) (trial-at t) trial.Post trial-Inv-loop trial-μ-loop
 trial-search-requires t c κs =
-    let here = c .before .before .before .before .before .before in let inside′ = here .inside in let wide2 = here .before .before .before .wide2 in
+    let here = c .before .before .before .before .before in let inside′ = here .inside in let wide2 = here .before .before .before .wide2 in
     let loop = here .before .before .before .before .before .loop in let args = here .before .before .before .before .before .before .before .before .before .before .before .before .args in
     let pre = here .before .before .before .before .before .before .before .before .before .before .before .before .pre in
     let q = pre .1 in
@@ -279,32 +279,32 @@ trial-search-requires t c κs =
       arith,
       wide2 .ensures,
       loop .inv .1 .0 .inside,
-      c .before .before .before .before .before .before .before .before .before .before .loop-test .taken,
+      c .before .before .before .before .before .before .before .before .before .loop-test .taken,
     ))) in (
       omega (
         arith,
         pre .0,
-        c .before .before .before .before .without .ensures,
+        c .before .before .before .without .ensures,
         f,
         without-back (args .items) (getD (args .packs .now) k 0)
-            (sym (inside′ .ensures) ∙ not-false (inside′ .result) (c .before .before .before .before .before .if1 .left)),
+            (sym (inside′ .ensures) ∙ not-false (inside′ .result) (c .before .before .before .before .if1 .left)),
       ),
       (q .0, (record { sound = u .grown .sound; indexed = u .indexed; held = u .held }, u .within)),
     )
 
 trial-same-length : (t : ℕ) → trial-lts.Need-same-length (trial-claims t) (trial-at t) trial.Post trial-Inv-loop trial-μ-loop
 trial-same-length t c =
-    let loop = c .before .before .before .before .before .before .before .before .before .before .before .before .before .before .before .before .before .loop in
+    let loop = c .before .before .before .before .before .before .before .before .before .before .before .before .before .before .before .before .loop in
     c .before .before .before .before .before .search .ensures .grown .long ∙ loop .inv .0 .grown .long
 
 trial-same-length-2 : (t : ℕ) → trial-lts.Need-same-length-2 (trial-claims t) (trial-at t) trial.Post trial-Inv-loop trial-μ-loop
 trial-same-length-2 t c =
-    let loop = c .before .before .before .before .before .before .before .before .before .before .before .before .before .before .before .before .before .loop in
+    let loop = c .before .before .before .before .before .before .before .before .before .before .before .before .before .before .before .before .loop in
     c .before .before .before .before .before .search .ensures .same ∙ loop .inv .0 .same
 
 trial-returns : (t : ℕ) → trial-lts.Need-returns (trial-claims t) (trial-at t) trial.Post trial-Inv-loop trial-μ-loop
 trial-returns t c =
-    let here = c .before .before .before .before .before .before .before .before .before .before in let without′ = here .without in let inside′ = here .before .before .inside in
+    let here = c .before .before .before .before .before .before .before .before .before in let without′ = here .without in let inside′ = here .before .before .inside in
     let wide2 = here .before .before .before .before .before .wide2 in let loop-test = here .before .before .before .before .before .before .loop-test in
     let loop = here .before .before .before .before .before .before .before .loop in
     let args = here .before .before .before .before .before .before .before .before .before .before .before .before .before .before .args in
@@ -313,12 +313,12 @@ trial-returns t c =
     let q = pre .1 in
     let e : loop .p ≡ wide2 .result + 1 = omega (arith, wide2 .ensures, loop-test .taken) in
     turn-over (q .0) (args .items) (fits .items .fits) (q .1 .1 .1 .0) (loop .p) (wide2 .result) (without′ .result) e (loop .inv .1 .0)
-    (sym (inside′ .ensures) ∙ not-false (inside′ .result) (c .before .before .before .before .before .before .before .before .before .before .before .if1 .left)) (without′ .ensures)
+    (sym (inside′ .ensures) ∙ not-false (inside′ .result) (c .before .before .before .before .before .before .before .before .before .before .if1 .left)) (without′ .ensures)
     (c .if2 .taken) (loop .inv .0) (c .before .before .before .before .before .search .ensures)
 
 trial-loop-less-2 : (t : ℕ) → trial-lts.Need-loop-less-2 (trial-claims t) (trial-at t) trial.Post trial-Inv-loop trial-μ-loop
 trial-loop-less-2 t c =
-    let here = c .before .before .before .before .before .before .before .before .before .before .before .before .before .before .before .before in let wide2 = here .wide2 in
+    let here = c .before .before .before .before .before .before .before .before .before .before .before .before .before .before .before in let wide2 = here .wide2 in
     let loop-test = here .before .loop-test in let loop = here .before .before .loop in let args = here .before .before .before .before .before .before .before .before .before .args in
     let fits = here .before .before .before .before .before .before .before .before .before .fits in
     let pre = here .before .before .before .before .before .before .before .before .before .pre in
@@ -327,7 +327,7 @@ trial-loop-less-2 t c =
 
 trial-loop-again-2 : (t : ℕ) → trial-lts.Need-loop-again-2 (trial-claims t) (trial-at t) trial.Post trial-Inv-loop trial-μ-loop
 trial-loop-again-2 t c =
-    let here = c .before .before .before .before .before .before .before .before .before .before .before in let without′ = here .without in let if1 = here .before .if1 in
+    let here = c .before .before .before .before .before .before .before .before .before .before in let without′ = here .without in let if1 = here .before .if1 in
     let inside′ = here .before .before .inside in let wide2 = here .before .before .before .before .before .wide2 in
     let loop-test = here .before .before .before .before .before .before .loop-test in let loop = here .before .before .before .before .before .before .before .loop in
     let args = here .before .before .before .before .before .before .before .before .before .before .before .before .before .before .args in
@@ -344,7 +344,7 @@ trial-loop-again-2 t c =
 
 trial-loop-less-3 : (t : ℕ) → trial-lts.Need-loop-less-3 (trial-claims t) (trial-at t) trial.Post trial-Inv-loop trial-μ-loop
 trial-loop-less-3 t c =
-    let here = c .before .before .before .before .before .before .before .before .before .before .before .before .before .before .before .before .before in let wide2 = here .wide2 in
+    let here = c .before .before .before .before .before .before .before .before .before .before .before .before .before .before .before .before in let wide2 = here .wide2 in
     let loop-test = here .before .loop-test in let loop = here .before .before .loop in let args = here .before .before .before .before .before .before .before .before .before .args in
     let fits = here .before .before .before .before .before .before .before .before .before .fits in
     let pre = here .before .before .before .before .before .before .before .before .before .pre in
@@ -353,7 +353,7 @@ trial-loop-less-3 t c =
 
 trial-loop-again-3 : (t : ℕ) → trial-lts.Need-loop-again-3 (trial-claims t) (trial-at t) trial.Post trial-Inv-loop trial-μ-loop
 trial-loop-again-3 t c =
-    let here = c .before .before .before .before .before .before .before .before .before .before .before .before in let without′ = here .without in let if1 = here .before .if1 in
+    let here = c .before .before .before .before .before .before .before .before .before .before .before in let without′ = here .without in let if1 = here .before .if1 in
     let inside′ = here .before .before .inside in let wide2 = here .before .before .before .before .before .wide2 in
     let loop-test = here .before .before .before .before .before .before .loop-test in let loop = here .before .before .before .before .before .before .before .loop in
     let args = here .before .before .before .before .before .before .before .before .before .before .before .before .before .before .args in
@@ -369,11 +369,11 @@ trial-loop-again-3 t c =
     )
 
 trial-unique-requires : (t : ℕ) → trial-lts.Need-unique-requires (trial-claims t) (trial-at t) trial.Post trial-Inv-loop trial-μ-loop
-trial-unique-requires t c κs = c .before .before .before .before .before .before .before .before .before .before .search .ensures .indexed
+trial-unique-requires t c κs = c .before .before .before .before .before .before .before .before .before .search .ensures .indexed
 
 trial-loop-less-4 : (t : ℕ) → trial-lts.Need-loop-less-4 (trial-claims t) (trial-at t) trial.Post trial-Inv-loop trial-μ-loop
 trial-loop-less-4 t c =
-    let here = c .before .before .before .before .before .before .before .before .before .before .before .before .before .before .before .before .before .before .before .before .before .before .before in
+    let here = c .before .before .before .before .before .before .before .before .before .before .before .before .before .before .before .before .before .before .before .before .before in
     let wide2 = here .wide2 in let loop-test = here .before .loop-test in let loop = here .before .before .loop in
     let args = here .before .before .before .before .before .before .before .before .before .args in
     let fits = here .before .before .before .before .before .before .before .before .before .fits in
@@ -383,21 +383,21 @@ trial-loop-less-4 t c =
 
 trial-loop-again-4 : (t : ℕ) → trial-lts.Need-loop-again-4 (trial-claims t) (trial-at t) trial.Post trial-Inv-loop trial-μ-loop
 trial-loop-again-4 t c =
-    let here = c .before .before .before .before .before .before .before .before .before .before .before .before .before in let the-search = here .search in
-    let without′ = here .before .before .before .before .before .without in let if1 = here .before .before .before .before .before .before .if1 in
-    let inside′ = here .before .before .before .before .before .before .before .inside in
-    let wide2 = here .before .before .before .before .before .before .before .before .before .before .wide2 in
-    let loop-test = here .before .before .before .before .before .before .before .before .before .before .before .loop-test in
-    let loop = here .before .before .before .before .before .before .before .before .before .before .before .before .loop in
-    let args = here .before .before .before .before .before .before .before .before .before .before .before .before .before .before .before .before .before .before .before .args in
-    let fits = here .before .before .before .before .before .before .before .before .before .before .before .before .before .before .before .before .before .before .before .fits in
-    let pre = here .before .before .before .before .before .before .before .before .before .before .before .before .before .before .before .before .before .before .before .pre in
+    let here = c .before .before .before .before .before .before .before .before .before .before .before .before in let the-search = here .search in
+    let without′ = here .before .before .before .before .without in let if1 = here .before .before .before .before .before .if1 in
+    let inside′ = here .before .before .before .before .before .before .inside in
+    let wide2 = here .before .before .before .before .before .before .before .before .before .wide2 in
+    let loop-test = here .before .before .before .before .before .before .before .before .before .before .loop-test in
+    let loop = here .before .before .before .before .before .before .before .before .before .before .before .loop in
+    let args = here .before .before .before .before .before .before .before .before .before .before .before .before .before .before .before .before .before .before .args in
+    let fits = here .before .before .before .before .before .before .before .before .before .before .before .before .before .before .before .before .before .before .fits in
+    let pre = here .before .before .before .before .before .before .before .before .before .before .before .before .before .before .before .before .before .before .pre in
     let q = pre .1 in
     let e : loop .p ≡ wide2 .result + 1 = omega (arith, wide2 .ensures, loop-test .taken) in (
       turn-later (q .0) (args .items) (fits .items .fits) (q .1 .1 .1 .0) (loop .p) (wide2 .result) e (loop .inv .1 .0)
           (turn-made (q .0) (args .items) (fits .items .fits) (q .1 .1 .1 .0) (loop .p) (wide2 .result) (without′ .result) e (loop .inv .1 .0)
-          (sym (inside′ .ensures) ∙ not-false (inside′ .result) (if1 .left)) (without′ .ensures) (c .before .before .before .before .before .before .before .before .if2 .left) (loop .inv .0)
-          (the-search .ensures) (c .before .before .before .before .before .before .if4 .left) (omega (arith, c .before .before .before .before .before .before .before .if3 .left)) _ _
+          (sym (inside′ .ensures) ∙ not-false (inside′ .result) (if1 .left)) (without′ .ensures) (c .before .before .before .before .before .before .before .if2 .left) (loop .inv .0)
+          (the-search .ensures) (c .before .before .before .before .before .if4 .left) (omega (arith, c .before .before .before .before .before .before .if3 .left)) _ _
           (sym (wide2 .ensures)) (c .before .before .unique .ensures)),
       (at-later (q .0) (args .items) (fits .items .fits) (q .1 .1 .1 .0) (loop .p) (wide2 .result) e (loop .inv .1 .0), loop .inv .1 .1),
     )
@@ -411,7 +411,7 @@ trial-mul-memo t c =
       pre .1 .1 .1 .1 .1,
       mod-lt (c .before .before .before .before .before .before .before .before .args .items) (q .some),
       q .long,
-      c .before .before .before .before .before .before .before .before .good .1 .1 .1 .1 .1 .1 .0 .1,
+      c .before .before .before .before .before .before .before .before .good .1 .1 .1 .1 .0 .1,
     )
 
 trial-mul-memo-2 : (t : ℕ) → trial-lts.Need-mul-memo-2 (trial-claims t) (trial-at t) trial.Post trial-Inv-loop trial-μ-loop
@@ -423,7 +423,7 @@ trial-mul-memo-2 t c =
       pre .1 .1 .1 .1 .1,
       mod-lt (c .before .before .before .before .before .before .before .before .args .items) (q .some),
       q .long,
-      c .before .before .before .before .before .before .before .before .good .1 .1 .1 .1 .1 .1 .0 .1,
+      c .before .before .before .before .before .before .before .before .good .1 .1 .1 .1 .0 .1,
     )
 
 trial-slice-write-memo : (t : ℕ) → trial-lts.Need-slice-write-memo (trial-claims t) (trial-at t) trial.Post trial-Inv-loop trial-μ-loop
@@ -446,7 +446,7 @@ trial-mul-memo-3 t c =
       pre .1 .1 .1 .1 .1,
       mod-lt (c .before .before .before .before .before .before .before .before .before .args .items) (q .some),
       q .long,
-      c .before .before .before .before .before .before .before .before .before .good .1 .1 .1 .1 .1 .1 .0 .1,
+      c .before .before .before .before .before .before .before .before .before .good .1 .1 .1 .1 .0 .1,
     )
 
 trial-add-memo : (t : ℕ) → trial-lts.Need-add-memo (trial-claims t) (trial-at t) trial.Post trial-Inv-loop trial-μ-loop
@@ -458,7 +458,7 @@ trial-add-memo t c =
       pre .1 .1 .1 .1 .1,
       mod-lt (c .before .before .before .before .before .before .before .before .before .args .items) (q .some),
       q .long,
-      c .before .before .before .before .before .before .before .before .before .good .1 .1 .1 .1 .1 .1 .0 .1,
+      c .before .before .before .before .before .before .before .before .before .good .1 .1 .1 .1 .0 .1,
     )
 
 trial-mul-memo-4 : (t : ℕ) → trial-lts.Need-mul-memo-4 (trial-claims t) (trial-at t) trial.Post trial-Inv-loop trial-μ-loop
@@ -470,7 +470,7 @@ trial-mul-memo-4 t c =
       pre .1 .1 .1 .1 .1,
       mod-lt (c .before .before .before .before .before .before .before .before .before .args .items) (q .some),
       q .long,
-      c .before .before .before .before .before .before .before .before .before .good .1 .1 .1 .1 .1 .1 .0 .1,
+      c .before .before .before .before .before .before .before .before .before .good .1 .1 .1 .1 .0 .1,
     )
 
 trial-slice-write-memo-2 : (t : ℕ) → trial-lts.Need-slice-write-memo-2 (trial-claims t) (trial-at t) trial.Post trial-Inv-loop trial-μ-loop
@@ -506,23 +506,9 @@ pub +search+trial-spec : {M : Type 1} → statement M
 )
     (search-at t)
     search′.Post
-    (search-returns t)
-    (λ c. search needs)
-    (search-returns-2 t)
-    (search-place-requires t)
-    (search-mul-if3 t)
-    (search-mul-if3-2 t)
-    (search-slice-read-if3 t)
-    (search-mul-t21 t)
-    (search-add-t22 t)
-    (search-mul-t23 t)
-    (search-slice-read-t25 t)
-    (search-cast-t26 t)
-    (search-returns-3 t)
-    (search-trial-requires t)
-    (search-same-length t)
-    (search-same-length-2 t)
-    (search-returns-4 t))
+    (search-returns t) (λ c. search needs) (search-returns-2 t) (search-place-requires t) (search-mul-if3 t) (search-mul-if3-2 t)
+    (search-slice-read-if3 t) (search-mul-t19 t) (search-add-t20 t) (search-mul-t21 t) (search-slice-read-t23 t) (search-cast-t24 t)
+    (search-returns-3 t) (search-trial-requires t) (search-same-length t) (search-same-length-2 t) (search-returns-4 t))
     λ t. trial-lts.spec (
       lowest-reads.Asked,
       lowest-reads.Learnt,
@@ -541,41 +527,10 @@ pub +search+trial-spec : {M : Type 1} → statement M
     trial.Post
     trial-Inv-loop
     trial-μ-loop
-    (trial-lowest-requires t)
-    (λ c κs. search needs)
-    (λ c. search needs)
-    (trial-element-copy-out-p t)
-    (trial-loop-holds t)
-    (λ c. search needs)
-    (λ c κs. search needs)
-    (λ c. search needs)
-    (trial-shared-slice-read-pack t)
-    (λ c. search needs)
-    (λ c. search needs)
-    (trial-element-copy-out-later t)
-    (λ c κs. search needs)
-    (trial-loop-less t)
-    (trial-loop-again t)
-    (λ c κs. search needs)
-    (trial-search-requires t)
-    (trial-same-length t)
-    (trial-same-length-2 t)
-    (trial-returns t)
-    (trial-loop-less-2 t)
-    (trial-loop-again-2 t)
-    (trial-loop-less-3 t)
-    (trial-loop-again-3 t)
-    (trial-unique-requires t)
-    (trial-loop-less-4 t)
-    (trial-loop-again-4 t)
-    (trial-mul-memo t)
-    (trial-mul-memo-2 t)
-    (trial-slice-write-memo t)
-    (λ c. search needs)
-    (trial-mul-memo-3 t)
-    (trial-add-memo t)
-    (trial-mul-memo-4 t)
-    (trial-slice-write-memo-2 t)
-    (trial-same-length-3 t)
-    (trial-same-length-4 t)
-    (trial-returns-2 t)
+    (trial-lowest-requires t) (λ c κs. search needs) (λ c. search needs) (trial-element-copy-out-p t) (trial-loop-holds t) (λ c. search needs)
+    (λ c. search needs) (λ c κs. search needs) (λ c. search needs) (trial-shared-slice-read-pack t) (λ c. search needs) (λ c. search needs)
+    (trial-element-copy-out-later t) (λ c κs. search needs) (trial-loop-less t) (trial-loop-again t) (λ c κs. search needs) (trial-search-requires t)
+    (trial-same-length t) (trial-same-length-2 t) (trial-returns t) (trial-loop-less-2 t) (trial-loop-again-2 t) (trial-loop-less-3 t)
+    (trial-loop-again-3 t) (trial-unique-requires t) (trial-loop-less-4 t) (trial-loop-again-4 t) (trial-mul-memo t) (trial-mul-memo-2 t)
+    (trial-slice-write-memo t) (λ c. search needs) (trial-mul-memo-3 t) (trial-add-memo t) (trial-mul-memo-4 t) (trial-slice-write-memo-2 t)
+    (trial-same-length-3 t) (trial-same-length-4 t) (trial-returns-2 t)

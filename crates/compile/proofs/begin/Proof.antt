@@ -20,13 +20,13 @@ place-requires c κs = c .before .before .before .before .before .pre .1 .0 .hel
 
 trial-requires : tie.Need-trial-requires
 trial-requires c κs =
-    let pre = c .before .before .before .before .before .before .before .before .before .before .pre in (
+    let pre = c .before .before .before .before .before .before .before .before .before .pre in (
       pre .0,
       (
         pre .1 .0,
         (
-          omega (arith, c .before .before .before .before .before .before .if1 .left),
-          (pos-open _ _ (omega (arith, c .before .before .before .before .before .if2 .left)), c .before .before .before .before .place .ensures),
+          omega (arith, c .before .before .before .before .before .if1 .left),
+          (pos-open _ _ (omega (arith, c .before .before .before .before .if2 .left)), c .before .before .before .place .ensures),
         ),
       ),
     )
@@ -39,7 +39,7 @@ same-length-2 c = c .before .before .before .before .trial .ensures .same
 
 returns-3 : tie.Need-returns-3
 returns-3 c =
-    let here = c .before .before .before .before .before .before .before .before .before in let place = here .place in let if2 = here .before .if2 in
+    let here = c .before .before .before .before .before .before .before .before in let place = here .place in let if2 = here .before .if2 in
     let args = here .before .before .before .before .before .before .args in let pre = here .before .before .before .before .before .before .pre in
     search-tried (pre .0) (pre .1 .0) (args .items) (place .result) _ refl (pos-open _ _ (omega (arith, if2 .left))) (place .ensures)
     (λ e. omega (arith, e, if2 .left, pre .1 .1 (place .result) (omega (arith, place .ensures, mod-lt (args .items) (pre .1 .0 .held .some)))))

@@ -10,7 +10,7 @@ use Rattle.engine.proofs.answer_pair.Statement.{statement}
 use Rattle.engine.proofs.answer_pair.Tie as tie
 
 admit-requires : tie.Need-admit-requires
-admit-requires c κs = blank 512 65536 refl refl
+admit-requires c κs = blank 512 131072 refl refl
 
 returns : tie.Need-returns
 returns c = call-refused _ _ (c .before .before .before .admit .ensures) (c .before .if1 .taken) (c .declined .ensures _)
@@ -24,7 +24,7 @@ add-if2 c = omega (arith, (c .before .before .before .admit .ensures .usable (c 
 returns-2 : tie.Need-returns-2
 returns-2 c =
     let if1 = c .before .before .before .if1 in let admit = c .before .before .before .before .before .admit in
-    let args = c .before .before .before .before .before .before .before .before .before .before .before .before .before .args in
+    let args = c .before .before .before .before .before .before .before .before .before .before .before .before .args in
     pair-makes (admit .ensures .fit (if1 .left)) (admit .ensures .usable (if1 .left)) _ _ _ (args .op)
     (refused-makes 5 (hit 5 _ (first-unknown _ _ _ (c .before .if2 .taken))) (λ z. omega arith) (c .declined2 .ensures _))
 
@@ -34,14 +34,14 @@ add-if3 c = omega (arith, (c .before .before .before .before .admit .ensures .us
 returns-3 : tie.Need-returns-3
 returns-3 c =
     let here = c .before .before .before .before in let if1 = here .if1 in let admit = here .before .before .admit in
-    let args = here .before .before .before .before .before .before .before .before .before .before .args in
+    let args = here .before .before .before .before .before .before .before .before .before .args in
     pair-makes (admit .ensures .fit (if1 .left)) (admit .ensures .usable (if1 .left)) _ _ _ (args .op)
     (refused-makes 5 (hit 5 _ (second-unknown _ _ _ (c .before .if3 .taken))) (λ z. omega arith) (c .declined3 .ensures _))
 
 returns-4 : tie.Need-returns-4
 returns-4 c =
     let here = c .before .before .before .before .before in let if1 = here .if1 in let admit = here .before .before .admit in
-    let args = here .before .before .before .before .before .before .before .before .before .before .args in
+    let args = here .before .before .before .before .before .before .before .before .before .args in
     pair-makes (admit .ensures .fit (if1 .left)) (admit .ensures .usable (if1 .left)) _ _ _ (args .op)
     (refused-makes 8 (pass 5 _ (both-known _ _ _ (omega (arith, c .before .before .before .if2 .left)) (omega (arith, c .before .before .if3 .left))) ∙ hit 8 _
     (too-few _ _ (c .before .if4 .taken))) (λ z. omega arith) (c .declined4 .ensures _))
@@ -55,23 +55,23 @@ slice-aggregate-combination c = sym (keys-taken (c .before .before .before .befo
 
 combination-requires : tie.Need-combination-requires
 combination-requires c κs = (
-  ready (c .before .before .before .before .before .before .before .before .before .before .before .admit .ensures .usable
-      (c .before .before .before .before .before .before .before .before .before .if1 .left)),
-  (omega (arith, c .before .before .before .before .before .before .before .if2 .left), omega (arith, c .before .before .before .before .before .before .if3 .left)),
+  ready (c .before .before .before .before .before .before .before .before .before .before .admit .ensures .usable
+      (c .before .before .before .before .before .before .before .before .if1 .left)),
+  (omega (arith, c .before .before .before .before .before .before .if2 .left), omega (arith, c .before .before .before .before .before .if3 .left)),
 )
 
 report-requires : tie.Need-report-requires
 report-requires c κs =
     let here = c .before .before .before .before .before in let combination = here .combination in
-    let if1 = here .before .before .before .before .before .before .before .before .before .before .if1 in
-    let admit = here .before .before .before .before .before .before .before .before .before .before .before .before .admit in
+    let if1 = here .before .before .before .before .before .before .before .before .before .if1 in
+    let admit = here .before .before .before .before .before .before .before .before .before .before .before .admit in
     (makes-words (combination .ensures) (omega (arith, (admit .ensures .usable (if1 .left)) .sound .room)), makes-more (combination .ensures))
 
 returns-5 : tie.Need-returns-5
 returns-5 c =
-    let here = c .before .before .before .before .before .before .before .before .before .before .before .before in let if4 = here .if4 in let if3 = here .before .if3 in
+    let here = c .before .before .before .before .before .before .before .before .before .before .before in let if4 = here .if4 in let if3 = here .before .if3 in
     let if2 = here .before .before .if2 in let if1 = here .before .before .before .before .if1 in let admit = here .before .before .before .before .before .before .admit in
-    let args = here .before .before .before .before .before .before .before .before .before .before .before .before .before .before .args in
+    let args = here .before .before .before .before .before .before .before .before .before .before .before .before .before .args in
     pair-makes (admit .ensures .fit (if1 .left)) (admit .ensures .usable (if1 .left)) _ _ _ (args .op)
     (reported-makes (rw ((admit .ensures .usable (if1 .left)) .keyed .are) at (c .before .before .before .before .before .before .combination .ensures)) (c .report .ensures)
     (pass 5 _ (both-known _ _ _ (omega (arith, if2 .left)) (omega (arith, if3 .left))) ∙ pass 8 _ (enough _ _ (omega (arith, if4 .left)))))

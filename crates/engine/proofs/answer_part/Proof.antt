@@ -10,7 +10,7 @@ use Rattle.engine.proofs.answer_part.Statement.{statement}
 use Rattle.engine.proofs.answer_part.Tie as tie
 
 admit-requires : tie.Need-admit-requires
-admit-requires c κs = blank 512 65536 refl refl
+admit-requires c κs = blank 512 131072 refl refl
 
 returns : tie.Need-returns
 returns c = call-refused _ _ (c .before .before .before .admit .ensures) (c .before .if1 .taken) (c .declined .ensures _)
@@ -24,14 +24,14 @@ add-if2 c = omega (arith, (c .before .before .before .admit .ensures .usable (c 
 returns-2 : tie.Need-returns-2
 returns-2 c =
     let if1 = c .before .before .before .if1 in let admit = c .before .before .before .before .before .admit in
-    let args = c .before .before .before .before .before .before .before .before .before .before .before .before .before .args in
+    let args = c .before .before .before .before .before .before .before .before .before .before .before .before .args in
     part-makes (admit .ensures .fit (if1 .left)) (admit .ensures .usable (if1 .left)) _ _ _ (args .holding)
     (refused-makes 5 (hit 5 _ (answer-unknown _ _ (c .before .if2 .taken))) (λ z. omega arith) (c .declined2 .ensures _))
 
 returns-3 : tie.Need-returns-3
 returns-3 c =
     let here = c .before .before .before .before .before in let if1 = here .if1 in let admit = here .before .before .admit in
-    let args = here .before .before .before .before .before .before .before .before .before .before .args in
+    let args = here .before .before .before .before .before .before .before .before .before .args in
     part-makes (admit .ensures .fit (if1 .left)) (admit .ensures .usable (if1 .left)) _ _ _ (args .holding)
     (refused-makes 6 (pass 5 _ (answer-known _ _ (omega (arith, c .before .before .before .if2 .left))) ∙ hit 6 _
     (package-unknown _ _ (omega (arith, c .before .before .wide .ensures, c .before .if3 .taken)))) (λ z. omega arith) (c .declined3 .ensures _))
@@ -39,7 +39,7 @@ returns-3 c =
 returns-4 : tie.Need-returns-4
 returns-4 c =
     let here = c .before .before .before .before .before .before in let if1 = here .if1 in let admit = here .before .before .admit in
-    let args = here .before .before .before .before .before .before .before .before .before .before .args in
+    let args = here .before .before .before .before .before .before .before .before .before .args in
     part-makes (admit .ensures .fit (if1 .left)) (admit .ensures .usable (if1 .left)) _ _ _ (args .holding)
     (refused-makes 8 (pass 5 _ (answer-known _ _ (omega (arith, c .before .before .before .before .if2 .left))) ∙ pass 6 _
     (package-known _ _ (omega (arith, c .before .before .before .wide .ensures, c .before .before .if3 .left))) ∙ hit 8 _ (too-few _ _ (c .before .if4 .taken))) (λ z. omega arith)
@@ -54,34 +54,34 @@ slice-aggregate-restriction c = sym (keys-taken (c .before .before .before .befo
 
 restriction-requires : tie.Need-restriction-requires
 restriction-requires c κs =
-    let here = c .before .before .before .before .before .before .before .before .before in let if1 = here .if1 in let admit = here .before .before .admit in (
+    let here = c .before .before .before .before .before .before .before .before in let if1 = here .if1 in let admit = here .before .before .admit in (
       ready (admit .ensures .usable (if1 .left)),
       (
-        omega (arith, c .before .before .before .before .before .before .before .if2 .left),
+        omega (arith, c .before .before .before .before .before .before .if2 .left),
         omega
-            (arith, c .before .before .before .before .before .before .wide .ensures, c .before .before .before .before .before .if3 .left, keys-taken (admit .ensures .usable (if1 .left))),
+            (arith, c .before .before .before .before .before .wide .ensures, c .before .before .before .before .if3 .left, keys-taken (admit .ensures .usable (if1 .left))),
       ),
     )
 
 report-requires : tie.Need-report-requires
 report-requires c κs =
-    let restriction = c .before .before .before .restriction in let if1 = c .before .before .before .before .before .before .before .before .before .before .before .before .before .if1 in
-    let admit = c .before .before .before .before .before .before .before .before .before .before .before .before .before .before .before .admit in
+    let restriction = c .before .before .before .restriction in let if1 = c .before .before .before .before .before .before .before .before .before .before .before .before .if1 in
+    let admit = c .before .before .before .before .before .before .before .before .before .before .before .before .before .before .admit in
     (makes-words (restriction .ensures) (omega (arith, (admit .ensures .usable (if1 .left)) .sound .room)), makes-more (restriction .ensures))
 
 returns-5 : tie.Need-returns-5
 returns-5 c =
-    let here = c .before .before .before .before .before .before .before .before .before .before .before .before in let if2 = here .if2 in let if1 = here .before .before .if1 in
-    let admit = here .before .before .before .before .admit in let args = here .before .before .before .before .before .before .before .before .before .before .before .before .args in
+    let here = c .before .before .before .before .before .before .before .before .before .before .before in let if2 = here .if2 in let if1 = here .before .before .if1 in
+    let admit = here .before .before .before .before .admit in let args = here .before .before .before .before .before .before .before .before .before .before .before .args in
     part-makes (admit .ensures .fit (if1 .left)) (admit .ensures .usable (if1 .left)) _ _ _ (args .holding)
     (reported-makes (rw ((admit .ensures .usable (if1 .left)) .keyed .are) at (c .before .before .before .before .restriction .ensures)) (c .report .ensures)
     (pass 5 _ (answer-known _ _ (omega (arith, if2 .left))) ∙ pass 6 _
     (package-known _ _ (omega (
       arith,
-      c .before .before .before .before .before .before .before .before .before .before .before .wide .ensures,
-      c .before .before .before .before .before .before .before .before .before .before .if3 .left,
+      c .before .before .before .before .before .before .before .before .before .before .wide .ensures,
+      c .before .before .before .before .before .before .before .before .before .if3 .left,
     ))) ∙ pass 8 _
-    (enough _ _ (omega (arith, c .before .before .before .before .before .before .before .before .before .if4 .left)))))
+    (enough _ _ (omega (arith, c .before .before .before .before .before .before .before .before .if4 .left)))))
 
 pub answer-part-spec : {M : Type 1} → statement M
 answer-part-spec =

@@ -6,7 +6,7 @@ use Rattle.engine.proofs.check.Statement.{statement}
 use Rattle.engine.proofs.check.Tie as tie
 
 admit-requires : tie.Need-admit-requires
-admit-requires c κs = blank 512 65536 refl refl
+admit-requires c κs = blank 512 131072 refl refl
 
 returns : tie.Need-returns
 returns c = record { result = reply-refused (c .before .before .admit .result) tt (sym (c .before .before .admit .ensures .says)) (c .if1 .taken) }

@@ -10,7 +10,7 @@ use Rattle.engine.proofs.cover.Statement.{statement}
 use Rattle.engine.proofs.cover.Tie as tie
 
 admit-requires : tie.Need-admit-requires
-admit-requires c κs = blank 512 65536 refl refl
+admit-requires c κs = blank 512 131072 refl refl
 
 returns : tie.Need-returns
 returns c = call-refused _ _ (c .before .before .before .admit .ensures) (c .before .if1 .taken) (c .declined .ensures _)
@@ -33,38 +33,38 @@ returns-3 c =
 
 cover-requires : tie.Need-cover-requires
 cover-requires c κs =
-    let here = c .before .before .before .before .before .before .before in let if1 = here .if1 in let admit = here .before .before .admit in (
+    let here = c .before .before .before .before .before .before in let if1 = here .if1 in let admit = here .before .before .admit in (
       (admit .ensures .usable (if1 .left)) .rows,
       (
         (admit .ensures .usable (if1 .left)) .sound,
-        ((admit .ensures .usable (if1 .left)) .indexed, omega (arith, c .before .before .before .before .if3 .left)),
+        ((admit .ensures .usable (if1 .left)) .indexed, omega (arith, c .before .before .before .if3 .left)),
       ),
     )
 
 returns-4 : tie.Need-returns-4
 returns-4 c =
-    let here = c .before .before .before .before .before .before in let cover = here .cover in let if2 = here .before .before .before .before .before .before .if2 in
-    let below = here .before .before .before .before .before .before .before .below in let if1 = here .before .before .before .before .before .before .before .before .if1 in
-    let admit = here .before .before .before .before .before .before .before .before .before .before .admit in
+    let here = c .before .before .before .before .before .before in let cover = here .cover in let if2 = here .before .before .before .before .before .if2 in
+    let below = here .before .before .before .before .before .before .below in let if1 = here .before .before .before .before .before .before .before .if1 in
+    let admit = here .before .before .before .before .before .before .before .before .before .admit in
     call-makes _ _ (admit .ensures .fit (if1 .left)) (admit .ensures .usable (if1 .left)) refl
     (refuses 9 (limit-met _ _ (sym (below .ensures) ∙ not-false _ (if2 .left))
-    (omega (arith, c .before .before .before .before .before .before .before .before .before .before .before .if3 .left)) (cover .ensures) (c .before .if4 .taken)) (λ z. omega arith)
+    (omega (arith, c .before .before .before .before .before .before .before .before .before .before .if3 .left)) (cover .ensures) (c .before .if4 .taken)) (λ z. omega arith)
     (cover .ensures .back (c .before .if4 .taken)) (c .declined4 .ensures))
 
 returns-5 : tie.Need-returns-5
 returns-5 c =
-    let here = c .before .before .before .before .before .before .before in let cover = here .cover in let if3 = here .before .before .before .before .before .if3 in
-    let if2 = here .before .before .before .before .before .before .if2 in let below = here .before .before .before .before .before .before .before .below in
-    let if1 = here .before .before .before .before .before .before .before .before .if1 in
-    let admit = here .before .before .before .before .before .before .before .before .before .before .admit in
+    let here = c .before .before .before .before .before .before .before in let cover = here .cover in let if3 = here .before .before .before .before .if3 in
+    let if2 = here .before .before .before .before .before .if2 in let below = here .before .before .before .before .before .before .below in
+    let if1 = here .before .before .before .before .before .before .before .if1 in
+    let admit = here .before .before .before .before .before .before .before .before .before .admit in
     call-makes _ _ (admit .ensures .fit (if1 .left)) (admit .ensures .usable (if1 .left)) refl
     (refuses 10 (no-room _ _ (sym (below .ensures) ∙ not-false _ (if2 .left)) (omega (arith, if3 .left)) (cover .ensures) (c .before .before .if4 .left) (c .before .if5 .taken))
     (λ z. omega arith) (cover .ensures .back-full (c .before .if5 .taken)) (c .declined5 .ensures))
 
-cast-t30 : tie.Need-cast-t30
-cast-t30 c =
-    let here = c .before .before .before .before .before .before .before .before .before .before .before .before in let if3 = here .if3 in let if2 = here .before .if2 in
-    let below = here .before .before .below in let fits′ = here .before .before .before .before .before .before .before .before .before .before .before .before .before .fits in
+cast-t27 : tie.Need-cast-t27
+cast-t27 c =
+    let here = c .before .before .before .before .before .before .before .before .before .before .before in let if3 = here .if3 in let if2 = here .before .if2 in
+    let below = here .before .before .below in let fits′ = here .before .before .before .before .before .before .before .before .before .before .before .before .fits in
     record {
       fits = omega (
         arith,
@@ -76,7 +76,7 @@ cast-t30 c =
 
 returns-6 : tie.Need-returns-6
 returns-6 c =
-    let here = c .before .before .before .before .before .before .before .before .before .before .before .before in let if3 = here .if3 in let if2 = here .before .if2 in
+    let here = c .before .before .before .before .before .before .before .before .before .before .before in let if3 = here .if3 in let if2 = here .before .if2 in
     let below = here .before .before .below in let if1 = here .before .before .before .if1 in let admit = here .before .before .before .before .before .admit in
     call-makes _ _ (admit .ensures .fit (if1 .left)) (admit .ensures .usable (if1 .left)) refl
     (cover-answers _ _ (sym (below .ensures) ∙ not-false _ (if2 .left)) (omega (arith, if3 .left)) (c .before .before .before .before .before .before .before .cover .ensures)
@@ -87,5 +87,5 @@ cover-spec =
     tie.close
     (tie.spec (λ c. search needs) admit-requires (λ c κs. search needs) (λ c. search needs) returns below-requires (λ c κs. search needs)
     (λ c. search needs) returns-2 (λ c κs. search needs) (λ c. search needs) returns-3 cover-requires (λ c κs. search needs) (λ c. search needs)
-    (λ c. search needs) returns-4 (λ c κs. search needs) (λ c. search needs) (λ c. search needs) returns-5 cast-t30 (λ c. search needs)
+    (λ c. search needs) returns-4 (λ c κs. search needs) (λ c. search needs) (λ c. search needs) returns-5 cast-t27 (λ c. search needs)
     (λ c. search needs) returns-6)

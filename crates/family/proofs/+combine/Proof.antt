@@ -19,14 +19,14 @@ use Rattle.family.proofs.place.Reads as place-reads
 use Rattle.family.proofs.+combine.{statement}
 use Rattle.family.proofs.+combine.Tie.{close}
 
-abbrev μ-combine : Measures 5 combine-kinds.ps ℕ
-μ-combine κs a = a .1 .1 .1 .1 .1 .1 .0 + a .1 .1 .1 .1 .1 .1 .1 .0
+abbrev μ-combine : Measures 4 combine-kinds.ps ℕ
+μ-combine κs a = a .1 .1 .1 .1 .1 .0 + a .1 .1 .1 .1 .1 .1 .0
 
-abbrev combine-at : ℕ → In 5 combine-kinds.ps
-combine-at t = and 5 combine-kinds.ps (is 5 combine-kinds.ps μ-combine t) combine.Pre
+abbrev combine-at : ℕ → In 4 combine-kinds.ps
+combine-at t = and 4 combine-kinds.ps (is 4 combine-kinds.ps μ-combine t) combine.Pre
 
-abbrev combine-below : ℕ → In 5 combine-kinds.ps
-combine-below t = and 5 combine-kinds.ps (falls 5 combine-kinds.ps _<_ μ-combine t) combine.Pre
+abbrev combine-below : ℕ → In 4 combine-kinds.ps
+combine-below t = and 4 combine-kinds.ps (falls 4 combine-kinds.ps _<_ μ-combine t) combine.Pre
 
 -- what the calls in combine ask and ensure, where combine's measure is t
 abbrev combine-claims : ℕ → combine-lts.Claims
@@ -69,22 +69,22 @@ combine-cut-requires t c κs =
 
 combine-combine-requires : (t : ℕ) → combine-lts.Need-combine-requires (combine-claims t) (combine-at t) combine.Post
 combine-combine-requires t c κs =
-    let here = c .before .before .before .before in let cut′ = here .cut in let pre = here .before .before .before .before .before .before .before .before .before .before .pre in
+    let here = c .before .before .before in let cut′ = here .cut in let pre = here .before .before .before .before .before .before .before .before .before .before .pre in
     (omega (arith, pre .0, (cut′ .ensures) .falls1), ((pre .1 .0), ((pre .1 .1 .0), hi-known (pre .1 .0) (cut′ .ensures))))
 
 combine-returns-2 : (t : ℕ) → combine-lts.Need-returns-2 (combine-claims t) (combine-at t) combine.Post
 combine-returns-2 t c =
-    let here = c .before .before .before .before .before .before .before .before .before .before .before .before .before .before .before .before .before .before .before .before in
+    let here = c .before .before .before .before .before .before .before .before .before .before .before .before .before .before .before .before .before .before .before in
     let args = here .args in let pre = here .pre in
-    hi-none (args .op) (pre .1 .0) (pre .1 .1 .1) (c .before .before .before .before .before .before .before .before .before .before .cut .ensures)
+    hi-none (args .op) (pre .1 .0) (pre .1 .1 .1) (c .before .before .before .before .before .before .before .before .before .cut .ensures)
     (c .before .before .before .before .before .combine .ensures .0) (c .if2 .taken)
 
 combine-combine-requires-2 : (t : ℕ) → combine-lts.Need-combine-requires-2 (combine-claims t) (combine-at t) combine.Post
 combine-combine-requires-2 t c κs =
-    let here = c .before .before .before .before in let if2 = here .if2 in let combine′ = here .before .before .before .before .before .combine in
-    let cut′ = here .before .before .before .before .before .before .before .before .before .before .cut in
-    let args = here .before .before .before .before .before .before .before .before .before .before .before .before .before .before .before .before .before .before .before .before .args in
-    let pre = here .before .before .before .before .before .before .before .before .before .before .before .before .before .before .before .before .before .before .before .before .pre in (
+    let here = c .before .before .before in let if2 = here .if2 in let combine′ = here .before .before .before .before .before .combine in
+    let cut′ = here .before .before .before .before .before .before .before .before .before .cut in
+    let args = here .before .before .before .before .before .before .before .before .before .before .before .before .before .before .before .before .before .before .before .args in
+    let pre = here .before .before .before .before .before .before .before .before .before .before .before .before .before .before .before .before .before .before .before .pre in (
       omega (arith, pre .0, (cut′ .ensures) .falls0),
       (
         hi-ready (args .op) (pre .1 .0) (pre .1 .1 .1) (cut′ .ensures) (combine′ .ensures .0),
@@ -98,31 +98,31 @@ combine-combine-requires-2 t c κs =
 
 combine-returns-3 : (t : ℕ) → combine-lts.Need-returns-3 (combine-claims t) (combine-at t) combine.Post
 combine-returns-3 t c =
-    let here = c .before .before .before .before .before .before .before .before .before .before .before .before .before .before .before in let combine′ = here .combine in
-    let cut′ = here .before .before .before .before .before .cut in
-    let args = here .before .before .before .before .before .before .before .before .before .before .before .before .before .before .before .args in
-    let pre = here .before .before .before .before .before .before .before .before .before .before .before .before .before .before .before .pre in
+    let here = c .before .before .before .before .before .before .before .before .before .before .before .before .before .before in let combine′ = here .combine in
+    let cut′ = here .before .before .before .before .cut in
+    let args = here .before .before .before .before .before .before .before .before .before .before .before .before .before .before .args in
+    let pre = here .before .before .before .before .before .before .before .before .before .before .before .before .before .before .pre in
     lo-none (args .op) (pre .1 .0) (pre .1 .1 .1) (cut′ .ensures) (combine′ .ensures .0)
-    (omega (arith, combine′ .ensures .0 .small, c .before .before .before .before .before .before .before .before .before .before .if2 .left))
+    (omega (arith, combine′ .ensures .0 .small, c .before .before .before .before .before .before .before .before .before .if2 .left))
     (c .before .before .before .before .before .combine2 .ensures .0) (c .if3 .taken)
 
 combine-make-requires : (t : ℕ) → combine-lts.Need-make-requires (combine-claims t) (combine-at t) combine.Post
-combine-make-requires t c κs = (c .before .before .before .before .before .before .before .before .combine2 .ensures .0) .indexed
+combine-make-requires t c κs = (c .before .before .before .before .before .before .before .combine2 .ensures .0) .indexed
 
 combine-returns-4 : (t : ℕ) → combine-lts.Need-returns-4 (combine-claims t) (combine-at t) combine.Post
 combine-returns-4 t c =
-    let here = c .before .before .before .before .before .before .before .before .before .before .before .before in let combine2 = here .combine2 in
-    let if2 = here .before .before .before .before .before .if2 in let back = here .before .before .before .before .before .before .before .before .before .before in
-    let combine′ = back .combine in let cut′ = back .before .before .before .before .before .cut in
-    let far = back .before .before .before .before .before .before .before .before .before .before .before .before .before .before .before in let args = far .args in
+    let here = c .before .before .before .before .before .before .before .before .before .before .before in let combine2 = here .combine2 in
+    let if2 = here .before .before .before .before .if2 in let back = here .before .before .before .before .before .before .before .before .before in
+    let combine′ = back .combine in let cut′ = back .before .before .before .before .cut in
+    let far = back .before .before .before .before .before .before .before .before .before .before .before .before .before .before in let args = far .args in
     let pre = far .pre in
     last-none (args .op) (pre .1 .0) (pre .1 .1 .1) (cut′ .ensures) (combine′ .ensures .0) (omega (arith, combine′ .ensures .0 .small, if2 .left)) (combine2 .ensures .0)
-    (omega (arith, combine2 .ensures .0 .small, c .before .before .before .before .before .before .before .if3 .left)) (c .before .before .before .make .ensures) (c .if4 .taken)
+    (omega (arith, combine2 .ensures .0 .small, c .before .before .before .before .before .before .if3 .left)) (c .before .before .before .make .ensures) (c .if4 .taken)
 
 combine-mul-memo : (t : ℕ) → combine-lts.Need-mul-memo (combine-claims t) (combine-at t) combine.Post
 combine-mul-memo t c =
-    let here = c .before .before .before .before .before .before .before .before .before .before .before .before .before .before .before .before .before .before in
-    let back = here .before .before .before .before .before .before .before .before .before .before .before .before .before .before .before in let pack′ = back .pack in
+    let here = c .before .before .before .before .before .before .before .before .before .before .before .before .before .before .before .before in
+    let back = here .before .before .before .before .before .before .before .before .before .before .before .before .before .before in let pack′ = back .pack in
     let pre = back .before .before .before .before .pre in
     omega (
       arith,
@@ -132,8 +132,8 @@ combine-mul-memo t c =
 
 combine-add-memo : (t : ℕ) → combine-lts.Need-add-memo (combine-claims t) (combine-at t) combine.Post
 combine-add-memo t c =
-    let here = c .before .before .before .before .before .before .before .before .before .before .before .before .before .before .before .before .before .before in
-    let back = here .before .before .before .before .before .before .before .before .before .before .before .before .before .before .before .before in
+    let here = c .before .before .before .before .before .before .before .before .before .before .before .before .before .before .before .before in
+    let back = here .before .before .before .before .before .before .before .before .before .before .before .before .before .before .before in
     let pack′ = back .pack in let pre = back .before .before .before .before .pre in
     omega (
       arith,
@@ -144,34 +144,34 @@ combine-add-memo t c =
 
 combine-mul-memo-2 : (t : ℕ) → combine-lts.Need-mul-memo-2 (combine-claims t) (combine-at t) combine.Post
 combine-mul-memo-2 t c =
-    let here = c .before .before .before .before .before .before .before .before .before .before .before .before .before .before .before .before .before .before in
-    let back = here .before .before .before .before .before .before .before .before .before .before .before .before .before .before .before in let place′ = back .place in
+    let here = c .before .before .before .before .before .before .before .before .before .before .before .before .before .before .before .before in
+    let back = here .before .before .before .before .before .before .before .before .before .before .before .before .before .before in let place′ = back .place in
     let good = back .before .before .before .before .before .good in
-    omega (arith, place′ .ensures, good .1 .1 .1 .1 .0 .1)
+    omega (arith, place′ .ensures, good .1 .1 .1 .0 .1)
 
 combine-slice-write-memo : (t : ℕ) → combine-lts.Need-slice-write-memo (combine-claims t) (combine-at t) combine.Post
 combine-slice-write-memo t c =
-    let here = c .before .before .before .before .before .before .before .before .before .before .before .before .before .before .before .before .before .before .before .before in
-    let memo = here .memo in let place′ = here .before .before .before .before .before .before .before .before .before .before .before .before .before .place in
-    omega (arith, place′ .ensures, memo .given, c .before .before .before .before .before .before .before .before .before .before .memo2 .given)
+    let here = c .before .before .before .before .before .before .before .before .before .before .before .before .before .before .before .before .before .before in
+    let memo = here .memo in let place′ = here .before .before .before .before .before .before .before .before .before .before .before .before .place in
+    omega (arith, place′ .ensures, memo .given, c .before .before .before .before .before .before .before .before .before .memo2 .given)
 
 combine-same-length-9 : (t : ℕ) → combine-lts.Need-same-length-9 (combine-claims t) (combine-at t) combine.Post
 combine-same-length-9 t c =
-    let memo = c .before .before .before .before .before .before .before .before .before .before .before .before .before .before .before .before .before .before .before .before .memo in
-    simp length-set (c .before .before .before .before .before .before .before .before .before .before .memo2 .given ∙ memo .given)
+    let memo = c .before .before .before .before .before .before .before .before .before .before .before .before .before .before .before .before .before .before .memo in
+    simp length-set (c .before .before .before .before .before .before .before .before .before .memo2 .given ∙ memo .given)
 
 combine-returns-5 : (t : ℕ) → combine-lts.Need-returns-5 (combine-claims t) (combine-at t) combine.Post
 combine-returns-5 t c =
-    let if3 = c .before .before .before .before .before .before .before .before .if3 in
-    let here = c .before .before .before .before .before .before .before .before .before .before .before .before .before in let combine2 = here .combine2 in
-    let if2 = here .before .before .before .before .before .if2 in let memo = here .before .before .before .before .before .before .before .memo in
-    let back = here .before .before .before .before .before .before .before .before .before .before in let combine′ = back .combine in
-    let cut′ = back .before .before .before .before .before .cut in let far = back .before .before .before .before .before .before .before .before .before .before in
+    let if3 = c .before .before .before .before .before .before .before .if3 in
+    let here = c .before .before .before .before .before .before .before .before .before .before .before .before in let combine2 = here .combine2 in
+    let if2 = here .before .before .before .before .if2 in let memo = here .before .before .before .before .before .before .memo in
+    let back = here .before .before .before .before .before .before .before .before .before in let combine′ = back .combine in
+    let cut′ = back .before .before .before .before .cut in let far = back .before .before .before .before .before .before .before .before .before in
     let place′ = far .place in let pack′ = far .before .pack in let args = far .before .before .before .before .before .args in
     let pre = far .before .before .before .before .before .pre in
     last-stored (args .op) (pre .1 .0) (pre .1 .1 .1) (cut′ .ensures) (combine′ .ensures .0) (omega (arith, combine′ .ensures .0 .small, if2 .left)) (combine2 .ensures .0)
     (omega (arith, combine2 .ensures .0 .small, if3 .left)) (c .before .before .before .before .make .ensures) _ _ (pack′ .ensures)
-    (omega (arith, place′ .ensures, memo .given, c .before .before .before .before .before .before .before .before .before .before .memo2 .given)) (omega (arith, c .widened .ensures .0))
+    (omega (arith, place′ .ensures, memo .given, c .before .before .before .before .before .before .before .before .before .memo2 .given)) (omega (arith, c .widened .ensures .0))
     (combine2 .ensures .1 (omega (arith, combine2 .ensures .0 .small, if3 .left)))
 
 pub +combine-spec : {M : Type 1} → statement M

@@ -15,15 +15,15 @@ use Rattle.base.proofs.wide.Reads as wide-reads
 use Rattle.family.proofs.+restrict.{statement}
 use Rattle.family.proofs.+restrict.Tie.{close}
 
-abbrev μ-restrict : Measures 5 restrict-kinds.ps ℕ
-μ-restrict κs a = a .1 .1 .1 .1 .1 .1 .1 .0
+abbrev μ-restrict : Measures 4 restrict-kinds.ps ℕ
+μ-restrict κs a = a .1 .1 .1 .1 .1 .1 .0
 
-abbrev restrict-at : ℕ → In 5 restrict-kinds.ps
-restrict-at t = and 5 restrict-kinds.ps (is 5 restrict-kinds.ps μ-restrict t) restrict.Pre
+abbrev restrict-at : ℕ → In 4 restrict-kinds.ps
+restrict-at t = and 4 restrict-kinds.ps (is 4 restrict-kinds.ps μ-restrict t) restrict.Pre
 
-abbrev restrict-below : ℕ → In 5 restrict-kinds.ps
+abbrev restrict-below : ℕ → In 4 restrict-kinds.ps
 restrict-below t =
-    and 5 restrict-kinds.ps (falls 5 restrict-kinds.ps _<_ μ-restrict t) restrict.Pre
+    and 4 restrict-kinds.ps (falls 4 restrict-kinds.ps _<_ μ-restrict t) restrict.Pre
 
 -- what the calls in restrict ask and ensure, where restrict's measure is t
 abbrev restrict-claims : ℕ → restrict-lts.Claims
@@ -101,19 +101,19 @@ restrict-slice-read-hi t c =
     )
 
 restrict-make-requires : (t : ℕ) → restrict-lts.Need-make-requires (restrict-claims t) (restrict-at t) restrict.Post
-restrict-make-requires t c κs = c .before .before .before .before .before .before .before .before .before .before .before .before .before .before .pre .1 .0 .indexed
+restrict-make-requires t c κs = c .before .before .before .before .before .before .before .before .before .before .before .before .before .pre .1 .0 .indexed
 
 restrict-returns-2 : (t : ℕ) → restrict-lts.Need-returns-2 (restrict-claims t) (restrict-at t) restrict.Post
 restrict-returns-2 t c =
-    let here = c .before .before .before .before .before .before .before .before .before .before in let wide′ = here .wide in let soon′ = here .before .before .soon in
+    let here = c .before .before .before .before .before .before .before .before .before in let wide′ = here .wide in let soon′ = here .before .before .soon in
     let pre = here .before .before .before .before .before .before .before .pre in
     own-gives (open-of (3 * wide′ .result - 5) (pre .1 .0) (pre .1 .1 .0) (pre .1 .1 .1) (soon′ .ensures)
-    (c .before .before .before .before .before .before .before .before .before .before .before .if1 .left) (omega (arith, wide′ .ensures)))
-    (c .before .before .before .before .before .before .if2 .taken) (c .before .before .make .ensures)
+    (c .before .before .before .before .before .before .before .before .before .before .if1 .left) (omega (arith, wide′ .ensures)))
+    (c .before .before .before .before .before .if2 .taken) (c .before .before .make .ensures)
 
 restrict-restrict-requires : (t : ℕ) → restrict-lts.Need-restrict-requires (restrict-claims t) (restrict-at t) restrict.Post
 restrict-restrict-requires t c κs =
-    let here = c .before .before .before .before .before .before .before .before in let wide′ = here .wide in let if1 = here .before .if1 in let soon′ = here .before .before .soon in
+    let here = c .before .before .before .before .before .before .before in let wide′ = here .wide in let if1 = here .before .if1 in let soon′ = here .before .before .soon in
     let pre = here .before .before .before .before .before .before .before .pre in (
       omega (arith, pre .0, hi-falls (open-of (3 * wide′ .result - 5) (pre .1 .0) (pre .1 .1 .0) (pre .1 .1 .1) (soon′ .ensures) (if1 .left) (omega (arith, wide′ .ensures)))),
       (
@@ -133,19 +133,19 @@ restrict-same-length-3 t c = (c .before .before .before .restrict .ensures .0) .
 
 restrict-returns-3 : (t : ℕ) → restrict-lts.Need-returns-3 (restrict-claims t) (restrict-at t) restrict.Post
 restrict-returns-3 t c =
-    let here = c .before .before .before .before .before .before .before .before .before .before .before .before in let wide′ = here .wide in let if1 = here .before .if1 in
+    let here = c .before .before .before .before .before .before .before .before .before .before .before in let wide′ = here .wide in let if1 = here .before .if1 in
     let soon′ = here .before .before .soon in let pre = here .before .before .before .before .before .before .before .pre in
     hi-none (open-of (3 * wide′ .result - 5) (pre .1 .0) (pre .1 .1 .0) (pre .1 .1 .1) (soon′ .ensures) (if1 .left) (omega (arith, wide′ .ensures)))
-    (λ e. omega (arith, c .before .before .before .before .before .before .before .before .if2 .left)) (c .before .before .before .restrict .ensures .0) (c .if3 .taken)
+    (λ e. omega (arith, c .before .before .before .before .before .before .before .if2 .left)) (c .before .before .before .restrict .ensures .0) (c .if3 .taken)
 
 restrict-restrict-requires-2 : (t : ℕ) → restrict-lts.Need-restrict-requires-2 (restrict-claims t) (restrict-at t) restrict.Post
 restrict-restrict-requires-2 t c κs =
-    let here = c .before .before .before .before in let if3 = here .if3 in let restrict′ = here .before .before .before .restrict in
-    let if2 = here .before .before .before .before .before .before .before .before .if2 in
-    let wide′ = here .before .before .before .before .before .before .before .before .before .before .before .before .wide in
-    let if1 = here .before .before .before .before .before .before .before .before .before .before .before .before .before .if1 in
-    let soon′ = here .before .before .before .before .before .before .before .before .before .before .before .before .before .before .soon in
-    let pre = here .before .before .before .before .before .before .before .before .before .before .before .before .before .before .before .before .before .before .before .pre in (
+    let here = c .before .before .before in let if3 = here .if3 in let restrict′ = here .before .before .before .restrict in
+    let if2 = here .before .before .before .before .before .before .before .if2 in
+    let wide′ = here .before .before .before .before .before .before .before .before .before .before .before .wide in
+    let if1 = here .before .before .before .before .before .before .before .before .before .before .before .before .if1 in
+    let soon′ = here .before .before .before .before .before .before .before .before .before .before .before .before .before .soon in
+    let pre = here .before .before .before .before .before .before .before .before .before .before .before .before .before .before .before .before .before .before .pre in (
       omega (arith, pre .0, lo-falls (open-of (3 * wide′ .result - 5) (pre .1 .0) (pre .1 .1 .0) (pre .1 .1 .1) (soon′ .ensures) (if1 .left) (omega (arith, wide′ .ensures)))),
       (
         hi-ready (open-of (3 * wide′ .result - 5) (pre .1 .0) (pre .1 .1 .0) (pre .1 .1 .1) (soon′ .ensures) (if1 .left) (omega (arith, wide′ .ensures))) (λ e. omega (arith, if2 .left))
@@ -163,39 +163,39 @@ restrict-restrict-requires-2 t c κs =
 
 restrict-same-length-4 : (t : ℕ) → restrict-lts.Need-same-length-4 (restrict-claims t) (restrict-at t) restrict.Post
 restrict-same-length-4 t c = (c .before .before .before .restrict2 .ensures .0) .long ∙
-    (c .before .before .before .before .before .before .before .before .before .before .before .restrict .ensures .0) .long
+    (c .before .before .before .before .before .before .before .before .before .before .restrict .ensures .0) .long
 
 restrict-returns-4 : (t : ℕ) → restrict-lts.Need-returns-4 (restrict-claims t) (restrict-at t) restrict.Post
 restrict-returns-4 t c =
-    let here = c .before .before .before .before .before .before .before .before .before .before .before in let restrict′ = here .restrict in
-    let if2 = here .before .before .before .before .before .if2 in let wide′ = here .before .before .before .before .before .before .before .before .before .wide in
-    let if1 = here .before .before .before .before .before .before .before .before .before .before .if1 in
-    let soon′ = here .before .before .before .before .before .before .before .before .before .before .before .soon in
-    let pre = here .before .before .before .before .before .before .before .before .before .before .before .before .before .before .before .before .pre in
+    let here = c .before .before .before .before .before .before .before .before .before .before in let restrict′ = here .restrict in
+    let if2 = here .before .before .before .before .if2 in let wide′ = here .before .before .before .before .before .before .before .before .wide in
+    let if1 = here .before .before .before .before .before .before .before .before .before .if1 in
+    let soon′ = here .before .before .before .before .before .before .before .before .before .before .soon in
+    let pre = here .before .before .before .before .before .before .before .before .before .before .before .before .before .before .before .pre in
     lo-none (open-of (3 * wide′ .result - 5) (pre .1 .0) (pre .1 .1 .0) (pre .1 .1 .1) (soon′ .ensures) (if1 .left) (omega (arith, wide′ .ensures))) (λ e. omega (arith, if2 .left))
-    (restrict′ .ensures .0) (omega (arith, restrict′ .ensures .0 .small, c .before .before .before .before .before .before .before .before .if3 .left))
+    (restrict′ .ensures .0) (omega (arith, restrict′ .ensures .0 .small, c .before .before .before .before .before .before .before .if3 .left))
     (c .before .before .before .restrict2 .ensures .0) (c .if4 .taken)
 
 restrict-make-requires-2 : (t : ℕ) → restrict-lts.Need-make-requires-2 (restrict-claims t) (restrict-at t) restrict.Post
-restrict-make-requires-2 t c κs = (c .before .before .before .before .before .before .restrict2 .ensures .0) .indexed
+restrict-make-requires-2 t c κs = (c .before .before .before .before .before .restrict2 .ensures .0) .indexed
 
 restrict-returns-5 : (t : ℕ) → restrict-lts.Need-returns-5 (restrict-claims t) (restrict-at t) restrict.Post
 restrict-returns-5 t c =
-    let here = c .before .before .before .before .before .before .before .before .before .before in let restrict2 = here .restrict2 in
-    let if3 = here .before .before .before .before .before .if3 in let restrict′ = here .before .before .before .before .before .before .before .before .restrict in
-    let back = here .before .before .before .before .before .before .before .before .before .before .before .before .before in let if2 = back .if2 in
+    let here = c .before .before .before .before .before .before .before .before .before in let restrict2 = here .restrict2 in
+    let if3 = here .before .before .before .before .if3 in let restrict′ = here .before .before .before .before .before .before .before .restrict in
+    let back = here .before .before .before .before .before .before .before .before .before .before .before in let if2 = back .if2 in
     let wide′ = back .before .before .before .before .wide in let if1 = back .before .before .before .before .before .if1 in
     let soon′ = back .before .before .before .before .before .before .soon in
     let far = back .before .before .before .before .before .before .before .before .before .before .before in let pre = far .pre in
     last-none (open-of (3 * wide′ .result - 5) (pre .1 .0) (pre .1 .1 .0) (pre .1 .1 .1) (soon′ .ensures) (if1 .left) (omega (arith, wide′ .ensures))) (λ e. omega (arith, if2 .left))
     (restrict′ .ensures .0) (omega (arith, restrict′ .ensures .0 .small, if3 .left)) (restrict2 .ensures .0)
-    (omega (arith, restrict2 .ensures .0 .small, c .before .before .before .before .before .before .before .if4 .left)) (c .before .before .before .make2 .ensures) (c .if5 .taken)
+    (omega (arith, restrict2 .ensures .0 .small, c .before .before .before .before .before .before .if4 .left)) (c .before .before .before .make2 .ensures) (c .if5 .taken)
 
 restrict-add-memo : (t : ℕ) → restrict-lts.Need-add-memo (restrict-claims t) (restrict-at t) restrict.Post
 restrict-add-memo t c =
-    let here = c .before .before .before .before .before .before .before .before .before .before in let restrict2 = here .restrict2 in
-    let if3 = here .before .before .before .before .before .if3 in let restrict′ = here .before .before .before .before .before .before .before .before .restrict in
-    let back = here .before .before .before .before .before .before .before .before .before .before .before .before .before in let if2 = back .if2 in
+    let here = c .before .before .before .before .before .before .before .before .before in let restrict2 = here .restrict2 in
+    let if3 = here .before .before .before .before .if3 in let restrict′ = here .before .before .before .before .before .before .before .restrict in
+    let back = here .before .before .before .before .before .before .before .before .before .before .before in let if2 = back .if2 in
     let wide′ = back .before .before .before .before .wide in let if1 = back .before .before .before .before .before .if1 in
     let soon′ = back .before .before .before .before .before .before .soon in
     let far = back .before .before .before .before .before .before .before .before .before .before .before in let pre = far .pre in
@@ -203,29 +203,29 @@ restrict-add-memo t c =
       arith,
       last-small (open-of (3 * wide′ .result - 5) (pre .1 .0) (pre .1 .1 .0) (pre .1 .1 .1) (soon′ .ensures) (if1 .left) (omega (arith, wide′ .ensures)))
           (λ e. omega (arith, if2 .left)) (restrict′ .ensures .0) (omega (arith, restrict′ .ensures .0 .small, if3 .left)) (restrict2 .ensures .0)
-          (omega (arith, restrict2 .ensures .0 .small, c .before .before .before .before .before .before .before .if4 .left)) (c .before .before .before .make2 .ensures),
+          (omega (arith, restrict2 .ensures .0 .small, c .before .before .before .before .before .before .if4 .left)) (c .before .before .before .make2 .ensures),
     )
 
 restrict-mul-memo : (t : ℕ) → restrict-lts.Need-mul-memo (restrict-claims t) (restrict-at t) restrict.Post
 restrict-mul-memo t c =
-    let here = c .before .before .before .before .before .before .before .before .before .before .before .before .before .before .before .before .before .before in
-    let back = here .before .before .before .before .before .before .before .before .before in let wide′ = back .wide in
+    let here = c .before .before .before .before .before .before .before .before .before .before .before .before .before .before .before .before in
+    let back = here .before .before .before .before .before .before .before .before in let wide′ = back .wide in
     let pre = back .before .before .before .before .before .before .before .pre in
     omega (arith, wide′ .ensures, pre .1 .1 .1 .0, pre .1 .0 .sound .few)
 
 restrict-element-write-memo : (t : ℕ) → restrict-lts.Need-element-write-memo (restrict-claims t) (restrict-at t) restrict.Post
 restrict-element-write-memo t c =
-    let here = c .before .before .before .before .before .before .before .before .before .before .before .before .before .before .before .before .before .before in
-    let back = here .before .before .before .before .before .before .before .before .before in let wide′ = back .wide in
+    let here = c .before .before .before .before .before .before .before .before .before .before .before .before .before .before .before .before in
+    let back = here .before .before .before .before .before .before .before .before in let wide′ = back .wide in
     let pre = back .before .before .before .before .before .before .before .pre in
     omega (arith, wide′ .ensures, pre .1 .1 .1 .0, pre .1 .0 .sound .few)
 
 restrict-returns-6 : (t : ℕ) → restrict-lts.Need-returns-6 (restrict-claims t) (restrict-at t) restrict.Post
 restrict-returns-6 t c =
-    let if4 = c .before .before .before .before .before .before .before .if4 in
-    let here = c .before .before .before .before .before .before .before .before .before .before in let restrict2 = here .restrict2 in
-    let if3 = here .before .before .before .before .before .if3 in let restrict′ = here .before .before .before .before .before .before .before .before .restrict in
-    let back = here .before .before .before .before .before .before .before .before .before .before .before .before .before in let if2 = back .if2 in
+    let if4 = c .before .before .before .before .before .before .if4 in
+    let here = c .before .before .before .before .before .before .before .before .before in let restrict2 = here .restrict2 in
+    let if3 = here .before .before .before .before .if3 in let restrict′ = here .before .before .before .before .before .before .before .restrict in
+    let back = here .before .before .before .before .before .before .before .before .before .before .before in let if2 = back .if2 in
     let wide′ = back .before .before .before .before .wide in let if1 = back .before .before .before .before .before .if1 in
     let soon′ = back .before .before .before .before .before .before .soon in
     let far = back .before .before .before .before .before .before .before .before .before .before .before in let pre = far .pre in

@@ -13,7 +13,7 @@ rollback-requires c κs = c .before .before .before .before .before .before .rem
 
 returns : tie.Need-returns
 returns c =
-    let pre = c .before .before .before .before .before .before .before .before .before .before .before .before .before .before .before .before .before .before .pre in
+    let pre = c .before .before .before .before .before .before .before .before .before .before .before .before .before .before .before .before .before .pre in
     produced-full (c .before .before .before .before .before .before .before .before .before .remembering .ensures) (c .before .before .before .before .if1 .taken) (pre .0 .sound) refl
     (c .before .before .rollback .ensures)
 

@@ -8,10 +8,10 @@ returns : tie.Need-returns
 returns c = noded-lo _ _ _ (c .before .before .pre) (c .if1 .taken)
 
 returns-2 : tie.Need-returns-2
-returns-2 c = noded-none _ _ _ _ _ _ _ _ (omega (arith, c .before .before .before .before .before .before .before .if1 .left)) (c .if2 .taken) (c .before .before .before .unique .ensures)
+returns-2 c = noded-none _ _ _ _ _ _ _ (omega (arith, c .before .before .before .before .before .before .if1 .left)) (c .if2 .taken) (c .before .before .before .unique .ensures)
 
 returns-3 : tie.Need-returns-3
-returns-3 c = noded-made _ _ _ _ _ _ _ _ (omega (arith, c .before .before .before .before .before .before .before .if1 .left)) (omega (arith, c .if2 .left))
+returns-3 c = noded-made _ _ _ _ _ _ _ (omega (arith, c .before .before .before .before .before .before .if1 .left)) (omega (arith, c .if2 .left))
     (c .before .before .before .unique .ensures)
 
 pub make-spec : {M : Type 1} → statement M

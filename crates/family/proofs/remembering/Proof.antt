@@ -11,20 +11,20 @@ use Rattle.family.proofs.remembering.Tie as tie
 
 combine-requires : tie.Need-combine-requires
 combine-requires c κs =
-    let pre = c .before .before .before .before .before .before .before .before .pre in
+    let pre = c .before .before .before .before .before .before .before .pre in
     (pre .0, (remembered-fresh _ _ _ _ (omega (arith, length-replicate {A = ℕ} 65536 0)) (λ i. zeros 65536 i), pre .1))
 
 slice-aggregate-afresh : tie.Need-slice-aggregate-afresh
 slice-aggregate-afresh c =
-    let places = c .before .before .before .before .places in
-    sym (length-take-le (places .result) (c .before .before .before .before .before .before .before .before .before .args .work .now) (places .ensures .1))
+    let places = c .before .before .before .places in
+    sym (length-take-le (places .result) (c .before .before .before .before .before .before .before .before .args .work .now) (places .ensures .1))
 
 afresh-requires : tie.Need-afresh-requires
 afresh-requires c κs =
-    let here = c .before .before .before .before in let places = here .places in let pre = here .before .before .before .before .before .pre in (
+    let here = c .before .before .before in let places = here .places in let pre = here .before .before .before .before .before .pre in (
       pre .0,
       (
-        omega (arith, places .ensures .0, length-take-le (places .result) (c .before .before .before .before .before .before .before .before .before .args .work .now) (places .ensures .1)),
+        omega (arith, places .ensures .0, length-take-le (places .result) (c .before .before .before .before .before .before .before .before .args .work .now) (places .ensures .1)),
         pre .1,
       ),
     )

@@ -14,7 +14,7 @@ slice-read-n c = omega (arith, c .before .before .before .pre .0 .sound .room)
 
 restrict-requires : tie.Need-restrict-requires
 restrict-requires c κs =
-    let pre = c .before .before .before .before .before .before .before .pre in
+    let pre = c .before .before .before .before .before .before .pre in
     (pre .0, (kept-fresh _ _ _ _ _ (length-replicate {A = ℕ} 65536 0) (λ i. zeros 65536 i), pre .1))
 
 rollback-requires : tie.Need-rollback-requires
@@ -22,7 +22,7 @@ rollback-requires c κs = c .before .before .before .before .restrict .ensures .
 
 returns : tie.Need-returns
 returns c =
-    let pre = c .before .before .before .before .before .before .before .before .before .before .before .before .before .before .before .pre in
+    let pre = c .before .before .before .before .before .before .before .before .before .before .before .before .before .before .pre in
     produced-full (c .before .before .before .before .before .before .before .restrict .ensures .0) (c .before .before .before .before .if1 .taken) (pre .0 .sound) refl
     (c .before .before .rollback .ensures)
 

@@ -11,17 +11,17 @@ returns c = admitted-packages (c .before .packages-refusal .result) (c .before .
 
 usable-requires : tie.Need-usable-requires
 usable-requires c κs = (
-  rows (fit-of _ (sym (c .before .before .before .before .packages-refusal .ensures) ∙ c .before .before .before .if1 .left) .0),
-  c .before .before .before .before .before .before .before .before .pre,
+  rows (fit-of _ (sym (c .before .before .before .packages-refusal .ensures) ∙ c .before .before .if1 .left) .0),
+  c .before .before .before .before .before .before .before .pre,
 )
 
 returns-2 : tie.Need-returns-2
-returns-2 c = admitted-spoilt (sym (c .before .before .before .before .before .before .before .before .packages-refusal .ensures) ∙
-    c .before .before .before .before .before .before .before .if1 .left) (c .before .before .before .usable .ensures) (not-true _ (c .if2 .taken))
+returns-2 c = admitted-spoilt (sym (c .before .before .before .before .before .before .before .packages-refusal .ensures) ∙
+    c .before .before .before .before .before .before .if1 .left) (c .before .before .before .usable .ensures) (not-true _ (c .if2 .taken))
 
 returns-3 : tie.Need-returns-3
-returns-3 c = admitted-sound (sym (c .before .before .before .before .before .before .before .before .packages-refusal .ensures) ∙
-    c .before .before .before .before .before .before .before .if1 .left) (c .before .before .before .usable .ensures) (not-false _ (c .if2 .left))
+returns-3 c = admitted-sound (sym (c .before .before .before .before .before .before .before .packages-refusal .ensures) ∙
+    c .before .before .before .before .before .before .if1 .left) (c .before .before .before .usable .ensures) (not-false _ (c .if2 .left))
 
 pub admit-spec : {M : Type 1} → statement M
 admit-spec =

@@ -17,12 +17,12 @@ slice-aggregate-check : tie.Need-slice-aggregate-check
 slice-aggregate-check c = sym (ap length (c .before .before .before .keys .ensures .are) ∙ length-keys _)
 
 check-requires : tie.Need-check-requires
-check-requires c κs = c .before .before .before .before .before .before .before .before .before .before .pre .1 .index
+check-requires c κs = c .before .before .before .before .before .before .before .before .before .pre .1 .fresh
 
 returns : tie.Need-returns
 returns c =
-    let keys = c .before .before .before .before .before .before .keys in
-    tested (c .before .before .before .before .before .before .before .before .before .before .before .pre .0) (keys .ensures) (rw (keys .ensures .are) at (c .check .ensures))
+    let keys = c .before .before .before .before .before .keys in
+    tested (c .before .before .before .before .before .before .before .before .before .before .pre .0) (keys .ensures) (rw (keys .ensures .are) at (c .check .ensures))
 
 pub usable-spec : {M : Type 1} → statement M
 usable-spec =

@@ -25,17 +25,17 @@ slice-write-t-4 c = simp length-set (omega arith)
 
 insert-requires : tie.Need-insert-requires
 insert-requires c κs =
-    let pre = c .before .before .before .before .before .before .before .pre in
-    (omega (arith, pre .1 .0 .1, pre .0 .index .heads-long), omega (arith, c .before .before .before .before .if1 .left, pre .0 .index .next-long))
+    let pre = c .before .before .before .before .before .before .pre in
+    (pre .1 .0 .1, omega (arith, c .before .before .before .if1 .left, pre .0 .entries .long))
 
 same-length : tie.Need-same-length
 same-length c = simp length-set
 
 returns-3 : tie.Need-returns-3
 returns-3 c =
-    let here = c .before .before .before .before in let wide = here .wide in let pre = here .before .before .before .before .pre in
-    let a = c .before .before .before .before .before .before .before .before .args in
-    rw (c .insert .ensures .0, c .insert .ensures .1)
+    let here = c .before .before .before in let wide = here .wide in let pre = here .before .before .before .before .pre in
+    let a = c .before .before .before .before .before .before .before .args in
+    rw (c .insert .ensures)
     (made-stored {x = node (a .label) (a .lo) (a .hi)} _ (a .h) _ _ (pre .0) (pre .1 .1) (omega arith) (omega (arith, wide .ensures)) (pre .1 .0 .1) (pre .1 .0 .0) (omega (arith, wide .ensures))
     (omega (arith)) (omega arith))
 
@@ -44,4 +44,5 @@ make-spec =
     tie.close
     (tie.spec (λ c. search needs) returns (λ c κs. search needs) (λ c. search needs) (λ c. search needs) returns-2 (λ c. search needs)
     (λ c. search needs) (λ c. search needs) (λ c. search needs) (λ c. search needs) slice-write-t-2 (λ c. search needs) (λ c. search needs)
-    slice-write-t-3 (λ c. search needs) slice-write-t-4 (λ c. search needs) insert-requires (λ c. search needs) same-length returns-3)
+    slice-write-t-3 (λ c. search needs) slice-write-t-4 (λ c. search needs) (λ c. search needs) insert-requires (λ c. search needs) same-length
+    returns-3)

@@ -6,21 +6,21 @@ use Rattle.table.proofs.unique.Tie as tie
 
 find-requires : tie.Need-find-requires
 find-requires c κs =
-    let wide = c .before .before .before .wide in let pre = c .before .before .before .before .before .before .before .pre in
-    (pre .room, (omega (arith, wide .ensures), (rw (wide .ensures) (pre .index), c .before .before .before .before .before .hash .ensures)))
+    let wide = c .before .before .wide in let pre = c .before .before .before .before .before .before .pre in
+    (pre .room, (omega (arith, wide .ensures), (rw (wide .ensures) (pre .entries), c .before .before .before .before .hash .ensures)))
 
 returns : tie.Need-returns
-returns c = made-old (c .before .before .before .before .before .before .before .before .before .pre) (rw (c .before .before .before .before .before .wide .ensures) at (c .before .find .ensures))
+returns c = made-old (c .before .before .before .before .before .before .before .before .pre) (rw (c .before .before .before .before .wide .ensures) at (c .before .find .ensures))
     (omega arith)
 
 make-requires : tie.Need-make-requires
 make-requires c κs =
-    let pre = c .before .before .before .before .before .before .before .before .before .before .before .before .pre in (
+    let pre = c .before .before .before .before .before .before .before .before .before .before .pre in (
       pre,
       (
-        c .before .before .before .before .before .before .before .before .before .before .hash .ensures,
-        λ i h e. c .before .before .before .before .find .ensures .none
-            (c .before .before .before .if1 .left) i (omega (arith, c .before .before .before .before .before .before .before .before .wide .ensures)) e,
+        c .before .before .before .before .before .before .before .before .hash .ensures,
+        λ i h e. c .before .before .before .find .ensures .none
+            (c .before .before .if1 .left) i (omega (arith, c .before .before .before .before .before .before .wide .ensures)) e,
       ),
     )
 
