@@ -1,9 +1,7 @@
 //! The library's algorithm written by hand in Rust: every call checks the lent table and builds the index, then works.
 
-pub struct Index {
-    heads: [u32; 65536],
-    next: [u32; 65536],
-}
+/// 65,536 heads of buckets, and for each node the next one of its bucket.
+pub struct Index([u16; 131072]);
 
 /// The bucket of a triple.
 pub fn hash(label: u32, lo: u32, hi: u32) -> usize {
@@ -12,20 +10,20 @@ pub fn hash(label: u32, lo: u32, hi: u32) -> usize {
 
 impl Index {
     fn find(&self, t: &[u32], h: usize, label: u32, lo: u32, hi: u32) -> u32 {
-        let mut k = self.heads[h];
+        let mut k = self.0[h];
         while k != 0 {
             let w = 3 * k as usize - 5;
             if t[w] == label && t[w + 1] == lo && t[w + 2] == hi {
-                return k;
+                return k as u32;
             }
-            k = self.next[k as usize];
+            k = self.0[65536 + k as usize];
         }
         0
     }
 
     fn insert(&mut self, h: usize, k: u32) {
-        self.next[k as usize] = self.heads[h];
-        self.heads[h] = k;
+        self.0[65536 + k as usize] = self.0[h];
+        self.0[h] = k as u16;
     }
 
     /// The number of the triple, found or made; None where there is no room.
@@ -70,7 +68,7 @@ impl Index {
             }
             self.insert(h, i as u32 + 2);
         }
-        t[1 + 3 * n..].iter().all(|&w| w == 0)
+        t[1 + 3 * n..].iter().fold(0, |any, &w| any | w) == 0
     }
 }
 
@@ -94,8 +92,8 @@ fn admit(m: u32, packs: &[u64], t: &[u32], keys: &mut [u32; 512], index: &mut In
 
 struct Search<'a> {
     packs: &'a [u64],
-    first: [u32; 65],
-    after: [u32; 513],
+    /// The packages by lowest item: 65 heads, and for each package the next one.
+    leads: [u16; 578],
     t: &'a mut [u32],
     index: &'a mut Index,
     memo: &'a mut [u64],
@@ -124,12 +122,12 @@ impl Search<'_> {
     }
 
     fn trial(&mut self, at: usize, items: u64) -> u32 {
-        let mut p = self.first[items.trailing_zeros() as usize];
+        let mut p = self.leads[items.trailing_zeros() as usize];
         let mut answer = 0;
         while p != 0 {
             let pack = self.packs[p as usize - 1];
-            let label = p - 1;
-            p = self.after[p as usize];
+            let label = p as u32 - 1;
+            p = self.leads[65 + p as usize];
             if pack & !items != 0 {
                 continue;
             }
@@ -162,7 +160,7 @@ fn rollback(t: &mut [u32], n: u32) {
 #[no_mangle]
 pub fn hand_cover(m: u32, packs: &[u64], t: &mut [u32], d: u64, limit: u32, work: &mut [u64]) -> Result<(u32, u64), u32> {
     let mut keys = [0; 512];
-    let mut index = Index { heads: [0; 65536], next: [0; 65536] };
+    let mut index = Index([0; 131072]);
     match admit(m, packs, t, &mut keys, &mut index) {
         0 => {}
         r => return Err(r),
@@ -176,11 +174,11 @@ pub fn hand_cover(m: u32, packs: &[u64], t: &mut [u32], d: u64, limit: u32, work
     work.fill(0);
     let n = t[0];
     let places = work.len() as u64 / 2;
-    let mut s = Search { packs, first: [0; 65], after: [0; 513], t, index: &mut index, memo: work, places, limit: limit as u64, steps: 0, full: false, over: false };
+    let mut s = Search { packs, leads: [0; 578], t, index: &mut index, memo: work, places, limit: limit as u64, steps: 0, full: false, over: false };
     for (p, set) in packs.iter().enumerate() {
         let low = set.trailing_zeros() as usize;
-        s.after[p + 1] = s.first[low];
-        s.first[low] = p as u32 + 1;
+        s.leads[66 + p] = s.leads[low];
+        s.leads[low] = p as u16 + 1;
     }
     let answer = s.search(d);
     let (over, full, steps) = (s.over, s.full, s.steps);
@@ -229,10 +227,13 @@ impl Table<'_> {
             return Some(if op < 2 { f } else { 0 });
         }
         let (x, y) = if op < 2 && g < f { (g, f) } else { (f, g) };
-        let both = (x as u64) << 16 | y as u64;
-        let at = (both * 4021839121 >> 20) as usize & (memo.len() - 1);
-        if memo[at] >> 16 == both {
-            return Some(memo[at] as u32 & 65535);
+        // two places a word; the place and 16 bits beside the result tell the mixed pair
+        let mixed = (x << 16 | y).wrapping_mul(4021839121);
+        let at = (mixed as u64 * (2 * memo.len() as u64) >> 32) as usize;
+        let shift = 32 * (at % 2);
+        let known = (memo[at / 2] >> shift) as u32;
+        if known >> 16 == mixed & 65535 && known & 65535 != 0 {
+            return Some((known & 65535) - 1);
         }
         let (a, b) = (self.top(f), self.top(g));
         let (label, f1, g1, f0, g0) = if a < b {
@@ -248,7 +249,10 @@ impl Table<'_> {
         let h = self.combine(memo, op, f1, g1)?;
         let l = self.combine(memo, op, f0, g0)?;
         let r = self.make(label, l, h)?;
-        memo[at] = both << 16 | r as u64;
+        if r < 65535 {
+            let new = ((mixed & 65535) << 16 | (r + 1)) as u64;
+            memo[at / 2] = memo[at / 2] & !(0xffff_ffff << shift) | new << shift;
+        }
         Some(r)
     }
 
@@ -279,7 +283,7 @@ impl Table<'_> {
 #[no_mangle]
 pub fn hand_combine(op: u8, m: u32, packs: &[u64], t: &mut [u32], a: u32, b: u32, work: &mut [u64]) -> Result<u32, u32> {
     let mut keys = [0; 512];
-    let mut index = Index { heads: [0; 65536], next: [0; 65536] };
+    let mut index = Index([0; 131072]);
     match admit(m, packs, t, &mut keys, &mut index) {
         0 => {}
         r => return Err(r),
@@ -297,12 +301,12 @@ pub fn hand_combine(op: u8, m: u32, packs: &[u64], t: &mut [u32], a: u32, b: u32
     let mut table = Table { t, keys: &keys[..packs.len()], index: &mut index };
     let r = if op >= 3 {
         table.restrict(&mut [0; 65536], b, op == 3, a)
-    } else if work.len() < 65536 {
-        table.combine(&mut [0; 65536], op, a, b)
+    } else if work.len() < 32768 {
+        table.combine(&mut [0; 32768], op, a, b)
     } else {
-        let places = 1 << work.len().ilog2();
-        work[..places].fill(0);
-        table.combine(&mut work[..places], op, a, b)
+        let words = work.len().min(1 << 31);
+        work[..words].fill(0);
+        table.combine(&mut work[..words], op, a, b)
     };
     if r.is_none() {
         rollback(t, n);

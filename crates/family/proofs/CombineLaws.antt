@@ -1,6 +1,6 @@
 -- Union, intersection and difference: the end cases, the parts of two numbers, the recursion, and what is remembered. Assumes nothing.
 use mathlib.Core.Path.{_≡_, refl, sym, ap, ap₂, subst, subst⁻¹, _∙_}
-use mathlib.Core.Logic.{inl, inr}
+use mathlib.Core.Logic.{_⊎_, inl, inr}
 use mathlib.Core.Bool.{Bool, false, and-comm, or-comm}
 use mathlib.Core.List.{List, []}
 use Prim.Native.Nat.{ℕ, zero, suc, _+_, _-_, _*_, _/_, _%_, _<_, _≤_}
@@ -18,7 +18,9 @@ use Rattle.zdd.specs.Operations.{combine}
 use Rattle.zdd.proofs.Operations.{union-nil, nil-union, union-self, inter-nil, nil-inter, inter-self, differ-nil, nil-differ, differ-self}
 use Rattle.zdd.proofs.Parts.{split-same, split-left, split-right}
 use Rattle.family.specs.Gives.{Operable, Gives, Noded, Answers}
-use Rattle.family.specs.Memo.{opOf, combined, Ordered, Packed, Remembered, Two, Pair, Ended, Ends, Top, Cut}
+use Rattle.family.specs.Memo.{opOf, combined, Ordered, Two, Pair, Ended, Ends, Top, Cut}
+use Rattle.family.specs.Memo.{mixed, Packed, placeOf, entryAt, tagged, Hit, Remembered, Noted}
+use Rattle.family.proofs.MemoryLaws.{mixed-small, mixed-once, place-once, empty}
 use Rattle.family.proofs.GivesLaws.{gives-there, gives-answers, gives-keeps, gives-more, gives-eq, step-none-hi, step-none-lo, step-child, step-node}
 use Rattle.family.proofs.RestrictLaws.{two-more, word-node, word-label, word-fine}
 
@@ -39,10 +41,10 @@ unfolding combine
 turned op h K F G =
     filter-same (λ t. opOf op (elem t F) (elem t G)) (λ t. opOf op (elem t G) (elem t F)) (sets K) (λ t m. op-turns op h (elem t F) (elem t G))
 
-pub packed-straight : (op f g : ℕ) {k : ℕ} → k ≡ f * 65536 + g → Packed op f g k
+pub packed-straight : (op f g : ℕ) {k : ℕ} → k ≡ mixed (f * 65536 + g) → Packed op f g k
 packed-straight op f g e = record { first = f; second = g; is = e; order = inl (refl, refl) }
 
-pub packed-turned : (op f g : ℕ) {k : ℕ} → op < 2 → k ≡ g * 65536 + f → Packed op f g k
+pub packed-turned : (op f g : ℕ) {k : ℕ} → op < 2 → k ≡ mixed (g * 65536 + f) → Packed op f g k
 packed-turned op f g h e = record { first = g; second = f; is = e; order = inr (omega arith, (refl, refl)) }
 
 module _ {op f g k : ℕ} (p : Packed op f g k) where
@@ -60,15 +62,8 @@ module _ {op f g k : ℕ} (p : Packed op f g k) where
       go (inl e) = (omega (arith, e .0), omega (arith, e .1))
       go (inr e) = (omega (arith, e .1 .0), omega (arith, e .1 .1))
 
-  pub packed-some : 0 < f → 0 < g → 0 < p .first
-  packed-some l m = go (p .order)
-    where
-      go : Ordered op f g (p .first) (p .second) → 0 < p .first
-      go (inl e) = omega (arith, e .0)
-      go (inr e) = omega (arith, e .1 .0)
-
-  pub packed-small : f < 65536 → g < 65536 → k < 4294967296
-  packed-small l m = let w = packed-known 65536 l m in omega (arith, p .is, w .0, w .1)
+  pub packed-small : k < 4294967296
+  packed-small = omega (arith, p .is, mixed-small (p .first * 65536 + p .second))
 
 -- ---- the end cases
 
@@ -147,15 +142,19 @@ module _ (op : ℕ) (memo : List ℕ) (f g : ℕ) where
   pub ends-both-differ : f ≡ g → 2 ≤ op → Ends op memo f g 0
   ends-both-differ z e K ns q m = answered q op 0 (end-both-differ q op z e)
 
-  pub ends-known : (at : ℕ) {k : ℕ} (p : Packed op f g k) → getD memo at 0 / 65536 ≡ k → 0 < f → 0 < g → Ends op memo f g (getD memo at 0 % 65536)
-  ends-known at p e z y K ns q m =
+  pub ends-known : (at : ℕ) {k : ℕ} (p : Packed op f g k) → at ≡ placeOf (length memo) k → entryAt memo at / 65536 ≡ k % 65536 → 0 < entryAt memo at % 65536
+      → Ends op memo f g (entryAt memo at % 65536 - 1)
+  ends-known at {k} p e t h K ns q m =
       let s = packed-known p 65536 (omega (arith, q .left, q .few)) (omega (arith, q .right, q .few)) in
-      answered q op (getD memo at 0 % 65536)
-      (subst (λ (F : Family). Answers ns (getD memo at 0 % 65536) F) (packed-same p (family ns) K)
-      (m .each at (p .first) (p .second) (e ∙ p .is) (packed-some p z y) (s .1) .1 .1))
+      let z : at ≡ placeOf (length memo) (mixed (p .first * 65536 + p .second)) = e ∙ ap (placeOf (length memo)) (p .is) in
+      answered q op (entryAt memo at % 65536 - 1)
+      (subst (λ (F : Family). Answers ns (entryAt memo at % 65536 - 1) F) (packed-same p (family ns) K)
+      (subst⁻¹ (λ (i : ℕ). Answers ns (entryAt memo i % 65536 - 1) (combined op K (family ns (p .first)) (family ns (p .second)))) z
+      (m .each (p .first) (p .second) (s .0) (s .1)
+      (record { tag = ap (λ (i : ℕ). entryAt memo i / 65536) (sym z) ∙ t ∙ ap (λ (j : ℕ). j % 65536) (p .is); some = subst (λ (i : ℕ). 0 < entryAt memo i % 65536) z h }) .1 .1)))
 
-  pub ends-open : Two f g → Ends op memo f g 65537
-  ends-open w K ns q m = record { small = omega arith; answer = λ h. absurd (omega arith); two = λ e. w }
+  pub ends-open : (f ≡ 0 → ⊥) → (g ≡ 0 → ⊥) → (f ≡ g → ⊥) → Ends op memo f g 65537
+  ends-open a b d K ns q m = record { small = omega arith; answer = λ h. absurd (omega arith); two = λ e. record { some = omega (arith, a); other = omega (arith, b); differ = d } }
 
 -- ---- the parts of two numbers
 
@@ -291,62 +290,72 @@ module _ {K t : List ℕ} (s : Sound K t) (k : Keys K) (f g : ℕ) (wf : f < cou
 
 -- ---- what is remembered
 
-pub remembered-fresh : (op : ℕ) (K : List ℕ) (ns : List Node) (memo : List ℕ) → 0 < length memo → ((i : ℕ) → getD memo i 0 ≡ 0) → Remembered op K ns memo
-remembered-fresh op K ns memo l z = record { some = l; each = λ i f g e h w. absurd (omega (arith, z i)) }
+pub remembered-fresh : (op : ℕ) (K : List ℕ) (ns : List Node) (memo : List ℕ) → 32768 ≤ length memo → length memo ≤ 2147483648 → ((i : ℕ) → getD memo i 0 ≡ 0)
+    → Remembered op K ns memo
+remembered-fresh op K ns memo l m z = record {
+  least = l;
+  most = m;
+  each = λ f g a b h. absurd (omega (arith, h .some, empty memo z (placeOf (length memo) (mixed (f * 65536 + g)))));
+}
 
 pub remembered-grown : {op : ℕ} {K t t′ index′ memo : List ℕ} {r : ℕ} {F : Family} → Gives K t t′ index′ r F → r < 65536
     → Remembered op K (nodesOf t) memo → Remembered op K (nodesOf t′) memo
 remembered-grown {op} {K} {t} {t′} {index′} {memo} g h m = record {
-  some = m .some;
-  each = λ i x y e z w.
-      let a = m .each i x y e z w in (
+  least = m .least;
+  most = m .most;
+  each = λ x y u v e.
+      let a = m .each x y u v e in (
         omega (arith, a .0, gives-more g h),
         (
           omega (arith, a .1 .0, gives-more g h),
           record {
             known = omega (arith, a .1 .1 .known, gives-more g h);
             holds =
-                gives-keeps g h (getD memo i 0 % 65536) (a .1 .1 .known) ∙ a .1 .1 .holds
+                gives-keeps g h (entryAt memo (placeOf (length memo) (mixed (x * 65536 + y))) % 65536 - 1) (a .1 .1 .known) ∙ a .1 .1 .holds
                 ∙ ap₂ (combined op K) (sym (gives-keeps g h x (a .0))) (sym (gives-keeps g h y (a .1 .0)));
           },
         ),
       );
 }
 
-pub remembered-stored : {op : ℕ} {K memo : List ℕ} {ns : List Node} (at f g r v : ℕ) → at < length memo → v ≡ (f * 65536 + g) * 65536 + r → r < 65536 → g < 65536
-    → f < suc (suc (length ns)) → g < suc (suc (length ns))
-    → Answers ns r (combined op K (family ns f) (family ns g)) → Remembered op K ns memo → Remembered op K ns (set memo at v)
-remembered-stored {op} {K} {memo} {ns} at f g r v la ev lr lg wf wg a m = record {
-  some = omega (arith, length-set memo at v);
-  each = λ i x y e z w. each i (ℕ-discrete i at) x y e z w;
+pub remembered-noted : {op : ℕ} {K memo memo′ : List ℕ} {ns : List Node} (at f g r k : ℕ) → Noted memo at k r memo′ → at ≡ placeOf (length memo) k → k ≡ mixed (f * 65536 + g)
+    → f < 65536 → g < 65536 → f < suc (suc (length ns)) → g < suc (suc (length ns)) → Answers ns r (combined op K (family ns f) (family ns g))
+    → Remembered op K ns memo → Remembered op K ns memo′
+remembered-noted {op} {K} {memo} {memo′} {ns} at f g r k s ea ek lf lg wf wg a m = record {
+  least = omega (arith, m .least, s .same);
+  most = omega (arith, m .most, s .same);
+  each = λ x y u v h. each x y u v h (s .each (placeOf (length memo′) (mixed (x * 65536 + y))));
 }
   where
-    same : (i : ℕ) → i ≡ at → getD (set memo at v) i 0 ≡ v
-    same i e = ap (λ (j : ℕ). getD (set memo at v) j 0) e ∙ getD-set-same memo at v 0 la
+    -- what Remembered says of the pair x, y, by its entry e
+    Says : (x y e : ℕ) → Type 0
+    Says x y e = (x < suc (suc (length ns))) × ((y < suc (suc (length ns))) × Answers ns (e % 65536 - 1) (combined op K (family ns x) (family ns y)))
 
-    hit : (u x y : ℕ) → u ≡ v → u / 65536 ≡ x * 65536 + y → y < 65536
-        → (x < suc (suc (length ns))) × ((y < suc (suc (length ns))) × Answers ns (u % 65536) (combined op K (family ns x) (family ns y)))
-    hit u x y eu e w =
-        let q : u / 65536 ≡ f * 65536 + g = omega arith in
-        let ey : g ≡ y = omega arith in
+    each : (x y : ℕ) → x < 65536 → y < 65536 → Hit memo′ (mixed (x * 65536 + y))
+        → (entryAt memo′ (placeOf (length memo′) (mixed (x * 65536 + y))) ≡ entryAt memo (placeOf (length memo′) (mixed (x * 65536 + y))))
+        ⊎ ((placeOf (length memo′) (mixed (x * 65536 + y)) ≡ at) × ((r < 65535) × (entryAt memo′ (placeOf (length memo′) (mixed (x * 65536 + y))) ≡ tagged k r)))
+        → Says x y (entryAt memo′ (placeOf (length memo′) (mixed (x * 65536 + y))))
+    each x y u v h (inl e) =
+        let o : entryAt memo′ (placeOf (length memo′) (mixed (x * 65536 + y))) ≡ entryAt memo (placeOf (length memo) (mixed (x * 65536 + y))) =
+        e ∙ ap (λ (n : ℕ). entryAt memo (placeOf n (mixed (x * 65536 + y)))) (s .same) in
+        subst⁻¹ (λ (e : ℕ). Says x y e) o
+        (m .each x y u v (record { tag = ap (λ (n : ℕ). n / 65536) (sym o) ∙ h .tag; some = subst (λ (n : ℕ). 0 < n % 65536) o (h .some) }))
+    each x y u v h (inr e) =
+        let j : ℕ = mixed (x * 65536 + y) in
+        let t : k % 65536 ≡ j % 65536 = omega (arith, h .tag, e .1 .1) in
+        let z : mixed (f * 65536 + g) ≡ j = sym ek ∙ place-once (length memo) k j (m .least) t (sym ea ∙ sym (e .0) ∙ ap (λ (n : ℕ). placeOf n j) (s .same)) in
+        let p : f * 65536 + g ≡ x * 65536 + y = mixed-once (f * 65536 + g) (x * 65536 + y) (omega arith) (omega arith) z in
         let ex : f ≡ x = omega arith in
-        let er : r ≡ u % 65536 = omega arith in (
+        let ey : g ≡ y = omega arith in
+        let er : r ≡ entryAt memo′ (placeOf (length memo′) j) % 65536 - 1 = omega (arith, e .1 .1) in (
           omega arith,
           (
             omega arith,
-            subst (λ (k : ℕ). Answers ns k (combined op K (family ns x) (family ns y))) er
-                (subst (λ (j : ℕ). Answers ns r (combined op K (family ns j) (family ns y))) ex
-                (subst (λ (j : ℕ). Answers ns r (combined op K (family ns f) (family ns j))) ey a)),
+            subst (λ (i : ℕ). Answers ns i (combined op K (family ns x) (family ns y))) er
+                (subst (λ (i : ℕ). Answers ns r (combined op K (family ns i) (family ns y))) ex
+                (subst (λ (i : ℕ). Answers ns r (combined op K (family ns f) (family ns i))) ey a)),
           ),
         )
-
-    each : (i : ℕ) → Dec (i ≡ at) → (x y : ℕ) → getD (set memo at v) i 0 / 65536 ≡ x * 65536 + y → 0 < x → y < 65536
-        → (x < suc (suc (length ns))) × ((y < suc (suc (length ns))) × Answers ns (getD (set memo at v) i 0 % 65536) (combined op K (family ns x) (family ns y)))
-    each i (yes e) x y q z w = hit (getD (set memo at v) i 0) x y (same i e) q w
-    each i (no d) x y q z w =
-        let o : getD (set memo at v) i 0 ≡ getD memo i 0 = getD-set-other memo at i v 0 d in
-        subst⁻¹ (λ (u : ℕ). (x < suc (suc (length ns))) × ((y < suc (suc (length ns))) × Answers ns (u % 65536) (combined op K (family ns x) (family ns y)))) o
-        (m .each i x y (subst (λ (u : ℕ). u / 65536 ≡ x * 65536 + y) o q) z w)
 
 -- ---- the recursion
 
@@ -407,11 +416,11 @@ module _ (op : ℕ) {K t index : List ℕ} {f g : ℕ} (y : Operable K t index) 
         pub last-none : {memo0 : List ℕ} → r ≡ 65536 → Gives K t t′ index′ 65536 (joint op K t f g) × (65536 < 65536 → Remembered op K (nodesOf t′) memo0)
         last-none e = (subst (λ (x : ℕ). Gives K t t′ index′ x (joint op K t f g)) e whole, λ z. absurd (omega arith))
 
-        pub last-stored : {memo0 : List ℕ} (at v : ℕ) {k : ℕ} (e : Packed op f g k) → at < length memo0 → v ≡ k * 65536 + r → Remembered op K (nodesOf t0) memo0
-            → Gives K t t′ index′ r (joint op K t f g) × (r < 65536 → Remembered op K (nodesOf t′) (set memo0 at v))
-        last-stored {memo0} at v {k} e la ev m = (whole, λ z. kept z)
+        pub last-noted : {memo0 memo′ : List ℕ} (at : ℕ) {k : ℕ} (e : Packed op f g k) → at ≡ placeOf (length memo0) k → Remembered op K (nodesOf t0) memo0
+            → Noted memo0 at k r memo′ → Gives K t t′ index′ r (joint op K t f g) × (r < 65536 → Remembered op K (nodesOf t′) memo′)
+        last-noted {memo0} {memo′} at {k} e ea m s = (whole, λ z. kept z)
           where
-            kept : r < 65536 → Remembered op K (nodesOf t′) (set memo0 at v)
+            kept : r < 65536 → Remembered op K (nodesOf t′) memo′
             kept z =
                 let wf : f < suc (suc (length (nodesOf t))) = omega (arith, w .0, length-nodes t) in
                 let wg : g < suc (suc (length (nodesOf t))) = omega (arith, w .1, length-nodes t) in
@@ -419,7 +428,7 @@ module _ (op : ℕ) {K t index : List ℕ} {f g : ℕ} (y : Operable K t index) 
                 let a : Answers (nodesOf t′) r (joint op K t (e .first) (e .second)) =
                 subst⁻¹ (λ (F : Family). Answers (nodesOf t′) r F) (packed-same e (family (nodesOf t)) K) (gives-answers whole z) in
                 let m′ : Remembered op K (nodesOf t′) memo0 = remembered-grown (n K (step-child split-o q1 w1 p0 (c .label-known) w0)) z m in
-                remembered-stored at (e .first) (e .second) r v la (omega (arith, e .is)) z (omega (arith, x .1, y .sound .few, length-nodes t))
+                remembered-noted at (e .first) (e .second) r k s ea (e .is) (omega (arith, x .0, y .sound .few, length-nodes t)) (omega (arith, x .1, y .sound .few, length-nodes t))
                 (omega (arith, x .0, gives-more whole z)) (omega (arith, x .1, gives-more whole z))
                 (subst⁻¹ (λ (F : Family). Answers (nodesOf t′) r (combined op K F (family (nodesOf t′) (e .second)))) (gives-keeps whole z (e .first) (x .0))
                 (subst⁻¹ (λ (F : Family). Answers (nodesOf t′) r (combined op K (family (nodesOf t) (e .first)) F)) (gives-keeps whole z (e .second) (x .1)) a)) m′

@@ -44,18 +44,58 @@ combined op K F G = combine (opOf op) K F G
 abbrev pub Ordered : (op f g x y : ℕ) → Type 0
 Ordered op f g x y = ((x ≡ f) × (y ≡ g)) ⊎ ((op < 2) × ((x ≡ g) × (y ≡ f)))
 
--- the two numbers in one
+-- a pair k, below 2 ^ 32, mixed: times an odd number modulo 2 ^ 32, which is one to one
+unfoldable pub mixed : ℕ → ℕ
+mixed k = k * 4021839121 % 4294967296
+
+-- the two numbers in one, mixed
 pub record Packed (op f g k : ℕ) : Type 0 where
   pub first : ℕ
   pub second : ℕ
-  pub is : k ≡ first * 65536 + second
+  pub is : k ≡ mixed (first * 65536 + second)
   pub order : Ordered op f g first second
 
--- a word of the memory is (f × 65536 + g) × 65536 + r, with f not 0: r is the number of f's and g's combination
+-- ---- the memory of results: two places a word
+
+-- the half of a word at an even place, and at an odd one
+abbrev pub half : ℕ → ℕ → ℕ
+half zero w = w % 4294967296
+half (suc n) w = w / 4294967296
+
+-- the word with e in that half
+abbrev pub replaced : ℕ → ℕ → ℕ → ℕ
+replaced zero w e = w / 4294967296 * 4294967296 + e
+replaced (suc n) w e = e * 4294967296 + w % 4294967296
+
+-- what stands at place i
+unfoldable pub entryAt : List ℕ → ℕ → ℕ
+entryAt memo i = half (i % 2) (getD memo (i / 2) 0)
+
+-- the place of a mixed pair in so many words: the higher the pair, the higher the place
+unfoldable pub placeOf : ℕ → ℕ → ℕ
+placeOf words k = k * (2 * words) / 4294967296
+
+-- an entry is the low half of its mixed pair, which with the place tells the pair, and one more than the number; 0 is none
+abbrev pub tagged : ℕ → ℕ → ℕ
+tagged k r = k % 65536 * 65536 + (r + 1)
+
+-- an entry of the mixed pair k stands at its place
+pub record Hit (memo : List ℕ) (k : ℕ) : Type 0 where
+  pub tag : entryAt memo (placeOf (length memo) k) / 65536 ≡ k % 65536
+  pub some : 0 < entryAt memo (placeOf (length memo) k) % 65536
+
+-- an entry's number is that of its pair's combination
 pub record Remembered (op : ℕ) (K : List ℕ) (ns : List Node) (memo : List ℕ) : Type 0 where
-  pub some : 0 < length memo
-  pub each : (i f g : ℕ) → getD memo i 0 / 65536 ≡ f * 65536 + g → 0 < f → g < 65536
-      → (f < suc (suc (length ns))) × ((g < suc (suc (length ns))) × Answers ns (getD memo i 0 % 65536) (combined op K (family ns f) (family ns g)))
+  pub least : 32768 ≤ length memo
+  pub most : length memo ≤ 2147483648
+  pub each : (f g : ℕ) → f < 65536 → g < 65536 → Hit memo (mixed (f * 65536 + g))
+      → (f < suc (suc (length ns))) × ((g < suc (suc (length ns)))
+      × Answers ns (entryAt memo (placeOf (length memo) (mixed (f * 65536 + g))) % 65536 - 1) (combined op K (family ns f) (family ns g)))
+
+-- what remember ensures: no place has changed, but perhaps the one, which then has the number under its pair
+pub record Noted (memo : List ℕ) (at k r : ℕ) (memo′ : List ℕ) : Type 0 where
+  pub same : length memo′ ≡ length memo
+  pub each : (i : ℕ) → (entryAt memo′ i ≡ entryAt memo i) ⊎ ((i ≡ at) × ((r < 65535) × (entryAt memo′ i ≡ tagged k r)))
 
 -- neither is 0, and they are two
 pub record Two (f g : ℕ) : Type 0 where

@@ -1,11 +1,12 @@
 // Union, intersection, difference, and the sets with and without a label, on a sound table.
 ghost use mathlib.Core.Path.{_≡_};
-ghost use Prim.Native.Nat.{ℕ, suc, _+_, _-_, _*_, _<_, _≤_};
+ghost use Prim.Native.Nat.{ℕ, suc, _+_, _-_, _*_, _/_, _%_, _<_, _≤_};
 ghost use lib.ListN.{length, getD, set};
 ghost use Rattle.zdd.specs.Table.{node, blank, count, nodesOf, family, Sound, Keys};
 ghost use Rattle.table.specs.State.{Indexed};
 ghost use Rattle.family.specs.Gives.{Operable, Gives, Produced, Noded, Answers};
-ghost use Rattle.family.specs.Memo.{restricted, Kept, Soon, combined, Packed, Remembered, Ends, Two, Top, Cut};
+ghost use Rattle.family.specs.Memo.{restricted, Kept, Soon, combined, Ends, Two, Top, Cut};
+ghost use Rattle.family.specs.Memo.{mixed, Packed, placeOf, entryAt, replaced, Remembered, Noted};
 
 // The number of the node with these three words, found or made: lo where hi is 0; 65536 where there is no room.
 fn make(t: &mut [u32], index: &mut [u16; 131072], label: u32, lo: u32, hi: u32) -> u32
@@ -105,29 +106,74 @@ fn restrict(
     r
 }
 
-// f and g in one number, the lesser first where their order does not matter: in union (op 0) and intersection (1).
+// A pair mixed, so that pairs that are near each other have places that are not; different pairs stay different.
+fn mix(pair: u64) -> u64
+    requires { ⌜ pair < 4294967296 ⌝ }
+    ensures { λ r. ⌜ r ≡ mixed pair ⌝ }
+{
+    pair * 4021839121 % 4294967296
+}
+
+// f and g in one number, mixed, the lesser first where their order does not matter: in union (op 0) and intersection (1).
 fn pack(op: u8, f: u32, g: u32) -> u64
+    requires { ⌜ (f < 65536) × (g < 65536) ⌝ }
     ensures { λ r. ⌜ Packed op f g r ⌝ }
 {
     if op < 2 {
         if g < f {
-            return base::widened(g) * 65536 + base::widened(f);
+            return mix(base::widened(g) * 65536 + base::widened(f));
         }
     }
-    base::widened(f) * 65536 + base::widened(g)
+    mix(base::widened(f) * 65536 + base::widened(g))
 }
 
-// The place of a packed pair in a memory of so many places, best a power of two.
-fn place(pair: u64, places: usize) -> usize
-    requires { ⌜ (pair < 4294967296) × (0 < places) ⌝ }
-    ensures { λ r. ⌜ r < places ⌝ }
+// The place of a mixed pair in a memory of so many words, two places a word.
+fn place(pair: u64, words: usize) -> usize
+    requires { ⌜ (pair < 4294967296) × (words ≤ 2147483648) ⌝ }
+    ensures { λ r. ⌜ r ≡ placeOf words pair ⌝ }
 {
-    (((pair * 4021839121) >> 20) as usize) & (places - 1)
+    (pair * (2 * (words as u64)) / 4294967296) as usize
+}
+
+// What stands at a place: the low half of a word at an even one, the high half at an odd one.
+fn entry(memo: &[u64], at: usize) -> u64
+    requires { ⌜ at / 2 < length (now memo) ⌝ }
+    ensures { λ r. ⌜ r ≡ entryAt (now (memo .entry)) at ⌝ }
+{
+    let word = memo[at / 2];
+    if at % 2 == 0 {
+        return word % 4294967296;
+    }
+    word / 4294967296
+}
+
+// The word with e in the half of the place.
+fn replace(word: u64, at: usize, e: u64) -> u64
+    requires { ⌜ e < 4294967296 ⌝ }
+    ensures { λ r. ⌜ r ≡ replaced (at % 2) word e ⌝ }
+{
+    if at % 2 == 0 {
+        return word / 4294967296 * 4294967296 + e;
+    }
+    e * 4294967296 + word % 4294967296
+}
+
+// The result r goes to the pair's place. (65535, the one number that does not fit, is not remembered.)
+fn remember(memo: &mut [u64], at: usize, pair: u64, r: u32)
+    requires { ⌜ at / 2 < length (now memo) ⌝ }
+    ensures { λ _. ⌜ Noted (now (memo .entry)) at pair r (now (memo .exit)) ⌝ }
+{
+    if r >= 65535 {
+        return;
+    }
+    let w = at / 2;
+    let e = pair % 65536 * 65536 + (base::widened(r) + 1);
+    memo[w] = replace(memo[w], at, e);
 }
 
 // The number of f's and g's combination where it is plain or remembered at the place; 65537 where it is to be made.
 fn ended(memo: &[u64], at: usize, pair: u64, op: u8, f: u32, g: u32) -> u32
-    requires { ⌜ at < length (now memo) ⌝ }
+    requires { ⌜ (at / 2 < length (now memo)) × (at ≡ placeOf (length (now memo)) pair) ⌝ }
     requires { ⌜ Packed op f g pair ⌝ }
     ensures { λ r. ⌜ Ends op (now (memo .entry)) f g r ⌝ }
 {
@@ -149,9 +195,11 @@ fn ended(memo: &[u64], at: usize, pair: u64, op: u8, f: u32, g: u32) -> u32
         }
         return 0;
     }
-    let e = memo[at];
-    if e / 65536 == pair {
-        return (e % 65536) as u32;
+    let e = entry(memo, at);
+    if e / 65536 == pair % 65536 {
+        if e % 65536 != 0 {
+            return (e % 65536 - 1) as u32;
+        }
     }
     65537
 }
@@ -257,7 +305,7 @@ fn combine(
     if r == 65536 {
         return 65536;
     }
-    memo[at] = pair * 65536 + base::widened(r);
+    remember(memo, at, pair, r);
     r
 }
 
@@ -285,16 +333,15 @@ pub fn restriction(
     r
 }
 
-// How many of so many lent words are the memory: the greatest power of two.
-fn places(words: usize) -> usize
-    requires { ⌜ 65536 ≤ words ⌝ }
-    ensures { λ r. ⌜ (0 < r) × (r ≤ words) ⌝ }
+// How many of so many lent words are the memory: as many places as there are pairs are enough.
+fn used(words: usize) -> usize
+    requires { ⌜ 32768 ≤ words ⌝ }
+    ensures { λ r. ⌜ (32768 ≤ r) × ((r ≤ words) × (r ≤ 2147483648)) ⌝ }
 {
-    let mut r: usize = 65536;
-    while r <= words - r {
-        r = r * 2;
+    if words > 2147483648 {
+        return 2147483648;
     }
-    r
+    words
 }
 
 // `combine` with a memory that may hold anything before.
@@ -308,7 +355,7 @@ fn afresh(
     g: u32,
 ) -> u32
     requires { ⌜ Operable (now keys) (now t) (now index) ⌝ }
-    requires { ⌜ 0 < length (now memo) ⌝ }
+    requires { ⌜ (32768 ≤ length (now memo)) × (length (now memo) ≤ 2147483648) ⌝ }
     requires { ⌜ (f < count (now t) + 2) × (g < count (now t) + 2) ⌝ }
     ensures { λ r. ⌜ Gives (now (keys .entry)) (now (t .entry)) (now (t .exit)) (now (index .exit)) r
         (combined op (now (keys .entry)) (family (nodesOf (now (t .entry))) f) (family (nodesOf (now (t .entry))) g)) ⌝ }
@@ -332,11 +379,11 @@ fn remembering(
     ensures { λ r. ⌜ Gives (now (keys .entry)) (now (t .entry)) (now (t .exit)) (now (index .exit)) r
         (combined op (now (keys .entry)) (family (nodesOf (now (t .entry))) f) (family (nodesOf (now (t .entry))) g)) ⌝ }
 {
-    if work.len() < 65536 {
-        let mut memo = [0u64; 65536];
+    if work.len() < 32768 {
+        let mut memo = [0u64; 32768];
         return combine(t, keys, index, &mut memo, op, f, g);
     }
-    let size = places(work.len());
+    let size = used(work.len());
     afresh(t, keys, index, &mut work[..size], op, f, g)
 }
 

@@ -1,8 +1,10 @@
-use lib.ListN.{length-set}
+use Rattle.family.specs.Memo.{placeOf}
+use Rattle.family.proofs.MemoryLaws.{place-word}
+use lib.ListN.{length}
 use Prim.Native.Nat.{_+_}
-use mathlib.Core.Path.{_∙_}
+use mathlib.Core.Path.{sym, ap, _∙_}
 use native.Mathlib.Omega.{arith}
-use Rattle.family.proofs.CombineLaws.{packed-small, ended-gives, ends-two, hi-known, hi-none, hi-ready, lo-known, lo-none, last-none, last-stored}
+use Rattle.family.proofs.CombineLaws.{packed-small, ended-gives, ends-two, hi-known, hi-none, hi-ready, lo-known, lo-none, last-none, last-noted}
 use borrow.Author.Needs.{needs}
 use Prim.Native.Nat.{ℕ, _<_}
 use borrow.Fn.Kinds.{In}
@@ -12,7 +14,7 @@ use Rattle.family.proofs.combine.Kinds as combine-kinds
 use Rattle.family.proofs.+combine.Lts-combine as combine-lts
 use Rattle.family.proofs.cut.Reads as cut-reads
 use Rattle.family.proofs.ended.Reads as ended-reads
-use Rattle.base.proofs.widened.Reads as widened-reads
+use Rattle.family.proofs.remember.Reads as remember-reads
 use Rattle.family.proofs.make.Reads as make-reads
 use Rattle.family.proofs.pack.Reads as pack-reads
 use Rattle.family.proofs.place.Reads as place-reads
@@ -43,19 +45,28 @@ combine-claims t = (
   combine.Post,
   make-reads.Asked,
   make-reads.Learnt,
-  widened-reads.Asked,
-  widened-reads.Learnt,
+  remember-reads.Asked,
+  remember-reads.Learnt,
 )
 
+combine-pack-requires : (t : ℕ) → combine-lts.Need-pack-requires (combine-claims t) (combine-at t) combine.Post
+combine-pack-requires t c κs =
+    let pre = c .before .before .before .pre in
+    (omega (arith, pre .1 .1 .1 .0, pre .1 .0 .sound .few), omega (arith, pre .1 .1 .1 .1, pre .1 .0 .sound .few))
+
 combine-place-requires : (t : ℕ) → combine-lts.Need-place-requires (combine-claims t) (combine-at t) combine.Post
-combine-place-requires t c κs =
-    let pre = c .before .before .before .before .pre in (
-      packed-small (c .pack .ensures) (omega (arith, (pre .1 .1 .1) .0, (pre .1 .1 .1) .1, (pre .1 .0) .sound .few)) (omega (arith, (pre .1 .1 .1) .0, (pre .1 .1 .1) .1, (pre .1 .0) .sound .few)),
-      (pre .1 .1 .0) .some,
-    )
+combine-place-requires t c κs = (packed-small (c .pack .ensures), c .before .before .before .before .pre .1 .1 .0 .most)
 
 combine-ended-requires : (t : ℕ) → combine-lts.Need-ended-requires (combine-claims t) (combine-at t) combine.Post
-combine-ended-requires t c κs = (c .before .place .ensures, c .before .before .pack .ensures)
+combine-ended-requires t c κs =
+    let place′ = c .before .place in let pack′ = c .before .before .pack in let args = c .before .before .before .before .before .before .args in
+    let pre = c .before .before .before .before .before .before .pre in (
+      (
+        place-word (length (args .memo .now)) (pack′ .result) (place′ .result) (place′ .ensures) (packed-small (pack′ .ensures)) (omega (arith, pre .1 .1 .0 .least)),
+        place′ .ensures,
+      ),
+      pack′ .ensures,
+    )
 
 combine-returns : (t : ℕ) → combine-lts.Need-returns (combine-claims t) (combine-at t) combine.Post
 combine-returns t c =
@@ -119,60 +130,40 @@ combine-returns-4 t c =
     last-none (args .op) (pre .1 .0) (pre .1 .1 .1) (cut′ .ensures) (combine′ .ensures .0) (omega (arith, combine′ .ensures .0 .small, if2 .left)) (combine2 .ensures .0)
     (omega (arith, combine2 .ensures .0 .small, c .before .before .before .before .before .before .if3 .left)) (c .before .before .before .make .ensures) (c .if4 .taken)
 
-combine-mul-memo : (t : ℕ) → combine-lts.Need-mul-memo (combine-claims t) (combine-at t) combine.Post
-combine-mul-memo t c =
-    let here = c .before .before .before .before .before .before .before .before .before .before .before .before .before .before .before .before in
-    let back = here .before .before .before .before .before .before .before .before .before .before .before .before .before .before in let pack′ = back .pack in
-    let pre = back .before .before .before .before .pre in
+combine-remember-requires : (t : ℕ) → combine-lts.Need-remember-requires (combine-claims t) (combine-at t) combine.Post
+combine-remember-requires t c κs =
+    let here = c .before .before .before .before .before .before .before .before .before in
+    let back = here .before .before .before .before .before .before .before .before .before in
+    let far = back .before .before .before .before .before .before .before .before .before .before .before .before in let place′ = far .place in
+    let pack′ = far .before .pack in let args = far .before .before .before .before .before .args in
+    let pre = far .before .before .before .before .before .pre in
     omega (
       arith,
-      packed-small (pack′ .ensures) (omega (arith, (pre .1 .1 .1) .0, (pre .1 .1 .1) .1, (pre .1 .0) .sound .few))
-          (omega (arith, (pre .1 .1 .1) .0, (pre .1 .1 .1) .1, (pre .1 .0) .sound .few)),
+      back .memo .given,
+      here .memo2 .given,
+      place-word (length (args .memo .now)) (pack′ .result) (place′ .result) (place′ .ensures) (packed-small (pack′ .ensures)) (omega (arith, pre .1 .1 .0 .least)),
     )
-
-combine-add-memo : (t : ℕ) → combine-lts.Need-add-memo (combine-claims t) (combine-at t) combine.Post
-combine-add-memo t c =
-    let here = c .before .before .before .before .before .before .before .before .before .before .before .before .before .before .before .before in
-    let back = here .before .before .before .before .before .before .before .before .before .before .before .before .before .before .before in
-    let pack′ = back .pack in let pre = back .before .before .before .before .pre in
-    omega (
-      arith,
-      c .widened .ensures,
-      packed-small (pack′ .ensures) (omega (arith, (pre .1 .1 .1) .0, (pre .1 .1 .1) .1, (pre .1 .0) .sound .few))
-          (omega (arith, (pre .1 .1 .1) .0, (pre .1 .1 .1) .1, (pre .1 .0) .sound .few)),
-    )
-
-combine-mul-memo-2 : (t : ℕ) → combine-lts.Need-mul-memo-2 (combine-claims t) (combine-at t) combine.Post
-combine-mul-memo-2 t c =
-    let here = c .before .before .before .before .before .before .before .before .before .before .before .before .before .before .before .before in
-    let back = here .before .before .before .before .before .before .before .before .before .before .before .before .before .before in let place′ = back .place in
-    let good = back .before .before .before .before .before .good in
-    omega (arith, place′ .ensures, good .1 .1 .1 .0 .1)
-
-combine-slice-write-memo : (t : ℕ) → combine-lts.Need-slice-write-memo (combine-claims t) (combine-at t) combine.Post
-combine-slice-write-memo t c =
-    let here = c .before .before .before .before .before .before .before .before .before .before .before .before .before .before .before .before .before .before in
-    let memo = here .memo in let place′ = here .before .before .before .before .before .before .before .before .before .before .before .before .place in
-    omega (arith, place′ .ensures, memo .given, c .before .before .before .before .before .before .before .before .before .memo2 .given)
 
 combine-same-length-9 : (t : ℕ) → combine-lts.Need-same-length-9 (combine-claims t) (combine-at t) combine.Post
 combine-same-length-9 t c =
-    let memo = c .before .before .before .before .before .before .before .before .before .before .before .before .before .before .before .before .before .before .memo in
-    simp length-set (c .before .before .before .before .before .before .before .before .before .memo2 .given ∙ memo .given)
+    let here = c .before .before .before .before .before .before .before .before .before .before .before .before in
+    let back = here .before .before .before .before .before .before .before .before .before in
+    c .before .before .remember .ensures .same ∙ here .memo2 .given ∙ back .memo .given
 
 combine-returns-5 : (t : ℕ) → combine-lts.Need-returns-5 (combine-claims t) (combine-at t) combine.Post
 combine-returns-5 t c =
-    let if3 = c .before .before .before .before .before .before .before .if3 in
-    let here = c .before .before .before .before .before .before .before .before .before .before .before .before in let combine2 = here .combine2 in
-    let if2 = here .before .before .before .before .if2 in let memo = here .before .before .before .before .before .before .memo in
-    let back = here .before .before .before .before .before .before .before .before .before in let combine′ = back .combine in
-    let cut′ = back .before .before .before .before .cut in let far = back .before .before .before .before .before .before .before .before .before in
-    let place′ = far .place in let pack′ = far .before .pack in let args = far .before .before .before .before .before .args in
-    let pre = far .before .before .before .before .before .pre in
-    last-stored (args .op) (pre .1 .0) (pre .1 .1 .1) (cut′ .ensures) (combine′ .ensures .0) (omega (arith, combine′ .ensures .0 .small, if2 .left)) (combine2 .ensures .0)
-    (omega (arith, combine2 .ensures .0 .small, if3 .left)) (c .before .before .before .before .make .ensures) _ _ (pack′ .ensures)
-    (omega (arith, place′ .ensures, memo .given, c .before .before .before .before .before .before .before .before .before .memo2 .given)) (omega (arith, c .widened .ensures .0))
-    (combine2 .ensures .1 (omega (arith, combine2 .ensures .0 .small, if3 .left)))
+    let make = c .before .before .before .before .before .before .before .make in
+    let here = c .before .before .before .before .before .before .before .before .before .before in let if3 = here .if3 in
+    let combine2 = here .before .before .before .before .before .combine2 in
+    let back = here .before .before .before .before .before .before .before .before .before in
+    let combine′ = back .before .before .before .before .before .combine in
+    let far = back .before .before .before .before .before .before .before .before .before in
+    let place′ = far .before .before .before .before .before .place in let pack′ = far .before .before .before .before .before .before .pack in
+    let farther = far .before .before .before .before .before .before .before .before .before .before in let pre = farther .pre in
+    last-noted (farther .args .op) (pre .1 .0) (pre .1 .1 .1) (far .cut .ensures) (combine′ .ensures .0) (omega (arith, combine′ .ensures .0 .small, back .if2 .left)) (combine2 .ensures .0)
+    (omega (arith, combine2 .ensures .0 .small, if3 .left)) (make .ensures) (place′ .result) (pack′ .ensures)
+    (place′ .ensures ∙ ap (λ (n : ℕ). placeOf n (pack′ .result)) (sym (here .before .before .memo2 .given ∙ back .before .before .memo .given)))
+    (combine2 .ensures .1 (omega (arith, combine2 .ensures .0 .small, if3 .left))) (c .before .before .remember .ensures)
 
 pub +combine-spec : {M : Type 1} → statement M
 +combine-spec = close μ-combine λ t. combine-lts.spec (
@@ -188,34 +179,12 @@ pub +combine-spec : {M : Type 1} → statement M
   combine.Post,
   make-reads.Asked,
   make-reads.Learnt,
-  widened-reads.Asked,
-  widened-reads.Learnt,
+  remember-reads.Asked,
+  remember-reads.Learnt,
 )
     (combine-at t)
     combine.Post
-    (λ c κs. search needs)
-    (combine-place-requires t)
-    (combine-ended-requires t)
-    (λ c. search needs)
-    (combine-returns t)
-    (combine-cut-requires t)
-    (combine-combine-requires t)
-    (λ c. search needs)
-    (λ c. search needs)
-    (combine-returns-2 t)
-    (combine-combine-requires-2 t)
-    (λ c. search needs)
-    (λ c. search needs)
-    (combine-returns-3 t)
-    (combine-make-requires t)
-    (λ c. search needs)
-    (λ c. search needs)
-    (combine-returns-4 t)
-    (combine-mul-memo t)
-    (λ c κs. search needs)
-    (combine-add-memo t)
-    (combine-mul-memo-2 t)
-    (combine-slice-write-memo t)
-    (λ c. search needs)
-    (combine-same-length-9 t)
-    (combine-returns-5 t)
+    (combine-pack-requires t) (combine-place-requires t) (combine-ended-requires t) (λ c. search needs) (combine-returns t) (combine-cut-requires t)
+    (combine-combine-requires t) (λ c. search needs) (λ c. search needs) (combine-returns-2 t) (combine-combine-requires-2 t) (λ c. search needs)
+    (λ c. search needs) (combine-returns-3 t) (combine-make-requires t) (λ c. search needs) (λ c. search needs) (combine-returns-4 t)
+    (combine-remember-requires t) (λ c. search needs) (combine-same-length-9 t) (combine-returns-5 t)

@@ -7,8 +7,9 @@ use Rattle.family.proofs.afresh.Tie as tie
 
 combine-requires : tie.Need-combine-requires
 combine-requires c κs =
-    let here = c .before .before .before .before .before in let clear = here .clear in let pre = here .before .before .before .before .before .pre in
-    (pre .0, (remembered-fresh _ _ _ _ (omega (arith, pre .1 .0, clear .ensures .same)) (cleared-reads (clear .ensures)), pre .1 .1))
+    let clear = c .before .before .before .before .before .clear in
+    let here = c .before .before .before .before .before .before .before .before .before .before in let pre = here .pre in
+    (pre .0, (remembered-fresh _ _ _ _ (omega (arith, pre .1 .0 .0, clear .ensures .same)) (omega (arith, pre .1 .0 .1, clear .ensures .same)) (cleared-reads (clear .ensures)), pre .1 .1))
 
 returns : tie.Need-returns
 returns c = c .before .before .before .before .combine .ensures .0

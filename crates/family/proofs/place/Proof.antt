@@ -1,12 +1,22 @@
-use Prim.Native.Nat.{_*_, _/_, _-_}
+use Prim.Native.Nat.{_*_, _≤_}
+use native.Mathlib.Nat.{mul-le-mul}
 use native.Mathlib.Omega.{arith}
-use lib.Bits.{and-le-r}
+use Rattle.family.specs.Memo.{placeOf}
 use borrow.Author.Needs.{needs}
 use Rattle.family.proofs.place.Statement.{statement}
 use Rattle.family.proofs.place.Tie as tie
 
+mul-result-2 : tie.Need-mul-result-2
+mul-result-2 c =
+    let x : c .args .pair ≤ 4294967295 = omega (arith, c .pre .0) in
+    let y : 2 * c .args .words ≤ 4294967296 = omega (arith, c .pre .1) in
+    omega (arith, mul-le-mul x y)
+
 returns : tie.Need-returns
-returns c = omega (arith, and-le-r (c .args .pair * 4021839121 / 1048576) (c .args .places - 1))
+unfolding placeOf
+returns c = search needs
 
 pub place-spec : {M : Type 1} → statement M
-place-spec = tie.close (tie.spec (λ c. search needs) (λ c. search needs) returns)
+place-spec =
+    tie.close
+    (tie.spec (λ c. search needs) mul-result-2 returns)

@@ -12,22 +12,20 @@ use Rattle.family.proofs.remembering.Tie as tie
 combine-requires : tie.Need-combine-requires
 combine-requires c κs =
     let pre = c .before .before .before .before .before .before .before .pre in
-    (pre .0, (remembered-fresh _ _ _ _ (omega (arith, length-replicate {A = ℕ} 65536 0)) (λ i. zeros 65536 i), pre .1))
+    let n = length-replicate {A = ℕ} 32768 0 in
+    (pre .0, (remembered-fresh _ _ _ _ (omega (arith, n)) (omega (arith, n)) (λ i. zeros 32768 i), pre .1))
 
 slice-aggregate-afresh : tie.Need-slice-aggregate-afresh
 slice-aggregate-afresh c =
-    let places = c .before .before .before .places in
-    sym (length-take-le (places .result) (c .before .before .before .before .before .before .before .before .args .work .now) (places .ensures .1))
+    let used = c .before .before .before .used in let args = c .before .before .before .before .before .before .before .before .args in
+    sym (length-take-le (used .result) (args .work .now) (used .ensures .1 .0))
 
 afresh-requires : tie.Need-afresh-requires
 afresh-requires c κs =
-    let here = c .before .before .before in let places = here .places in let pre = here .before .before .before .before .before .pre in (
-      pre .0,
-      (
-        omega (arith, places .ensures .0, length-take-le (places .result) (c .before .before .before .before .before .before .before .before .args .work .now) (places .ensures .1)),
-        pre .1,
-      ),
-    )
+    let used = c .before .before .before .used in let args = c .before .before .before .before .before .before .before .before .args in
+    let pre = c .before .before .before .before .before .before .before .before .pre in
+    let n = length-take-le (used .result) (args .work .now) (used .ensures .1 .0) in
+    (pre .0, ((omega (arith, used .ensures .0, n), omega (arith, used .ensures .1 .1, n)), pre .1))
 
 pub remembering-spec : {M : Type 1} → statement M
 remembering-spec =
