@@ -41,9 +41,9 @@ stack: $(build)/stack
 test-rust: $(archive)
 	MOGEDORN_LIB='$(abspath target/staticlib)' $(CARGO) run --quiet --release --manifest-path tests/rust/Cargo.toml --target-dir target/tests-rust -- $(SEED) $(CALLS)
 
-# Against the same algorithm in Rust and, where libbrial-dev is installed, against CUDD.
+# Against the same algorithm in Rust, where libbrial-dev is installed against CUDD, and with OLD=ARCHIVE against an earlier archive.
 bench: $(archive)
-	MOGEDORN_LIB='$(abspath target/staticlib)' $(CARGO) run --quiet --release --manifest-path bench/Cargo.toml --target-dir target/bench
+	$(if $(OLD),MOGEDORN_OLD='$(abspath $(OLD))') MOGEDORN_LIB='$(abspath target/staticlib)' $(CARGO) run --quiet --release --manifest-path bench/Cargo.toml --target-dir target/bench
 
 # How many working words either, both and only want.
 words: $(archive)

@@ -1,4 +1,5 @@
-// Where the archive is: MOGEDORN_LIB, or the place where `make lib` puts it. CUDD is taken in where libbrial-dev is installed.
+// Where the archive is: MOGEDORN_LIB, or the place where `make lib` puts it. An earlier archive, MOGEDORN_OLD, is taken in beside it under other names, and CUDD
+// where libbrial-dev is installed.
 use std::path::{Path, PathBuf};
 use std::process::Command;
 
@@ -9,12 +10,22 @@ fn main() {
     println!("cargo:rerun-if-changed=cudd.c");
     println!("cargo:rustc-link-search=native={}", dir.display());
     println!("cargo:rustc-link-lib=static=capi");
+    let out = std::env::var("OUT_DIR").unwrap();
+    let run = |program: &str, args: &[&str]| assert!(Command::new(program).args(args).status().unwrap().success(), "{program} failed");
+    println!("cargo:rerun-if-env-changed=MOGEDORN_OLD");
+    if let Ok(old) = std::env::var("MOGEDORN_OLD") {
+        println!("cargo:rerun-if-changed={old}");
+        let renamed = format!("{out}/libold.a");
+        run("objcopy", &["--prefix-symbols=old_", &old, &renamed]);
+        run("objcopy", &["--redefine-sym", "old_memset=memset", &renamed]);
+        println!("cargo:rustc-link-search=native={out}");
+        println!("cargo:rustc-link-lib=static=old");
+        println!("cargo:rustc-cfg=old");
+    }
     if !Path::new("/usr/include/polybori/cudd/cuddInt.h").exists() {
         println!("cargo:warning=libbrial-dev is not installed: no comparison with CUDD");
         return;
     }
-    let out = std::env::var("OUT_DIR").unwrap();
-    let run = |program: &str, args: &[&str]| assert!(Command::new(program).args(args).status().unwrap().success(), "{program} failed");
     run("cc", &["-O2", "-g", "-Wall", "-c", "cudd.c", "-o", &format!("{out}/cudd.o")]);
     run("ar", &["rcs", &format!("{out}/libcuddshim.a"), &format!("{out}/cudd.o")]);
     println!("cargo:rustc-link-search=native={out}");

@@ -256,7 +256,7 @@ impl Table<'_> {
         Some(r)
     }
 
-    fn restrict(&mut self, memo: &mut [u32; 65536], p: u32, holding: bool, f: u32) -> Option<u32> {
+    fn restrict(&mut self, memo: &mut [u16; 65536], p: u32, holding: bool, f: u32) -> Option<u32> {
         if f < 2 {
             return Some(if holding { 0 } else { f });
         }
@@ -268,12 +268,14 @@ impl Table<'_> {
             return Some(if holding { 0 } else { f });
         }
         if memo[f as usize] != 0 {
-            return Some(memo[f as usize] - 1);
+            return Some(memo[f as usize] as u32 - 1);
         }
         let h = self.restrict(memo, p, holding, hi)?;
         let l = self.restrict(memo, p, holding, lo)?;
         let r = self.make(label, l, h)?;
-        memo[f as usize] = r + 1;
+        if r < 65535 {
+            memo[f as usize] = r as u16 + 1;
+        }
         Some(r)
     }
 }
@@ -301,7 +303,7 @@ pub fn hand_combine(op: u8, m: u32, packs: &[u64], t: &mut [u32], a: u32, b: u32
     let mut table = Table { t, keys: &keys[..packs.len()], index: &mut index };
     let r = if op >= 3 {
         table.restrict(&mut [0; 65536], b, op == 3, a)
-    } else if work.len() < 32768 {
+    } else if work.len() < 131072 {
         table.combine(&mut [0; 32768], op, a, b)
     } else {
         let words = work.len().min(1 << 31);

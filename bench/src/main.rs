@@ -1,5 +1,6 @@
 //! The library beside the same algorithm written by hand in Rust and, where it is installed, beside CUDD's ZDDs: three instances of document 000's Table 1
-//! compiled, rounds of with, without, either, both and only on what was compiled, and how a call's time grows with the nodes.
+//! compiled, rounds of with, without, either, both and only on what was compiled, and how a call's time grows with the nodes. An earlier archive stands beside it
+//! where one is given (see build.rs).
 //!
 //! `bench [REPETITIONS]` prints the table. `bench WHO INSTANCE` does one repetition of one, for instruction counts (see bench/instructions).
 
@@ -9,6 +10,8 @@ mod cudd;
 #[allow(dead_code)]
 mod ffi;
 mod hand;
+#[cfg(old)]
+mod old;
 
 use std::cell::RefCell;
 use std::hint::black_box;
@@ -116,12 +119,19 @@ impl Lent {
 }
 
 fn library(who: &Instance) -> Times {
+    by_calls(who, ffi::cover, ffi::combine)
+}
+
+type Cover = fn(u32, &[u64], &mut [u32], u64, u32, &mut [u64]) -> ffi::Report;
+type Combine = fn(usize, u32, &[u64], &mut [u32], u32, u32, &mut [u64]) -> ffi::Report;
+
+fn by_calls(who: &Instance, cover: Cover, combine: Combine) -> Times {
     let lent = RefCell::new(Lent::new(who));
     repetition(
         who,
         || {
             let l = &mut *lent.borrow_mut();
-            let r = ffi::cover(who.m, &who.packs, &mut l.table, who.all(), u32::MAX, &mut l.work);
+            let r = cover(who.m, &who.packs, &mut l.table, who.all(), u32::MAX, &mut l.work);
             assert_eq!(r.refusal, 0);
             l.compiled = r.made;
             (r.answer, r.steps as u64)
@@ -129,7 +139,7 @@ fn library(who: &Instance) -> Times {
         |op, a, b, p| {
             let l = &mut *lent.borrow_mut();
             let b = if op < 3 { b } else { p as u32 };
-            let r = ffi::combine(op, who.m, &who.packs, &mut l.table, a, b, &mut l.work);
+            let r = combine(op, who.m, &who.packs, &mut l.table, a, b, &mut l.work);
             assert_eq!(r.refusal, 0);
             r.answer
         },
@@ -175,32 +185,40 @@ fn least(x: &[f64]) -> f64 {
     x.iter().copied().fold(f64::INFINITY, f64::min)
 }
 
+/// Who is compared, in the order of the columns.
+fn all_of_them() -> Vec<(&'static str, fn(&Instance) -> Times)> {
+    vec![
+        ("library", library),
+        ("by hand", by_hand),
+        #[cfg(cudd)]
+        ("CUDD", by_cudd),
+        #[cfg(old)]
+        ("before", |who| by_calls(who, old::cover, old::combine)),
+    ]
+}
+
 fn compare(who: &Instance, repetitions: usize) {
-    let (mut ours, mut hands, mut cudds) = (Vec::new(), Vec::new(), Vec::new());
+    let them = all_of_them();
+    let mut times: Vec<Vec<Times>> = them.iter().map(|_| Vec::new()).collect();
     // in turn, so that none always runs in the caches that another leaves
-    for i in 0..3 * repetitions {
-        match (i + i / 3) % 3 {
-            0 => ours.push(library(who)),
-            1 => hands.push(by_hand(who)),
-            #[cfg(cudd)]
-            _ => cudds.push(by_cudd(who)),
-            #[cfg(not(cudd))]
-            _ => {}
-        }
+    for i in 0..them.len() * repetitions {
+        let turn = (i + i / them.len()) % them.len();
+        times[turn].push(them[turn].1(who));
     }
-    assert!(hands.iter().chain(&cudds).all(|t| t.1 == ours[0].1), "steps differ");
+    let steps = times[0][0].1;
+    assert!(times.iter().flatten().all(|t| t.1 == steps), "steps differ");
     let lent = compiled(who);
-    println!("{}: {} packages, {} steps, {} nodes in a table for {}, memo of {} places", who.name, who.packs.len(), ours[0].1, lent.table[0], who.nodes, who.places);
+    println!("{}: {} packages, {steps} steps, {} nodes in a table for {}, memo of {} places", who.name, who.packs.len(), lent.table[0], who.nodes, who.places);
     for (i, call) in CALLS.iter().enumerate() {
-        let column = |t: &[Times]| t.iter().map(|x| x.0[i] / 1000.0).collect::<Vec<_>>();
-        let (a, b) = (column(&ours), column(&hands));
-        print!("  {call:<8} {:>9.1} {:>9.1} {:>9.1} {:>9.1}", median(a.clone()), least(&a), median(b.clone()), least(&b));
-        if cudds.is_empty() {
-            println!("         -         - {:>9.2}", least(&a) / least(&b));
-        } else {
-            let c = column(&cudds);
-            println!(" {:>9.1} {:>9.1} {:>9.2} {:>9.2}", median(c.clone()), least(&c), least(&a) / least(&b), least(&a) / least(&c));
+        print!("  {call:<8}");
+        let columns: Vec<Vec<f64>> = times.iter().map(|t| t.iter().map(|x| x.0[i] / 1000.0).collect()).collect();
+        for x in &columns {
+            print!(" {:>9.1} {:>9.1}", median(x.clone()), least(x));
         }
+        for x in &columns[1..] {
+            print!(" {:>9.2}", least(&columns[0]) / least(x));
+        }
+        println!();
     }
 }
 
@@ -251,7 +269,11 @@ fn main() {
     }
     let repetitions = args.first().map_or(101, |a| a.parse().expect("a number"));
     println!("microseconds a call: median and least of {repetitions} repetitions, then the ratios of the least");
-    println!("             library               by hand               CUDD               to hand   to CUDD");
+    let names: Vec<&str> = all_of_them().iter().map(|x| x.0).collect();
+    print!("          ");
+    names.iter().for_each(|n| print!(" {n:<19}"));
+    names[1..].iter().for_each(|n| print!(" {:>9}", format!("to {}", n.trim_start_matches("by "))));
+    println!();
     for who in &all {
         compare(who, repetitions);
     }

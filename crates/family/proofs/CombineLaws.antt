@@ -5,9 +5,8 @@ use mathlib.Core.Bool.{Bool, false, and-comm, or-comm}
 use mathlib.Core.List.{List, []}
 use Prim.Native.Nat.{ℕ, zero, suc, _+_, _-_, _*_, _/_, _%_, _<_, _≤_}
 use native.Mathlib.Omega.{arith}
-use native.Mathlib.Decide.{decLt, ℕ-discrete}
-use lib.ListN.{length, getD, set, length-set}
-use lib.Seq.{getD-set-same, getD-set-other}
+use native.Mathlib.Decide.{decLt}
+use lib.ListN.{length, getD}
 use Rattle.zdd.specs.Table.{Node, blank, Family, elem, sets, count, nodesOf, family, key, Fine, Sound, Keys}
 use Rattle.zdd.proofs.Grow.{family-zero}
 use Rattle.zdd.proofs.Words.{length-nodes, at-word}
@@ -19,7 +18,7 @@ use Rattle.zdd.proofs.Operations.{union-nil, nil-union, union-self, inter-nil, 
 use Rattle.zdd.proofs.Parts.{split-same, split-left, split-right}
 use Rattle.family.specs.Gives.{Operable, Gives, Noded, Answers}
 use Rattle.family.specs.Memo.{opOf, combined, Ordered, Two, Pair, Ended, Ends, Top, Cut}
-use Rattle.family.specs.Memo.{mixed, Packed, placeOf, entryAt, tagged, Hit, Remembered, Noted}
+use Rattle.family.specs.Memo.{mixed, Packed, placeOf, entryAt, tagged, Hit, Recalled, Remembered, Noted}
 use Rattle.family.proofs.MemoryLaws.{mixed-small, mixed-once, place-once, empty}
 use Rattle.family.proofs.GivesLaws.{gives-there, gives-answers, gives-keeps, gives-more, gives-eq, step-none-hi, step-none-lo, step-child, step-node}
 use Rattle.family.proofs.RestrictLaws.{two-more, word-node, word-label, word-fine}
@@ -123,38 +122,41 @@ module _ {K : List ℕ} {ns : List Node} {f g : ℕ} (q : Pair K ns f g) where
       let z : r < 65536 = omega (arith, a .known, q .few) in
       record { small = omega arith; answer = λ h. (z, a); two = λ e. absurd (omega arith) }
 
-module _ (op : ℕ) (memo : List ℕ) (f g : ℕ) where
-  pub ends-left-union : f ≡ 0 → op ≡ 0 → Ends op memo f g g
-  ends-left-union z e K ns q m = answered q op g (end-left-union q op z e)
+module _ (op f g : ℕ) where
+  pub ends-left-union : f ≡ 0 → op ≡ 0 → Ends op f g g
+  ends-left-union z e K ns q = answered q op g (end-left-union q op z e)
 
-  pub ends-left : f ≡ 0 → 0 < op → Ends op memo f g 0
-  ends-left z e K ns q m = answered q op 0 (end-left q op z e)
+  pub ends-left : f ≡ 0 → 0 < op → Ends op f g 0
+  ends-left z e K ns q = answered q op 0 (end-left q op z e)
 
-  pub ends-right-inter : g ≡ 0 → op ≡ 1 → Ends op memo f g 0
-  ends-right-inter z e K ns q m = answered q op 0 (end-right-inter q op z e)
+  pub ends-right-inter : g ≡ 0 → op ≡ 1 → Ends op f g 0
+  ends-right-inter z e K ns q = answered q op 0 (end-right-inter q op z e)
 
-  pub ends-right : g ≡ 0 → (op ≡ 1 → ⊥) → Ends op memo f g f
-  ends-right z e K ns q m = answered q op f (end-right q op z e)
+  pub ends-right : g ≡ 0 → (op ≡ 1 → ⊥) → Ends op f g f
+  ends-right z e K ns q = answered q op f (end-right q op z e)
 
-  pub ends-both : f ≡ g → op < 2 → Ends op memo f g f
-  ends-both z e K ns q m = answered q op f (end-both q op z e)
+  pub ends-both : f ≡ g → op < 2 → Ends op f g f
+  ends-both z e K ns q = answered q op f (end-both q op z e)
 
-  pub ends-both-differ : f ≡ g → 2 ≤ op → Ends op memo f g 0
-  ends-both-differ z e K ns q m = answered q op 0 (end-both-differ q op z e)
+  pub ends-both-differ : f ≡ g → 2 ≤ op → Ends op f g 0
+  ends-both-differ z e K ns q = answered q op 0 (end-both-differ q op z e)
 
-  pub ends-known : (at : ℕ) {k : ℕ} (p : Packed op f g k) → at ≡ placeOf (length memo) k → entryAt memo at / 65536 ≡ k % 65536 → 0 < entryAt memo at % 65536
-      → Ends op memo f g (entryAt memo at % 65536 - 1)
-  ends-known at {k} p e t h K ns q m =
-      let s = packed-known p 65536 (omega (arith, q .left, q .few)) (omega (arith, q .right, q .few)) in
-      let z : at ≡ placeOf (length memo) (mixed (p .first * 65536 + p .second)) = e ∙ ap (placeOf (length memo)) (p .is) in
-      answered q op (entryAt memo at % 65536 - 1)
-      (subst (λ (F : Family). Answers ns (entryAt memo at % 65536 - 1) F) (packed-same p (family ns) K)
-      (subst⁻¹ (λ (i : ℕ). Answers ns (entryAt memo i % 65536 - 1) (combined op K (family ns (p .first)) (family ns (p .second)))) z
-      (m .each (p .first) (p .second) (s .0) (s .1)
-      (record { tag = ap (λ (i : ℕ). entryAt memo i / 65536) (sym z) ∙ t ∙ ap (λ (j : ℕ). j % 65536) (p .is); some = subst (λ (i : ℕ). 0 < entryAt memo i % 65536) z h }) .1 .1)))
+  pub ends-open : Two f g → Ends op f g 65537
+  ends-open w K ns q = record { small = omega arith; answer = λ h. absurd (omega arith); two = λ e. w }
 
-  pub ends-open : (f ≡ 0 → ⊥) → (g ≡ 0 → ⊥) → (f ≡ g → ⊥) → Ends op memo f g 65537
-  ends-open a b d K ns q m = record { small = omega arith; answer = λ h. absurd (omega arith); two = λ e. record { some = omega (arith, a); other = omega (arith, b); differ = d } }
+-- ---- what is remembered of two numbers
+
+pub recalled-answers : {op : ℕ} {K : List ℕ} {ns : List Node} {memo : List ℕ} {f g at k r : ℕ} → Pair K ns f g → Remembered op K ns memo → Packed op f g k
+    → at ≡ placeOf (length memo) k → Recalled memo at k r → r < 65537 → Answers ns r (combined op K (family ns f) (family ns g))
+recalled-answers {op} {K} {ns} {memo} {f} {g} {at} {k} {r} q m p e s h =
+    let w = packed-known p 65536 (omega (arith, q .left, q .few)) (omega (arith, q .right, q .few)) in
+    let z : at ≡ placeOf (length memo) (mixed (p .first * 65536 + p .second)) = e ∙ ap (placeOf (length memo)) (p .is) in
+    subst (λ (F : Family). Answers ns r F) (packed-same p (family ns) K)
+    (subst⁻¹ (λ (i : ℕ). Answers ns i (combined op K (family ns (p .first)) (family ns (p .second)))) (s .is h ∙ ap (λ (i : ℕ). entryAt memo i % 65536 - 1) z)
+    (m .each (p .first) (p .second) (w .0) (w .1) (record {
+      tag = ap (λ (i : ℕ). entryAt memo i / 65536) (sym z) ∙ s .tag h ∙ ap (λ (j : ℕ). j % 65536) (p .is);
+      some = subst (λ (i : ℕ). 0 < entryAt memo i % 65536) z (s .some h);
+    }) .1 .1))
 
 -- ---- the parts of two numbers
 
@@ -372,17 +374,25 @@ pair-of {K} {t} y w = record {
   right = omega (arith, w .1, length-nodes t);
 }
 
-pub ended-gives : {op : ℕ} {K t index memo : List ℕ} {f g r : ℕ} → Operable K t index → Remembered op K (nodesOf t) memo → (f < count t + 2) × (g < count t + 2)
-    → Ends op memo f g r → (r ≡ 65537 → ⊥)
-    → Gives K t t index r (joint op K t f g) × (r < 65536 → Remembered op K (nodesOf t) memo)
-ended-gives {op} {K} {t} {index} {memo} {f} {g} {r} y m w s d =
-    let x = s K (nodesOf t) (pair-of y w) m in
-    let z : r < 65537 = omega (arith, x .small) in
-    (gives-there (y .sound) (y .indexed) (x .answer z .0) (x .answer z .1), λ h. m)
+module _ {op : ℕ} {K t index memo : List ℕ} {f g r : ℕ} (y : Operable K t index) (m : Remembered op K (nodesOf t) memo) (w : (f < count t + 2) × (g < count t + 2)) where
+  there : r < 65536 → Answers (nodesOf t) r (joint op K t f g) → Gives K t t index r (joint op K t f g) × (r < 65536 → Remembered op K (nodesOf t) memo)
+  there l a = (gives-there (y .sound) (y .indexed) l a, λ h. m)
 
-pub ends-two : {op : ℕ} {K t index memo : List ℕ} {f g r : ℕ} → Operable K t index → Remembered op K (nodesOf t) memo → (f < count t + 2) × (g < count t + 2)
-    → Ends op memo f g r → r ≡ 65537 → Two f g
-ends-two {op} {K} {t} y m w s e = s K (nodesOf t) (pair-of y w) m .two e
+  pub ended-gives : Ends op f g r → (r ≡ 65537 → ⊥) → Gives K t t index r (joint op K t f g) × (r < 65536 → Remembered op K (nodesOf t) memo)
+  ended-gives s d =
+      let x = s K (nodesOf t) (pair-of y w) in
+      let z : r < 65537 = omega (arith, x .small) in
+      there (x .answer z .0) (x .answer z .1)
+
+  pub ends-two : Ends op f g r → r ≡ 65537 → Two f g
+  ends-two s e = s K (nodesOf t) (pair-of y w) .two e
+
+  pub recalled-gives : {at k : ℕ} → Packed op f g k → at ≡ placeOf (length memo) k → Recalled memo at k r → (r ≡ 65537 → ⊥)
+      → Gives K t t index r (joint op K t f g) × (r < 65536 → Remembered op K (nodesOf t) memo)
+  recalled-gives p e s d =
+      let z : r < 65537 = omega (arith, s .small) in
+      let a = recalled-answers (pair-of y w) m p e s z in
+      there (omega (arith, a .known, y .sound .few, length-nodes t)) a
 
 pub hi-known : {K t index : List ℕ} {f g p f1 g1 f0 g0 : ℕ} → Operable K t index → Cut K (nodesOf t) f g p f1 g1 f0 g0 → (f1 < count t + 2) × (g1 < count t + 2)
 hi-known {K} {t} y c = (omega (arith, c .f1-known, length-nodes t), omega (arith, c .g1-known, length-nodes t))

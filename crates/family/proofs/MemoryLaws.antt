@@ -8,7 +8,7 @@ use native.Mathlib.Omega.{arith}
 use native.Mathlib.Decide.{decLt, ℕ-discrete}
 use lib.ListN.{length, getD, set, length-set}
 use lib.Seq.{getD-set-same, getD-set-other}
-use Rattle.family.specs.Memo.{mixed, half, replaced, entryAt, placeOf, tagged, Noted}
+use Rattle.family.specs.Memo.{mixed, chosen, half, replaced, entryAt, placeOf, tagged, Recalled, Noted}
 
 -- ---- a pair is told by its place and its tag
 
@@ -61,6 +61,10 @@ pub empty : (memo : List ℕ) → ((i : ℕ) → getD memo i 0 ≡ 0) → (i : �
 unfolding entryAt
 empty memo z i = ap (half (i % 2)) (z (i / 2)) ∙ half-zero (i % 2)
 
+pub chosen-small : (p : ℕ) {x y b : ℕ} → x < b → y < b → chosen p x y < b
+chosen-small zero l m = l
+chosen-small (suc n) l m = m
+
 half-own : (p w e : ℕ) → e < 4294967296 → half p (replaced p w e) ≡ e
 half-own zero w e h = omega arith
 half-own (suc n) w e h = omega arith
@@ -70,6 +74,19 @@ half-other zero zero w e a b f h = absurd (f refl)
 half-other zero (suc q) w e a b f h = omega arith
 half-other (suc p) zero w e a b f h = omega arith
 half-other (suc p) (suc q) w e a b f h = absurd (f (omega arith))
+
+-- ---- what is recalled
+
+pub recalled-none : (memo : List ℕ) (at k : ℕ) → Recalled memo at k 65537
+recalled-none memo at k = record { small = omega arith; tag = λ h. absurd (omega arith); some = λ h. absurd (omega arith); is = λ h. absurd (omega arith) }
+
+pub recalled-entry : (memo : List ℕ) (at k e r : ℕ) → e ≡ entryAt memo at → e / 65536 ≡ k % 65536 → (e % 65536 ≡ 0 → ⊥) → r ≡ e % 65536 - 1 → Recalled memo at k r
+recalled-entry memo at k e r z t s q = record {
+  small = omega arith;
+  tag = λ h. ap (λ (x : ℕ). x / 65536) (sym z) ∙ t;
+  some = λ h. omega (arith, s);
+  is = λ h. omega arith;
+}
 
 -- ---- a store
 

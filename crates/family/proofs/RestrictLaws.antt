@@ -266,11 +266,13 @@ module _ {b : Bool} {K : List ℕ} {p : ℕ} {t index memo : List ℕ} {f a : �
           whole : Gives K t t′ index′ r (restricted b K p (family (nodesOf t) f))
           whole = step-node split-o g1 w1 g0 (fine-o .label-known) w0 n
 
-          pub last-small : r ≤ 65536
-          last-small = whole .small
-
           pub last-none : {memo0 : List ℕ} → r ≡ 65536 → Gives K t t′ index′ 65536 (restricted b K p (family (nodesOf t) f)) × (65536 < 65536 → Kept b K p (nodesOf t′) memo0)
           last-none e = (subst (λ (x : ℕ). Gives K t t′ index′ x (restricted b K p (family (nodesOf t) f))) e whole, λ z. absurd (omega arith))
+
+          -- nothing is stored
+          pub last-kept : {memo0 : List ℕ} → Kept b K p (nodesOf t0) memo0
+              → Gives K t t′ index′ r (restricted b K p (family (nodesOf t) f)) × (r < 65536 → Kept b K p (nodesOf t′) memo0)
+          last-kept m = (whole, λ z. kept-grown (n K (step-child split-o g1 w1 g0 (fine-o .label-known) w0)) z m)
 
           pub last-stored : {memo0 : List ℕ} (k v : ℕ) → k ≡ f → v ≡ r + 1 → Kept b K p (nodesOf t0) memo0
               → Gives K t t′ index′ r (restricted b K p (family (nodesOf t) f)) × (r < 65536 → Kept b K p (nodesOf t′) (set memo0 k v))
@@ -280,7 +282,6 @@ module _ {b : Bool} {K : List ℕ} {p : ℕ} {t index memo : List ℕ} {f a : �
               kept z =
                   let wf : f < suc (suc (length (nodesOf t))) = omega (arith, o .below, length-nodes t) in
                   let a : Answers (nodesOf t′) r (restricted b K p (family (nodesOf t) f)) = gives-answers whole z in
-                  let m′ : Kept b K p (nodesOf t′) memo0 = kept-grown (n K (step-child split-o g1 w1 g0 (fine-o .label-known) w0)) z m in
                   subst⁻¹ (λ (x : ℕ). Kept b K p (nodesOf t′) (set memo0 x v)) ek
                   (kept-stored f r v ev (omega (arith, o .below, o .ready .sound .few)) (omega (arith, wf, gives-more whole z))
-                  (subst⁻¹ (λ (F : Family). Answers (nodesOf t′) r (restricted b K p F)) (gives-keeps whole z f wf) a) m′)
+                  (subst⁻¹ (λ (F : Family). Answers (nodesOf t′) r (restricted b K p F)) (gives-keeps whole z f wf) a) (last-kept m .1 z))

@@ -57,15 +57,17 @@ pub record Packed (op f g k : ℕ) : Type 0 where
 
 -- ---- the memory of results: two places a word
 
--- the half of a word at an even place, and at an odd one
-abbrev pub half : ℕ → ℕ → ℕ
-half zero w = w % 4294967296
-half (suc n) w = w / 4294967296
+-- the first at an even place, the second at an odd one
+abbrev pub chosen : ℕ → ℕ → ℕ → ℕ
+chosen zero x y = x
+chosen (suc n) x y = y
 
--- the word with e in that half
+-- the half of a word at a place, and the word with e in that half
+abbrev pub half : ℕ → ℕ → ℕ
+half p w = chosen p (w % 4294967296) (w / 4294967296)
+
 abbrev pub replaced : ℕ → ℕ → ℕ → ℕ
-replaced zero w e = w / 4294967296 * 4294967296 + e
-replaced (suc n) w e = e * 4294967296 + w % 4294967296
+replaced p w e = chosen p (w / 4294967296) e * 4294967296 + chosen p e (w % 4294967296)
 
 -- what stands at place i
 unfoldable pub entryAt : List ℕ → ℕ → ℕ
@@ -91,6 +93,13 @@ pub record Remembered (op : ℕ) (K : List ℕ) (ns : List Node) (memo : List �
   pub each : (f g : ℕ) → f < 65536 → g < 65536 → Hit memo (mixed (f * 65536 + g))
       → (f < suc (suc (length ns))) × ((g < suc (suc (length ns)))
       × Answers ns (entryAt memo (placeOf (length memo) (mixed (f * 65536 + g))) % 65536 - 1) (combined op K (family ns f) (family ns g)))
+
+-- what recall answers: 65537, or the number of an entry with k's tag at the place
+pub record Recalled (memo : List ℕ) (at k r : ℕ) : Type 0 where
+  pub small : r ≤ 65537
+  pub tag : r < 65537 → entryAt memo at / 65536 ≡ k % 65536
+  pub some : r < 65537 → 0 < entryAt memo at % 65536
+  pub is : r < 65537 → r ≡ entryAt memo at % 65536 - 1
 
 -- what remember ensures: no place has changed, but perhaps the one, which then has the number under its pair
 pub record Noted (memo : List ℕ) (at k r : ℕ) (memo′ : List ℕ) : Type 0 where
@@ -118,8 +127,8 @@ pub record Ended (op : ℕ) (K : List ℕ) (ns : List Node) (f g r : ℕ) : Type
   pub two : r ≡ 65537 → Two f g
 
 -- what ended ensures, whatever the keys and the nodes
-abbrev pub Ends : ℕ → List ℕ → ℕ → ℕ → ℕ → Type 0
-Ends op memo f g r = (K : List ℕ) (ns : List Node) → Pair K ns f g → Remembered op K ns memo → Ended op K ns f g r
+abbrev pub Ends : ℕ → ℕ → ℕ → ℕ → Type 0
+Ends op f g r = (K : List ℕ) (ns : List Node) → Pair K ns f g → Ended op K ns f g r
 
 -- the key of a number's label, or 2 ^ 32 for 0 and 1
 pub record Top (K : List ℕ) (ns : List Node) (f r : ℕ) : Type 0 where

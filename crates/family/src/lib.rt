@@ -6,7 +6,7 @@ ghost use Rattle.zdd.specs.Table.{node, blank, count, nodesOf, family, Sound, K
 ghost use Rattle.table.specs.State.{Indexed};
 ghost use Rattle.family.specs.Gives.{Operable, Gives, Produced, Noded, Answers};
 ghost use Rattle.family.specs.Memo.{restricted, Kept, Soon, combined, Ends, Two, Top, Cut};
-ghost use Rattle.family.specs.Memo.{mixed, Packed, placeOf, entryAt, replaced, Remembered, Noted};
+ghost use Rattle.family.specs.Memo.{mixed, Packed, placeOf, chosen, entryAt, replaced, Recalled, Remembered, Noted};
 
 // The number of the node with these three words, found or made: lo where hi is 0; 65536 where there is no room.
 fn make(t: &mut [u32], index: &mut [u16; 131072], label: u32, lo: u32, hi: u32) -> u32
@@ -24,7 +24,7 @@ fn make(t: &mut [u32], index: &mut [u16; 131072], label: u32, lo: u32, hi: u32) 
 }
 
 // The number of f's sets with p (or without p) where it is plain or remembered; 65537 where it is to be made.
-fn soon(t: &[u32], keys: &[u32], memo: &[u32; 65536], p: u32, holding: bool, f: u32) -> u32
+fn soon(t: &[u32], keys: &[u32], memo: &[u16; 65536], p: u32, holding: bool, f: u32) -> u32
     requires { ⌜ Sound (now keys) (now t) ⌝ }
     requires { ⌜ Keys (now keys) ⌝ }
     requires { ⌜ Kept holding (now keys) p (nodesOf (now t)) (now memo) ⌝ }
@@ -54,7 +54,7 @@ fn soon(t: &[u32], keys: &[u32], memo: &[u32; 65536], p: u32, holding: bool, f: 
         }
         return f;
     }
-    let e = memo[k];
+    let e = base::word(memo[k]);
     if e != 0 {
         return e - 1;
     }
@@ -66,7 +66,7 @@ fn restrict(
     t: &mut [u32],
     keys: &[u32],
     index: &mut [u16; 131072],
-    memo: &mut [u32; 65536],
+    memo: &mut [u16; 65536],
     p: u32,
     holding: bool,
     f: u32,
@@ -102,7 +102,9 @@ fn restrict(
     if r == 65536 {
         return 65536;
     }
-    memo[k] = r + 1;
+    if r < 65535 {
+        memo[k] = (r + 1) as u16;
+    }
     r
 }
 
@@ -135,16 +137,23 @@ fn place(pair: u64, words: usize) -> usize
     (pair * (2 * (words as u64)) / 4294967296) as usize
 }
 
+// The first at an even place, the second at an odd one. (Small enough to be compiled without a jump, which could not be foreseen.)
+fn choose(at: usize, even: u64, odd: u64) -> u64
+    ensures { λ r. ⌜ r ≡ chosen (at % 2) even odd ⌝ }
+{
+    if at % 2 == 0 {
+        return even;
+    }
+    odd
+}
+
 // What stands at a place: the low half of a word at an even one, the high half at an odd one.
 fn entry(memo: &[u64], at: usize) -> u64
     requires { ⌜ at / 2 < length (now memo) ⌝ }
     ensures { λ r. ⌜ r ≡ entryAt (now (memo .entry)) at ⌝ }
 {
     let word = memo[at / 2];
-    if at % 2 == 0 {
-        return word % 4294967296;
-    }
-    word / 4294967296
+    choose(at, word % 4294967296, word / 4294967296)
 }
 
 // The word with e in the half of the place.
@@ -152,10 +161,8 @@ fn replace(word: u64, at: usize, e: u64) -> u64
     requires { ⌜ e < 4294967296 ⌝ }
     ensures { λ r. ⌜ r ≡ replaced (at % 2) word e ⌝ }
 {
-    if at % 2 == 0 {
-        return word / 4294967296 * 4294967296 + e;
-    }
-    e * 4294967296 + word % 4294967296
+    let high = choose(at, word / 4294967296, e);
+    high * 4294967296 + choose(at, e, word % 4294967296)
 }
 
 // The result r goes to the pair's place. (65535, the one number that does not fit, is not remembered.)
@@ -171,11 +178,9 @@ fn remember(memo: &mut [u64], at: usize, pair: u64, r: u32)
     memo[w] = replace(memo[w], at, e);
 }
 
-// The number of f's and g's combination where it is plain or remembered at the place; 65537 where it is to be made.
-fn ended(memo: &[u64], at: usize, pair: u64, op: u8, f: u32, g: u32) -> u32
-    requires { ⌜ (at / 2 < length (now memo)) × (at ≡ placeOf (length (now memo)) pair) ⌝ }
-    requires { ⌜ Packed op f g pair ⌝ }
-    ensures { λ r. ⌜ Ends op (now (memo .entry)) f g r ⌝ }
+// The number of f's and g's combination where it is plain; 65537 where it is to be looked for.
+fn ended(op: u8, f: u32, g: u32) -> u32
+    ensures { λ r. ⌜ Ends op f g r ⌝ }
 {
     if f == 0 {
         if op == 0 {
@@ -195,6 +200,14 @@ fn ended(memo: &[u64], at: usize, pair: u64, op: u8, f: u32, g: u32) -> u32
         }
         return 0;
     }
+    65537
+}
+
+// The number that is remembered for the pair at its place; 65537 where none is.
+fn recall(memo: &[u64], at: usize, pair: u64) -> u32
+    requires { ⌜ at / 2 < length (now memo) ⌝ }
+    ensures { λ r. ⌜ Recalled (now (memo .entry)) at pair r ⌝ }
+{
     let e = entry(memo, at);
     if e / 65536 == pair % 65536 {
         if e % 65536 != 0 {
@@ -286,9 +299,13 @@ fn combine(
         (combined op (now (keys .entry)) (family (nodesOf (now (t .entry))) f) (family (nodesOf (now (t .entry))) g)) ⌝ }
     ensures { λ r. ⌜ (r < 65536 → Remembered op (now (keys .entry)) (nodesOf (now (t .exit))) (now (memo .exit))) ⌝ }
 {
+    let plain = ended(op, f, g);
+    if plain != 65537 {
+        return plain;
+    }
     let pair = pack(op, f, g);
     let at = place(pair, memo.len());
-    let known = ended(memo, at, pair, op, f, g);
+    let known = recall(memo, at, pair);
     if known != 65537 {
         return known;
     }
@@ -324,7 +341,7 @@ pub fn restriction(
         (restricted holding (now (keys .entry)) p (family (nodesOf (now (t .entry))) f)) ⌝ }
 {
     let n = t[0];
-    let mut memo = [0u32; 65536];
+    let mut memo = [0u16; 65536];
     let r = restrict(t, keys, index, &mut memo, p, holding, f);
     if r == 65536 {
         table::rollback(t, n);
@@ -379,7 +396,7 @@ fn remembering(
     ensures { λ r. ⌜ Gives (now (keys .entry)) (now (t .entry)) (now (t .exit)) (now (index .exit)) r
         (combined op (now (keys .entry)) (family (nodesOf (now (t .entry))) f) (family (nodesOf (now (t .entry))) g)) ⌝ }
 {
-    if work.len() < 32768 {
+    if work.len() < 131072 {
         let mut memo = [0u64; 32768];
         return combine(t, keys, index, &mut memo, op, f, g);
     }

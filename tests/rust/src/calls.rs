@@ -105,11 +105,11 @@ impl History {
         (0..words).map(|_| if self.rng.once_in(2) { self.rng.next() } else { self.rng.below(300) }).collect()
     }
 
-    /// Many working words, with what a memory of earlier results might have held: two numbers of the table and a third.
+    /// Many working words, with what a memory of earlier results might have held: in each half a tag and a number of the table.
     fn long_work(&mut self) -> Vec<u64> {
-        let n = self.nodes() + 2;
-        let words = [65535, 65536, 70000, 131072][self.rng.below(4) as usize];
-        (0..words).map(|_| (self.rng.below(n) << 16 | self.rng.below(n)) << 16 | self.rng.below(n)).collect()
+        let n = self.nodes() + 3;
+        let words = [131071, 131072, 140001, 262144][self.rng.below(4) as usize];
+        (0..words).map(|_| (self.rng.next() & 0xffff_0000_ffff_0000) | self.rng.below(n) << 32 | self.rng.below(n)).collect()
     }
 
     fn page(&mut self, about: usize) -> Vec<u16> {

@@ -1,4 +1,5 @@
-//! The edge of 64 bits, which no listing of small sets reaches: two packages for each of 64 items give 2^64 timetables.
+//! Edges that no listing of small sets reaches: 2^64 timetables, by two packages for each of 64 items, and a table of 65534 nodes, whose last number is the one
+//! result that is not remembered.
 
 use crate::ffi;
 
@@ -33,4 +34,28 @@ pub fn sixty_four_bits() {
     // union gives the first number back, and the intersection is empty
     assert_eq!(ffi::combine(0, 64, &sets, &mut table, rest, last, &mut work).answer, a);
     assert_eq!(ffi::combine(1, 64, &sets, &mut table, rest, last, &mut work).answer, 0);
+}
+
+pub fn last_number() {
+    let sets: Vec<u64> = (0..512).map(|p| 1 << (p / 8)).collect();
+    let mut table: Vec<u32> = vec![0];
+    for label in (1..512).rev() {
+        let known = table.len() as u32 / 3 + 2;
+        let pairs = (1..known).flat_map(|hi| (0..known).map(move |lo| (lo, hi))).take(129);
+        pairs.for_each(|(lo, hi)| table.extend([label, lo, hi]));
+    }
+    table.truncate(1 + 3 * 65532);
+    // the sets of `rest`, and those of 65532 with package 0 added: the second of these alone, and both
+    let (rest, part, whole) = (65533, 65534, 65535);
+    table.extend([0, 0, 65532, 0, rest, 65532]);
+    table[0] = 65534;
+    let mut work = vec![0; 2];
+    let mut call = |op: usize, a: u32, b: u32| {
+        let r = ffi::combine(op, 64, &sets, &mut table, a, b, &mut work);
+        assert_eq!((r.refusal, r.made), (0, 0));
+        r.answer
+    };
+    assert_eq!((call(3, whole, 0), call(4, whole, 0), call(4, part, 0)), (part, rest, 0));
+    assert_eq!((call(0, part, rest), call(0, rest, whole), call(1, whole, part), call(1, rest, whole)), (whole, whole, part, rest));
+    assert_eq!((call(2, whole, part), call(2, whole, rest), call(2, part, whole)), (rest, part, 0));
 }

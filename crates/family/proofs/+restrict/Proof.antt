@@ -1,4 +1,4 @@
-use Rattle.family.proofs.RestrictLaws.{open-of, soon-gives, hi-falls, lo-falls, hi-below, own-gives, hi-none, hi-ready, lo-below, lo-none, last-small, last-none, last-stored}
+use Rattle.family.proofs.RestrictLaws.{open-of, soon-gives, hi-falls, lo-falls, hi-below, own-gives, hi-none, hi-ready, lo-below, lo-none, last-none, last-kept, last-stored}
 use mathlib.Core.Path.{_∙_, refl}
 use Prim.Native.Nat.{_*_, _-_}
 use native.Mathlib.Omega.{arith}
@@ -191,47 +191,43 @@ restrict-returns-5 t c =
     (restrict′ .ensures .0) (omega (arith, restrict′ .ensures .0 .small, if3 .left)) (restrict2 .ensures .0)
     (omega (arith, restrict2 .ensures .0 .small, c .before .before .before .before .before .before .if4 .left)) (c .before .before .before .make2 .ensures) (c .if5 .taken)
 
-restrict-add-memo : (t : ℕ) → restrict-lts.Need-add-memo (restrict-claims t) (restrict-at t) restrict.Post
-restrict-add-memo t c =
-    let here = c .before .before .before .before .before .before .before .before .before in let restrict2 = here .restrict2 in
-    let if3 = here .before .before .before .before .if3 in let restrict′ = here .before .before .before .before .before .before .before .restrict in
-    let back = here .before .before .before .before .before .before .before .before .before .before .before in let if2 = back .if2 in
-    let wide′ = back .before .before .before .before .wide in let if1 = back .before .before .before .before .before .if1 in
-    let soon′ = back .before .before .before .before .before .before .soon in
-    let far = back .before .before .before .before .before .before .before .before .before .before .before in let pre = far .pre in
-    omega (
-      arith,
-      last-small (open-of (3 * wide′ .result - 5) (pre .1 .0) (pre .1 .1 .0) (pre .1 .1 .1) (soon′ .ensures) (if1 .left) (omega (arith, wide′ .ensures)))
-          (λ e. omega (arith, if2 .left)) (restrict′ .ensures .0) (omega (arith, restrict′ .ensures .0 .small, if3 .left)) (restrict2 .ensures .0)
-          (omega (arith, restrict2 .ensures .0 .small, c .before .before .before .before .before .before .if4 .left)) (c .before .before .before .make2 .ensures),
-    )
-
 restrict-mul-memo : (t : ℕ) → restrict-lts.Need-mul-memo (restrict-claims t) (restrict-at t) restrict.Post
 restrict-mul-memo t c =
-    let here = c .before .before .before .before .before .before .before .before .before .before .before .before .before .before .before .before in
-    let back = here .before .before .before .before .before .before .before .before in let wide′ = back .wide in
-    let pre = back .before .before .before .before .before .before .before .pre in
-    omega (arith, wide′ .ensures, pre .1 .1 .1 .0, pre .1 .0 .sound .few)
+    let here = c .before .before .before .before .before .before .before .before .before .before .before .before .before .before .before .before .before .before .before .before .before .before .before .before .before in
+    let pre = here .before .before .before .before .before .before .before .pre in
+    omega (arith, here .wide .ensures, pre .1 .1 .1 .0, pre .1 .0 .sound .few)
 
 restrict-element-write-memo : (t : ℕ) → restrict-lts.Need-element-write-memo (restrict-claims t) (restrict-at t) restrict.Post
 restrict-element-write-memo t c =
-    let here = c .before .before .before .before .before .before .before .before .before .before .before .before .before .before .before .before in
-    let back = here .before .before .before .before .before .before .before .before in let wide′ = back .wide in
-    let pre = back .before .before .before .before .before .before .before .pre in
-    omega (arith, wide′ .ensures, pre .1 .1 .1 .0, pre .1 .0 .sound .few)
+    let here = c .before .before .before .before .before .before .before .before .before .before .before .before .before .before .before .before .before .before .before .before .before .before .before .before .before in
+    let pre = here .before .before .before .before .before .before .before .pre in
+    omega (arith, here .wide .ensures, pre .1 .1 .1 .0, pre .1 .0 .sound .few)
 
 restrict-returns-6 : (t : ℕ) → restrict-lts.Need-returns-6 (restrict-claims t) (restrict-at t) restrict.Post
 restrict-returns-6 t c =
-    let if4 = c .before .before .before .before .before .before .if4 in
-    let here = c .before .before .before .before .before .before .before .before .before in let restrict2 = here .restrict2 in
+    let make2 = c .before .before .before .before .make2 in let if4 = c .before .before .before .before .before .before .before .if4 in
+    let here = c .before .before .before .before .before .before .before .before .before .before in let restrict2 = here .restrict2 in
     let if3 = here .before .before .before .before .if3 in let restrict′ = here .before .before .before .before .before .before .before .restrict in
-    let back = here .before .before .before .before .before .before .before .before .before .before .before in let if2 = back .if2 in
+    let back = here .before .before .before .before .before .before .before .before .before .before .before in
     let wide′ = back .before .before .before .before .wide in let if1 = back .before .before .before .before .before .if1 in
     let soon′ = back .before .before .before .before .before .before .soon in
     let far = back .before .before .before .before .before .before .before .before .before .before .before in let pre = far .pre in
-    last-stored (open-of (3 * wide′ .result - 5) (pre .1 .0) (pre .1 .1 .0) (pre .1 .1 .1) (soon′ .ensures) (if1 .left) (omega (arith, wide′ .ensures))) (λ e. omega (arith, if2 .left))
-    (restrict′ .ensures .0) (omega (arith, restrict′ .ensures .0 .small, if3 .left)) (restrict2 .ensures .0) (omega (arith, restrict2 .ensures .0 .small, if4 .left))
-    (c .before .before .before .make2 .ensures) _ _ (wide′ .ensures) refl (restrict2 .ensures .1 (omega (arith, restrict2 .ensures .0 .small, if4 .left)))
+    let w0 : restrict2 .result < 65536 = omega (arith, restrict2 .ensures .0 .small, if4 .left) in
+    last-stored (open-of (3 * wide′ .result - 5) (pre .1 .0) (pre .1 .1 .0) (pre .1 .1 .1) (soon′ .ensures) (if1 .left) (omega (arith, wide′ .ensures))) (λ e. omega (arith, back .if2 .left))
+    (restrict′ .ensures .0) (omega (arith, restrict′ .ensures .0 .small, if3 .left)) (restrict2 .ensures .0) w0 (make2 .ensures) _ _ (wide′ .ensures) refl (restrict2 .ensures .1 w0)
+
+restrict-returns-7 : (t : ℕ) → restrict-lts.Need-returns-7 (restrict-claims t) (restrict-at t) restrict.Post
+restrict-returns-7 t c =
+    let make2 = c .before .before .before .before .make2 in let if4 = c .before .before .before .before .before .before .before .if4 in
+    let here = c .before .before .before .before .before .before .before .before .before .before in let restrict2 = here .restrict2 in
+    let if3 = here .before .before .before .before .if3 in let restrict′ = here .before .before .before .before .before .before .before .restrict in
+    let back = here .before .before .before .before .before .before .before .before .before .before .before in
+    let wide′ = back .before .before .before .before .wide in let if1 = back .before .before .before .before .before .if1 in
+    let soon′ = back .before .before .before .before .before .before .soon in
+    let far = back .before .before .before .before .before .before .before .before .before .before .before in let pre = far .pre in
+    let w0 : restrict2 .result < 65536 = omega (arith, restrict2 .ensures .0 .small, if4 .left) in
+    last-kept (open-of (3 * wide′ .result - 5) (pre .1 .0) (pre .1 .1 .0) (pre .1 .1 .1) (soon′ .ensures) (if1 .left) (omega (arith, wide′ .ensures))) (λ e. omega (arith, back .if2 .left))
+    (restrict′ .ensures .0) (omega (arith, restrict′ .ensures .0 .small, if3 .left)) (restrict2 .ensures .0) w0 (make2 .ensures) (restrict2 .ensures .1 w0)
 
 pub +restrict-spec : {M : Type 1} → statement M
 +restrict-spec = close μ-restrict λ t. restrict-lts.spec (
@@ -246,34 +242,9 @@ pub +restrict-spec : {M : Type 1} → statement M
 )
     (restrict-at t)
     restrict.Post
-    (restrict-soon-requires t)
-    (λ c. search needs)
-    (restrict-returns t)
-    (λ c κs. search needs)
-    (λ c. search needs)
-    (restrict-sub-w t)
-    (restrict-mul-label t)
-    (restrict-slice-read-label t)
-    (restrict-add-lo t)
-    (restrict-mul-lo t)
-    (restrict-slice-read-lo t)
-    (restrict-add-hi t)
-    (restrict-mul-hi t)
-    (restrict-slice-read-hi t)
-    (restrict-make-requires t)
-    (λ c. search needs)
-    (restrict-returns-2 t)
-    (restrict-restrict-requires t)
-    (restrict-same-length-3 t)
-    (restrict-returns-3 t)
-    (restrict-restrict-requires-2 t)
-    (restrict-same-length-4 t)
-    (restrict-returns-4 t)
-    (restrict-make-requires-2 t)
-    (λ c. search needs)
-    (restrict-returns-5 t)
-    (restrict-add-memo t)
-    (restrict-mul-memo t)
-    (restrict-element-write-memo t)
-    (λ c. search needs)
-    (restrict-returns-6 t)
+    (restrict-soon-requires t) (λ c. search needs) (restrict-returns t) (λ c κs. search needs) (λ c. search needs) (restrict-sub-w t)
+    (restrict-mul-label t) (restrict-slice-read-label t) (restrict-add-lo t) (restrict-mul-lo t) (restrict-slice-read-lo t) (restrict-add-hi t)
+    (restrict-mul-hi t) (restrict-slice-read-hi t) (restrict-make-requires t) (λ c. search needs) (restrict-returns-2 t)
+    (restrict-restrict-requires t) (restrict-same-length-3 t) (restrict-returns-3 t) (restrict-restrict-requires-2 t) (restrict-same-length-4 t)
+    (restrict-returns-4 t) (restrict-make-requires-2 t) (λ c. search needs) (restrict-returns-5 t) (λ c. search needs) (λ c. search needs)
+    (restrict-mul-memo t) (restrict-element-write-memo t) (λ c. search needs) (restrict-returns-6 t) (λ c. search needs) (restrict-returns-7 t)

@@ -1,21 +1,31 @@
-use mathlib.Core.Path.{_≡_, sym, ap}
-use Prim.Native.Nat.{ℕ, _%_}
+use mathlib.Core.Path.{ap₂}
+use Prim.Native.Nat.{ℕ, _+_, _*_, _/_, _%_}
 use native.Mathlib.Omega.{arith}
-use Rattle.family.specs.Memo.{replaced}
+use Rattle.family.proofs.MemoryLaws.{chosen-small}
 use borrow.Author.Needs.{needs}
 use Rattle.family.proofs.replace.Statement.{statement}
 use Rattle.family.proofs.replace.Tie as tie
 
-returns : tie.Need-returns
-returns c = let a = c .before .args in ap (λ (p : ℕ). replaced p (a .word) (a .e)) (sym (c .if1 .taken))
+mul-result : tie.Need-mul-result
+mul-result c =
+    let args = c .before .args in
+    omega (arith, c .choose .ensures, chosen-small (args .at % 2) {x = args .word / 4294967296} {y = args .e} {b = 4294967296} (omega (arith, c .before .fits .word .fits)) (c .before .pre))
 
-returns-2 : tie.Need-returns-2
-returns-2 c =
-    let a = c .before .args in
-    let z : 1 ≡ a .at % 2 = omega (arith, c .if1 .left) in
-    ap (λ (p : ℕ). replaced p (a .word) (a .e)) z
+add-result : tie.Need-add-result
+add-result c =
+    let args = c .before .before .args in let pre = c .before .before .pre in
+    omega (
+      arith,
+      c .before .choose .ensures,
+      chosen-small (args .at % 2) {x = args .word / 4294967296} {y = args .e} {b = 4294967296} (omega (arith, c .before .before .fits .word .fits)) (pre),
+      c .choose2 .ensures,
+      chosen-small (args .at % 2) {x = args .e} {y = args .word % 4294967296} {b = 4294967296} (pre) (omega arith),
+    )
+
+returns : tie.Need-returns
+returns c = ap₂ (λ (h l : ℕ). h * 4294967296 + l) (c .before .choose .ensures) (c .choose2 .ensures)
 
 pub replace-spec : {M : Type 1} → statement M
 replace-spec =
     tie.close
-    (tie.spec (λ c. search needs) (λ c. search needs) returns (λ c. search needs) (λ c. search needs) returns-2)
+    (tie.spec (λ c κs. search needs) mul-result (λ c κs. search needs) add-result returns)

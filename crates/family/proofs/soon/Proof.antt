@@ -60,20 +60,22 @@ returns-6 c =
 
 returns-7 : tie.Need-returns-7
 returns-7 c =
-    let here = c .before .before .before .before .before .before .before .before .before in let wide = here .wide in let args = here .before .before .before .before .args in
-    let pre = here .before .before .before .before .pre in
-    rw (wide .ensures) (soon-answer (pre .0) (pre .1 .0) _ _ (pre .1 .1 .1 .0) _ _ (pre .1 .1 .0 .each (args .f) (omega (arith, rw (wide .ensures) at (c .if7 .taken)))))
+    let word = c .before .word in let here = c .before .before .before .before .before .before .before .before .before .before in
+    let wide′ = here .wide in let pre = here .before .before .before .before .pre in let args = here .before .before .before .before .args in
+    rw (word .ensures, wide′ .ensures) (soon-answer (pre .0) (pre .1 .0) _ _ (pre .1 .1 .1 .0) _ _
+    (pre .1 .1 .0 .each (args .f) (omega (arith, c .if7 .taken, rw (wide′ .ensures) at (word .ensures)))))
 
 returns-8 : tie.Need-returns-8
 returns-8 c =
-    let here = c .before .before .before .before .before .before .before .before .before in let wide = here .wide in let pre = here .before .before .before .before .pre in
-    soon-other (pre .0) (pre .1 .0) _ _ (pre .1 .1 .1 .0) (omega (arith, c .before .before .before .before .before .before .before .before .before .before .if1 .left)) (3 * wide .result - 5)
-    (omega (arith, wide .ensures)) (λ e. omega (arith, c .before .before .before .before .before .before .before .if3 .left))
+    let if3 = c .before .before .before .before .before .before .before .before .if3 in
+    let here = c .before .before .before .before .before .before .before .before .before .before in let wide′ = here .wide in
+    let pre = here .before .before .before .before .pre in
+    soon-other (pre .0) (pre .1 .0) _ _ (pre .1 .1 .1 .0) (omega (arith, here .before .if1 .left)) (3 * wide′ .result - 5) (omega (arith, wide′ .ensures)) (λ e. omega (arith, if3 .left))
 
 pub soon-spec : {M : Type 1} → statement M
 soon-spec =
     tie.close
     (tie.spec returns returns-2 (λ c κs. search needs) (λ c. search needs) (λ c. search needs) (λ c. search needs) (λ c. search needs) returns-3
     (λ c. search needs) (λ c. search needs) (λ c. search needs) returns-4 (λ c κs. search needs) (λ c κs. search needs) (λ c. search needs)
-    (λ c. search needs) mul-if5-2 shared-slice-read-if5-2 returns-5 returns-6 (λ c. search needs) (λ c. search needs) (λ c. search needs) returns-7
-    returns-8)
+    (λ c. search needs) mul-if5-2 shared-slice-read-if5-2 returns-5 returns-6 (λ c. search needs) (λ c. search needs) (λ c κs. search needs)
+    (λ c. search needs) returns-7 returns-8)

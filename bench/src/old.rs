@@ -1,0 +1,24 @@
+//! The entries of an earlier archive that the benchmark calls (see build.rs).
+
+use crate::ffi::Report;
+
+type Combine = unsafe extern "C" fn(u32, *const u64, usize, *mut u32, usize, u32, u32, *mut u64, usize) -> Report;
+
+extern "C" {
+    fn old_mogedorn_cover(m: u32, p: *const u64, pn: usize, t: *mut u32, tn: usize, d: u64, limit: u32, w: *mut u64, wn: usize) -> Report;
+    fn old_mogedorn_either(m: u32, p: *const u64, pn: usize, t: *mut u32, tn: usize, a: u32, b: u32, w: *mut u64, wn: usize) -> Report;
+    fn old_mogedorn_both(m: u32, p: *const u64, pn: usize, t: *mut u32, tn: usize, a: u32, b: u32, w: *mut u64, wn: usize) -> Report;
+    fn old_mogedorn_only(m: u32, p: *const u64, pn: usize, t: *mut u32, tn: usize, a: u32, b: u32, w: *mut u64, wn: usize) -> Report;
+    fn old_mogedorn_with(m: u32, p: *const u64, pn: usize, t: *mut u32, tn: usize, a: u32, k: u32, w: *mut u64, wn: usize) -> Report;
+    fn old_mogedorn_without(m: u32, p: *const u64, pn: usize, t: *mut u32, tn: usize, a: u32, k: u32, w: *mut u64, wn: usize) -> Report;
+}
+
+pub fn cover(m: u32, s: &[u64], t: &mut [u32], d: u64, limit: u32, w: &mut [u64]) -> Report {
+    unsafe { old_mogedorn_cover(m, s.as_ptr(), s.len(), t.as_mut_ptr(), t.len(), d, limit, w.as_mut_ptr(), w.len()) }
+}
+
+/// either, both, only, with, without: 0 to 4.
+pub fn combine(op: usize, m: u32, s: &[u64], t: &mut [u32], a: u32, b: u32, w: &mut [u64]) -> Report {
+    let f: Combine = [old_mogedorn_either, old_mogedorn_both, old_mogedorn_only, old_mogedorn_with, old_mogedorn_without][op];
+    unsafe { f(m, s.as_ptr(), s.len(), t.as_mut_ptr(), t.len(), a, b, w.as_mut_ptr(), w.len()) }
+}
