@@ -41,7 +41,7 @@ extern "C" {
 #endif
 
 /* The stack in bytes that suffices for every entry. */
-#define MOGEDORN_STACK 1310720
+#define MOGEDORN_STACK 786432
 
 /* The refusals [document 01's numbers]. */
 enum {
@@ -101,18 +101,18 @@ typedef struct {
     uint64_t packages; /* N */
 } mogedorn_bids;
 
-/* Whether the table is sound: 0, or the refusal 1, 2 or 4. Stack: 527 KB. */
+/* Whether the table is sound: 0, or the refusal 1, 2 or 4. Stack: 265 KB. */
 uint32_t mogedorn_check(uint32_t m, const uint64_t *packages, size_t packages_len, const uint32_t *table, size_t table_len);
 
 /* The timetables that cover the item set d: bit i is item i. At most `limit` steps. Two working words are one place of the memo: at least 2, and the more
    the fewer steps. Lend an odd, best a prime number of places, since a set's place is the set modulo their number.
-   Refusals 1, 2, 4, 7, 8, 9, 10. Stack: 548 KB. */
+   Refusals 1, 2, 4, 7, 8, 9, 10. Stack: 283 KB. */
 mogedorn_report mogedorn_cover(uint32_t m, const uint64_t *packages, size_t packages_len, uint32_t *table, size_t table_len, uint64_t d, uint32_t limit,
                                uint64_t *work, size_t work_len);
 
-/* The timetables of a or b; of a and b; of a and not of b. At least 2 working words. Refusals 1, 2, 4, 5, 8, 10. Stack: 1166 KB.
-   Results of pairs of nodes are remembered in the working words where these are 65,536 or more (the greatest power of two of them), otherwise in 65,536 words
-   of the call's own. With too few for two large answers results are computed again and again. Lend a * b / p words or more, where a and b are here the nodes of
+/* The timetables of a or b; of a and b; of a and not of b. At least 2 working words. Refusals 1, 2, 4, 5, 8, 10. Stack: 642 KB.
+   Results of pairs of nodes are remembered in the working words where these are 131,072 or more, two results a word, otherwise in 65,536 places of the
+   call's own. With too few for two large answers results are computed again and again. Lend a * b / p words or more, where a and b are here the nodes of
    the two answers and p the packages on them. Measured by `make words` on answers made to meet in as many pairs as they can, seconds of `both`, - is over 5:
      nodes of the two   2 words   262144   1048576   4194304
                  4638      0.04     0.01      0.01      0.03
@@ -127,27 +127,27 @@ mogedorn_report mogedorn_both(uint32_t m, const uint64_t *packages, size_t packa
 mogedorn_report mogedorn_only(uint32_t m, const uint64_t *packages, size_t packages_len, uint32_t *table, size_t table_len, uint32_t a, uint32_t b,
                               uint64_t *work, size_t work_len);
 
-/* The timetables of a that hold the package p; that do not. At least 2 working words. Refusals 1, 2, 4, 5, 6, 8, 10. Stack: 871 KB. */
+/* The timetables of a that hold the package p; that do not. At least 2 working words. Refusals 1, 2, 4, 5, 6, 8, 10. Stack: 470 KB. */
 mogedorn_report mogedorn_with(uint32_t m, const uint64_t *packages, size_t packages_len, uint32_t *table, size_t table_len, uint32_t a, uint32_t p,
                               uint64_t *work, size_t work_len);
 mogedorn_report mogedorn_without(uint32_t m, const uint64_t *packages, size_t packages_len, uint32_t *table, size_t table_len, uint32_t a, uint32_t p,
                                  uint64_t *work, size_t work_len);
 
-/* How many timetables the answer holds. At least answer + 1 working words. Refusals 1, 2, 4, 5, 8, 11. Stack: 527 KB. */
+/* How many timetables the answer holds. At least answer + 1 working words. Refusals 1, 2, 4, 5, 8, 11. Stack: 265 KB. */
 mogedorn_number mogedorn_count(uint32_t m, const uint64_t *packages, size_t packages_len, const uint32_t *table, size_t table_len, uint32_t answer,
                                uint64_t *work, size_t work_len);
 
 /* The k-th timetable in listing order, from 0, written to the page. At least answer + 1 working words. Refusals 1, 2, 4, 5, 8, 11, 12, 15.
-   Stack: 527 KB. */
+   Stack: 265 KB. */
 mogedorn_timetable mogedorn_pick(uint32_t m, const uint64_t *packages, size_t packages_len, const uint32_t *table, size_t table_len, uint32_t answer,
                                  uint64_t k, uint64_t *work, size_t work_len, uint16_t *page, size_t page_len);
 
-/* The k of a timetable, given as its packages in precedence. At least answer + 1 working words. Refusals 1, 2, 4, 5, 6, 8, 11, 14. Stack: 527 KB. */
+/* The k of a timetable, given as its packages in precedence. At least answer + 1 working words. Refusals 1, 2, 4, 5, 6, 8, 11, 14. Stack: 265 KB. */
 mogedorn_number mogedorn_place(uint32_t m, const uint64_t *packages, size_t packages_len, const uint32_t *table, size_t table_len, uint32_t answer,
                                const uint16_t *list, size_t list_len, uint64_t *work, size_t work_len);
 
 /* The timetable of least cost, the first listed of equals, written to the page. `costs` has one cost for each package. At least 2 (answer + 1) working words.
-   Refusals 1, 2, 3, 4, 5, 8, 13, 15. Stack: 527 KB. */
+   Refusals 1, 2, 3, 4, 5, 8, 13, 15. Stack: 265 KB. */
 mogedorn_timetable mogedorn_cheapest(uint32_t m, const uint64_t *packages, size_t packages_len, const uint16_t *costs, size_t costs_len,
                                      const uint32_t *table, size_t table_len, uint32_t answer, uint64_t *work, size_t work_len, uint16_t *page,
                                      size_t page_len);

@@ -61,7 +61,7 @@ fn soon(t: &[u32], keys: &[u32], memo: &[u16; 65536], p: u32, holding: bool, f: 
     65537
 }
 
-// The number of f's sets with p, or of those without p; 65536 where there is no room.
+// The number of f's sets with p, or of those without p; 65536 where there is no room. (65535, the one number that does not fit into memo, is not remembered.)
 fn restrict(
     t: &mut [u32],
     keys: &[u32],
@@ -137,7 +137,7 @@ fn place(pair: u64, words: usize) -> usize
     (pair * (2 * (words as u64)) / 4294967296) as usize
 }
 
-// The first at an even place, the second at an odd one. (Small enough to be compiled without a jump, which could not be foreseen.)
+// The first at an even place, the second at an odd one. (Apart, so that it is compiled without a jump: which half is next cannot be predicted.)
 fn choose(at: usize, even: u64, odd: u64) -> u64
     ensures { λ r. ⌜ r ≡ chosen (at % 2) even odd ⌝ }
 {
@@ -350,7 +350,7 @@ pub fn restriction(
     r
 }
 
-// How many of so many lent words are the memory: as many places as there are pairs are enough.
+// How many of so many lent words are the memory: no more than have a place for each pair of numbers.
 fn used(words: usize) -> usize
     requires { ⌜ 32768 ≤ words ⌝ }
     ensures { λ r. ⌜ (32768 ≤ r) × ((r ≤ words) × (r ≤ 2147483648)) ⌝ }
@@ -381,7 +381,7 @@ fn afresh(
     combine(t, keys, index, memo, op, f, g)
 }
 
-// `combine` with the lent words as its memory where they are many, and a local array where they are few.
+// `combine` with the lent words as its memory where they are many, and a local array where they are few: 65536 places.
 fn remembering(
     t: &mut [u32],
     keys: &[u32],
