@@ -133,6 +133,10 @@ module _ {K t : List ℕ} (s : Sound K t) (k : Keys K) (p f : ℕ) (w : f < coun
     pub soon-late-without : {b : Bool} → key K p < key K (getD t a 0) → b ≡ false → Soon b K p (nodesOf t) f f
     soon-late-without {b} h q = subst⁻¹ (λ (b : Bool). Soon b K p (nodesOf t) f f) q (soon-answer false f (after-without k (s .nodes) p f ww (late h)))
 
+-- what is wanted, said otherwise
+pub wanted-same : {b b′ : Bool} {p p′ : ℕ} (K : List ℕ) (F : Family) → b ≡ b′ → p ≡ p′ → restricted b K p F ≡ restricted b′ K p′ F
+wanted-same {b} {b′} {p} {p′} K F e q = ap (λ (c : Bool). restricted c K p F) e ∙ ap (λ (n : ℕ). restricted b′ K n F) q
+
 -- ---- what is remembered
 
 pub kept-fresh : (b : Bool) (K : List ℕ) (p : ℕ) (ns : List Node) (memo : List ℕ) → length memo ≡ 65536 → ((i : ℕ) → getD memo i 0 ≡ 0) → Kept b K p ns memo

@@ -4,6 +4,7 @@ use mathlib.Core.Bool.{Bool, true, false, _&&_, _||_}
 use mathlib.Core.List.{List}
 use mathlib.Core.Logic.{_⊎_}
 use Prim.Native.Nat.{ℕ, zero, suc, _+_, _-_, _*_, _/_, _%_, _<_, _≤_}
+use lib.Dec.{eqb}
 use lib.ListN.{length, getD}
 use Rattle.zdd.specs.Table.{Node, blank, Family, family, Nodes, Keys}
 use Rattle.zdd.specs.Operations.{combine, minus, including, excluding}
@@ -11,6 +12,10 @@ use Rattle.zdd.specs.Work.{Split}
 use Rattle.family.specs.Gives.{Answers}
 
 -- ---- with and without
+
+-- whether the lowest bit is set
+abbrev pub odd : ℕ → Bool
+odd q = eqb (q % 2) 1
 
 -- the sets of F with p, or those without it
 abbrev pub restricted : Bool → List ℕ → ℕ → Family → Family

@@ -5,7 +5,7 @@ ghost use lib.ListN.{length, getD, set};
 ghost use Rattle.zdd.specs.Table.{node, blank, count, nodesOf, family, Sound, Keys};
 ghost use Rattle.table.specs.State.{Indexed};
 ghost use Rattle.family.specs.Gives.{Operable, Gives, Produced, Noded, Answers};
-ghost use Rattle.family.specs.Memo.{restricted, Kept, Soon, combined, Ends, Two, Top, Cut};
+ghost use Rattle.family.specs.Memo.{odd, restricted, Kept, Soon, combined, Ends, Two, Top, Cut};
 ghost use Rattle.family.specs.Memo.{mixed, Packed, placeOf, chosen, entryAt, replaced, Recalled, Remembered, Noted};
 
 // The number of the node with these three words, found or made: lo where hi is 0; 65536 where there is no room.
@@ -61,23 +61,26 @@ fn soon(t: &[u32], keys: &[u32], memo: &[u16; 65536], p: u32, holding: bool, f: 
     65537
 }
 
-// The number of f's sets with p, or of those without p; 65536 where there is no room. (65535, the one number that does not fit into memo, is not remembered.)
+// The number of f's sets with p, or of those without p; 65536 where there is no room. p and which of the two are one number q, so that all arguments are in
+// registers. (65535, the one number that does not fit into memo, is not remembered.)
 fn restrict(
     t: &mut [u32],
     keys: &[u32],
     index: &mut [u16; 131072],
     memo: &mut [u16; 65536],
-    p: u32,
-    holding: bool,
+    q: u64,
     f: u32,
 ) -> u32
     requires { ⌜ Operable (now keys) (now t) (now index) ⌝ }
-    requires { ⌜ Kept holding (now keys) p (nodesOf (now t)) (now memo) ⌝ }
-    requires { ⌜ (f < count (now t) + 2) × (p < length (now keys)) ⌝ }
+    requires { ⌜ Kept (odd q) (now keys) (q / 2) (nodesOf (now t)) (now memo) ⌝ }
+    requires { ⌜ (f < count (now t) + 2) × (q / 2 < length (now keys)) ⌝ }
+    requires { ⌜ q / 2 < 4294967296 ⌝ }
     ensures { λ r. ⌜ Gives (now (keys .entry)) (now (t .entry)) (now (t .exit)) (now (index .exit)) r
-        (restricted holding (now (keys .entry)) p (family (nodesOf (now (t .entry))) f)) ⌝ }
-    ensures { λ r. ⌜ (r < 65536 → Kept holding (now (keys .entry)) p (nodesOf (now (t .exit))) (now (memo .exit))) ⌝ }
+        (restricted (odd q) (now (keys .entry)) (q / 2) (family (nodesOf (now (t .entry))) f)) ⌝ }
+    ensures { λ r. ⌜ (r < 65536 → Kept (odd q) (now (keys .entry)) (q / 2) (nodesOf (now (t .exit))) (now (memo .exit))) ⌝ }
 {
+    let p = (q / 2) as u32;
+    let holding = q % 2 == 1;
     let known = soon(t, keys, memo, p, holding, f);
     if known != 65537 {
         return known;
@@ -90,11 +93,11 @@ fn restrict(
     if label == p {
         return make(t, index, p, 0, hi);
     }
-    let h = restrict(t, keys, index, memo, p, holding, hi);
+    let h = restrict(t, keys, index, memo, q, hi);
     if h == 65536 {
         return 65536;
     }
-    let l = restrict(t, keys, index, memo, p, holding, lo);
+    let l = restrict(t, keys, index, memo, q, lo);
     if l == 65536 {
         return 65536;
     }
@@ -326,6 +329,17 @@ fn combine(
     r
 }
 
+// p, and whether the sets with it are wanted, in one number.
+fn wanted(p: u32, holding: bool) -> u64
+    ensures { λ r. ⌜ (odd r ≡ holding) × (r / 2 ≡ p) ⌝ }
+{
+    let twice = 2 * (p as u64);
+    if holding {
+        return twice + 1;
+    }
+    twice
+}
+
 // The number of f's sets with p, or of those without p. Where there is no room it is 65536, and the table is as before.
 pub fn restriction(
     t: &mut [u32],
@@ -342,7 +356,8 @@ pub fn restriction(
 {
     let n = t[0];
     let mut memo = [0u16; 65536];
-    let r = restrict(t, keys, index, &mut memo, p, holding, f);
+    let q = wanted(p, holding);
+    let r = restrict(t, keys, index, &mut memo, q, f);
     if r == 65536 {
         table::rollback(t, n);
         return 65536;
