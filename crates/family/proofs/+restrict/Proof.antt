@@ -181,15 +181,15 @@ restrict-returns-5 t c =
 
 restrict-mul-memo : (t : ℕ) → restrict-lts.Need-mul-memo (restrict-claims t) (restrict-at t) restrict.Post
 restrict-mul-memo t c =
-    let here = c .before .before .before .before .before .before .before .before .before .before .before .before .before .before .before .before .before .before .before .before .before .before .before .before .before in
-    let pre = here .before .before .before .before .before .before .before .pre in
-    omega (arith, here .wide .ensures, pre .1 .1 .1 .0 .0, pre .1 .0 .sound .few)
+    let here = c .before .before .before .before .before .before .before .before .before .before .before .before .before .before .before .before in let back = here .before .before .before .before .before .before .before .before .before in
+    let pre = back .before .before .before .before .before .before .before .pre in
+    omega (arith, back .wide .ensures, pre .1 .1 .1 .0 .0, pre .1 .0 .sound .few)
 
 restrict-element-write-memo : (t : ℕ) → restrict-lts.Need-element-write-memo (restrict-claims t) (restrict-at t) restrict.Post
 restrict-element-write-memo t c =
-    let here = c .before .before .before .before .before .before .before .before .before .before .before .before .before .before .before .before .before .before .before .before .before .before .before .before .before in
-    let pre = here .before .before .before .before .before .before .before .pre in
-    omega (arith, here .wide .ensures, pre .1 .1 .1 .0 .0, pre .1 .0 .sound .few)
+    let here = c .before .before .before .before .before .before .before .before .before .before .before .before .before .before .before .before in let back = here .before .before .before .before .before .before .before .before .before in
+    let pre = back .before .before .before .before .before .before .before .pre in
+    omega (arith, back .wide .ensures, pre .1 .1 .1 .0 .0, pre .1 .0 .sound .few)
 
 restrict-returns-6 : (t : ℕ) → restrict-lts.Need-returns-6 (restrict-claims t) (restrict-at t) restrict.Post
 restrict-returns-6 t c =
