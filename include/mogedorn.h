@@ -28,7 +28,7 @@
  * it go deepest, the lowest changed byte counted; here rounded up. Lend a thread that much and what its own code takes. The recursion is bounded: by 64 items in
  * cover, by 512 packages in the others. Time: cover is bounded by its step limit; count, pick, place, cheapest, with and without go through the table; either,
  * both and only may take very long where too few words are lent for large answers, see there. A table made on purpose to fill one bucket of the node index is
- * checked in quadratic time: 65,534 nodes in 4.6 s.
+ * checked in quadratic time: 65,534 nodes in 4.5 s.
  */
 #ifndef MOGEDORN_H
 #define MOGEDORN_H
@@ -112,14 +112,14 @@ mogedorn_report mogedorn_cover(uint32_t m, const uint64_t *packages, size_t pack
 
 /* The timetables of a or b; of a and b; of a and not of b. At least 2 working words. Refusals 1, 2, 4, 5, 8, 10. Stack: 642 KB.
    Results of pairs of nodes are remembered in the working words where these are 131,072 or more, two results a word, otherwise in 65,536 places of the
-   call's own. With too few for two large answers results are computed again and again. Lend a * b / p words or more, where a and b are here the nodes of
-   the two answers and p the packages on them. Measured by `make words` on answers made to meet in as many pairs as they can, seconds of `both`, - is over 5:
-     nodes of the two   2 words   262144   1048576   4194304
-                 4638      0.04     0.01      0.01      0.03
-                 6686         -     0.02      0.02      0.04
-                14878         -     0.10      0.05      0.17
-                29214         -     0.65      0.12      0.14
-                57886         -        -      0.59      0.92 */
+   call's own. With too few for two large answers results are computed again and again. Lend a * b / 2p words or more, and 131,072 at least, where a and b
+   are here the nodes of the two answers and p the packages on them. Measured by `make words` on answers made to meet in as many pairs as they can, seconds of `both`, - is over 5:
+     nodes of the two   2 words   131072    262144   1048576   4194304
+                 4638      0.04     0.01      0.01      0.02      0.03
+                 6686         -     0.01      0.02      0.03      0.05
+                14878         -     0.32      0.04      0.06      0.12
+                29214         -     0.60      0.13      0.10      0.22
+                57886         -     0.95      0.15      0.20      0.42 */
 mogedorn_report mogedorn_either(uint32_t m, const uint64_t *packages, size_t packages_len, uint32_t *table, size_t table_len, uint32_t a, uint32_t b,
                                 uint64_t *work, size_t work_len);
 mogedorn_report mogedorn_both(uint32_t m, const uint64_t *packages, size_t packages_len, uint32_t *table, size_t table_len, uint32_t a, uint32_t b,
