@@ -498,31 +498,13 @@ trial-returns-2 t c =
     (omega (arith, c .before .loop-test .left)) (q .1 .1 .1 .1) (loop .inv .0)
 
 pub +search+trial-spec : {M : Type 1} → statement M
-+search+trial-spec = close μ-search μ-trial (λ t. search-lts.spec (
-  place-reads.Asked,
-  place-reads.Learnt,
-  trial-below t,
-  trial.Post,
-)
++search+trial-spec = close μ-search μ-trial (λ t. search-lts.spec (search-claims t)
     (search-at t)
     search′.Post
     (search-returns t) (λ c. search needs) (search-returns-2 t) (search-place-requires t) (search-mul-if3 t) (search-mul-if3-2 t)
     (search-slice-read-if3 t) (search-mul-t19 t) (search-add-t20 t) (search-mul-t21 t) (search-slice-read-t23 t) (search-cast-t24 t)
     (search-returns-3 t) (search-trial-requires t) (search-same-length t) (search-same-length-2 t) (search-returns-4 t))
-    λ t. trial-lts.spec (
-      lowest-reads.Asked,
-      lowest-reads.Learnt,
-      wide-reads.Asked,
-      wide-reads.Learnt,
-      inside-reads.Asked,
-      inside-reads.Learnt,
-      without-reads.Asked,
-      without-reads.Learnt,
-      search-below t,
-      search′.Post,
-      unique-reads.Asked,
-      unique-reads.Learnt,
-    )
+    λ t. trial-lts.spec (trial-claims t)
     (trial-at t)
     trial.Post
     trial-Inv-loop

@@ -176,24 +176,7 @@ combine-returns-6 t c =
     (combine2 .ensures .1 (omega (arith, combine2 .ensures .0 .small, if4 .left))) (c .before .before .remember .ensures)
 
 pub +combine-spec : {M : Type 1} → statement M
-+combine-spec = close μ-combine λ t. combine-lts.spec (
-  ended-reads.Asked,
-  ended-reads.Learnt,
-  pack-reads.Asked,
-  pack-reads.Learnt,
-  place-reads.Asked,
-  place-reads.Learnt,
-  recall-reads.Asked,
-  recall-reads.Learnt,
-  cut-reads.Asked,
-  cut-reads.Learnt,
-  combine-below t,
-  combine.Post,
-  make-reads.Asked,
-  make-reads.Learnt,
-  remember-reads.Asked,
-  remember-reads.Learnt,
-)
++combine-spec = close μ-combine λ t. combine-lts.spec (combine-claims t)
     (combine-at t)
     combine.Post
     (λ c κs. search needs) (combine-returns t) (combine-pack-requires t) (combine-place-requires t) (combine-recall-requires t) (λ c. search needs)

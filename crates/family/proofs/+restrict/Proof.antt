@@ -220,16 +220,7 @@ restrict-returns-7 t c =
     (restrict2 .ensures .1 w0)
 
 pub +restrict-spec : {M : Type 1} → statement M
-+restrict-spec = close μ-restrict λ t. restrict-lts.spec (
-  soon-reads.Asked,
-  soon-reads.Learnt,
-  wide-reads.Asked,
-  wide-reads.Learnt,
-  make-reads.Asked,
-  make-reads.Learnt,
-  restrict-below t,
-  restrict.Post,
-)
++restrict-spec = close μ-restrict λ t. restrict-lts.spec (restrict-claims t)
     (restrict-at t)
     restrict.Post
     (restrict-cast-p t) (restrict-soon-requires t) (λ c. search needs) (restrict-returns t) (λ c κs. search needs) (λ c. search needs)
