@@ -26,6 +26,7 @@ use Rattle.statement.specs.Calls.{familyOf, stepsOf, pairTests, partTests, call
 use Rattle.statement.proofs.Admission.{table-passes}
 use Rattle.statement.specs.Postconditions.{Declined, Makes, AnswerPost}
 use Rattle.statement.proofs.Kept.{refused-makes}
+use Rattle.statement.proofs.Made.{below-missing}
 use Rattle.statement.proofs.FirstOf.{pass, hit, none}
 use Rattle.statement.proofs.TestLaws.{answer-known, answer-unknown}
 use Rattle.engine.specs.Reports.{Reported, pairCall, partCall}
@@ -98,7 +99,7 @@ module _ {Q : Problem} {m : ℕ} {t keys index : List ℕ} (f : Fit Q m) (g : Us
 -- no test holds, and the number of the answer was got
 pub answers : {K t t′ index′ : List ℕ} {n k s : ℕ} {F : Family} {r : Report} → n ≡ 0 → Obtained K t t′ index′ k F
     → outcomeReply (r .outcome) ≡ gives k → r .steps ≡ s → r .made ≡ missing (nodesOf t) F → Makes K n F s t r t′
-answers {K} {t′ = t′} {k = k} z d out steps made = record {
+answers {K} {t} {t′} {k = k} z d out steps made = record {
   declined = λ l. absurd (omega (arith, z));
   answered = λ _. record {
     number = k;
@@ -110,7 +111,7 @@ answers {K} {t′ = t′} {k = k} z d out steps made = record {
     sound = sound-test K t′ (d .grown .sound);
     old = d .grown .old;
     grown = omega (arith, made, d .made);
-    made = made;
+    made = made ∙ sym (below-missing K t t′ (sound-test K t′ (d .grown .sound)) (d .grown .old) k (d .known) ∙ ap (missing (nodesOf t)) (d .holds));
   };
 }
 

@@ -98,7 +98,7 @@ module _ (s t : ℕ) (Q : Problem) (C : List ℕ) {b : List ℕ} {w d : ℕ} {r 
   cover-gave a small o =
       let q = cover-answered (callRefusal Q (s + t) blank (Cover (allItems (s + t)) 1000000) 3604) a M0 o in
       let g = askable Q (s + t) 1000000 3604 a (length-replicate {A = ℕ} 5401 0) refl small (q .0) (q .1) o in
-      (λ n e. rw e (g .0), rw (g .1, q .1 .made, q .1 .steps) (unsaid _ (q .0)))
+      (λ n e. rw e (g .0), rw (g .1, made-missing (q .1), q .1 .steps) (unsaid _ (q .0)))
 
 -- ---- the file
 

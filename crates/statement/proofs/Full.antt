@@ -1,32 +1,26 @@
 -- THEOREM: 'full' is said only where the answer does not fit: no sound table of the same length that keeps the old nodes holds it. Assumes nothing.
-use mathlib.Core.Path.{_≡_, sym, ap, _∙_, subst, subst⁻¹}
+use mathlib.Core.Path.{_≡_, ap, subst}
 use mathlib.Core.Bool.{true}
-use mathlib.Core.List.{List, _++_}
-use Prim.Native.Nat.{ℕ, suc, _+_, _-_, _≤_, _<_}
+use mathlib.Core.List.{List}
+use Prim.Native.Nat.{ℕ, _+_, _-_, _≤_, _<_}
 use native.Mathlib.Omega.{arith}
-use lib.ListN.{length, take, drop, take-append-drop, length-append}
+use lib.ListN.{length, take, length-take}
 use borrow.Author.Tests.{ltb-true}
-use Rattle.zdd.specs.Table.{Node, Family, count, capacity, nodesOf, family, soundb, Nodes}
+use Rattle.zdd.specs.Table.{Family, count, capacity, nodesOf, soundb}
 use Rattle.zdd.proofs.Words.{length-nodes}
 use Rattle.zdd.proofs.Tested.{sound-of, capacity-fits}
 use Rattle.zdd.specs.Branches.{missing}
-use Rattle.zdd.proofs.Counting.{least-growth}
+use Rattle.zdd.proofs.Below.{new-short}
 use Rattle.zdd.proofs.Room.{same-capacity}
 use Rattle.query.specs.Questions.{familyAt}
 use Rattle.statement.specs.Refusals.{full}
+use Rattle.statement.proofs.Made.{below-missing}
 
 -- a sound table grows by at least the missing nodes
 pub grows-by : (K t t′ : List ℕ) (a : ℕ) → soundb K t′ ≡ true → take (count t) (nodesOf t′) ≡ nodesOf t → a < count t′ + 2
     → count t + missing (nodesOf t) (familyAt t′ a) ≤ count t′
 grows-by K t t′ a s old h =
-    let ms : List Node = drop (count t) (nodesOf t′) in
-    let e : nodesOf t′ ≡ nodesOf t ++ ms = sym (take-append-drop (count t) (nodesOf t′)) ∙ ap (λ (l : List Node). l ++ ms) old in
-    let n : Nodes K (nodesOf t ++ ms) = subst (λ (l : List Node). Nodes K l) e (sound-of K t′ s .nodes) in
-    let k : a < suc (suc (length (nodesOf t ++ ms))) = subst (λ (l : List Node). a < suc (suc (length l))) e (omega (arith, length-nodes t′)) in
-    let g : missing (nodesOf t) (familyAt t′ a) ≤ length ms =
-    subst⁻¹ (λ (l : List Node). missing (nodesOf t) (family l a) ≤ length ms) e (least-growth (nodesOf t) ms n a k) in
-    let c : length (nodesOf t ++ ms) ≡ count t′ = ap length (sym e) ∙ length-nodes t′ in
-    omega (arith, g, c, length-append (nodesOf t) ms, length-nodes t)
+    omega (arith, below-missing K t t′ s old a h, new-short (count t) (nodesOf t′) a, length-nodes t′, length-nodes t, ap length old, length-take (count t) (nodesOf t′))
 
 -- THEOREM
 pub full-means : (K t : List ℕ) (F : Family) → full t F ≡ true

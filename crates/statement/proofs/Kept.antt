@@ -19,10 +19,13 @@ refused-makes {K} {t} {t′} {n} {s} {F} {r} k e f d = record {
 }
 
 module _ {K : List ℕ} {F : Family} {s : ℕ} {t : List ℕ} {r : Report} {t′ : List ℕ} (A : Answered K F s t r t′) where
+  -- the old nodes, and then the new ones
+  pub split : nodesOf t′ ≡ nodesOf t ++ drop (count t) (nodesOf t′)
+  split = sym (take-append-drop (count t) (nodesOf t′)) ∙ ap (λ (l : List Node). l ++ drop (count t) (nodesOf t′)) (A .old)
+
   pub keeps : (k : ℕ) → k < count t + 2 → familyAt t′ k ≡ familyAt t k
   keeps k h =
-      ap (λ (l : List Node). family l k) (sym (take-append-drop (count t) (nodesOf t′)) ∙ ap (λ (l : List Node). l ++ drop (count t) (nodesOf t′)) (A .old))
-      ∙ family-append (nodesOf t) (drop (count t) (nodesOf t′)) k (omega (arith, length-nodes t))
+      ap (λ (l : List Node). family l k) split ∙ family-append (nodesOf t) (drop (count t) (nodesOf t′)) k (omega (arith, length-nodes t))
 
   pub grows : count t ≤ count t′
   grows = omega (arith, A .grown)

@@ -3,6 +3,7 @@ pub mod FirstOf
 pub mod Admission
 pub mod TestLaws
 pub mod Kept
+pub mod Made
 pub mod Determined
 pub mod Undo
 pub mod Counts

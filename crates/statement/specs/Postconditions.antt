@@ -7,7 +7,7 @@ use mathlib.Core.List.{List, _++_}
 use Prim.Native.Nat.{ℕ, zero, suc, _+_, _<_}
 use lib.ListN.{length, take, drop}
 use Rattle.zdd.specs.Table.{Family, count, nodesOf, soundb}
-use Rattle.zdd.specs.Branches.{missing}
+use Rattle.zdd.specs.Below.{newBelow}
 use Rattle.exact_cover.specs.Problem.{Problem}
 use Rattle.exact_cover.specs.Cover.{keysOf}
 use Rattle.statement.specs.declared.Call.{Call}
@@ -44,9 +44,10 @@ pub record Answered (K : List ℕ) (F : Family) (s : ℕ) (t : List ℕ) (r : Re
   pub long : length t′ ≡ length t
   pub sound : soundb K t′ ≡ true
   pub old : take (count t) (nodesOf t′) ≡ nodesOf t
-  -- the nodes made are the growth of word 0, and exactly the branch nodes of the answer that the table did not hold
+  -- the nodes made are the growth of word 0, and exactly the branch nodes of the answer that the table did not hold: the numbers below the answer,
+  -- its own included, that the table did not have (`proofs/Made`: as many as were missing for the family, by which 'full' goes)
   pub grown : count t′ ≡ count t + r .made
-  pub made : r .made ≡ missing (nodesOf t) F
+  pub made : r .made ≡ length (newBelow (count t) (nodesOf t′) number)
 
 -- the contract of a call whose refusal is n (0: none), and that makes the family F in s steps
 pub record Makes (K : List ℕ) (n : ℕ) (F : Family) (s : ℕ) (t : List ℕ) (r : Report) (t′ : List ℕ) : Type 0 where

@@ -5,7 +5,7 @@ use Prim.Native.Nat.{ℕ, zero, suc, _<_}
 use native.Mathlib.Omega.{arith}
 use lib.ListN.{length, getD}
 use Rattle.base.proofs.Bools.{never}
-use Rattle.zdd.specs.Table.{Node, node, blank, Family, fork, family, key, Fine, Nodes, elem}
+use Rattle.zdd.specs.Table.{Node, node, blank, Family, fork, family, key, Nodes, elem}
 use Rattle.zdd.proofs.Grow.{family-ind, downward, family-node, family-zero, family-one}
 use Rattle.zdd.proofs.Member.{Avoids, avoids-at, from-avoids, family-from, elem-head}
 
@@ -45,6 +45,21 @@ family-some {K} {ns} n k h =
     (λ i w r l z e. fork-some (getD ns i blank .label) (family ns (getD ns i blank .hi)) (family ns (getD ns i blank .lo)) (r (n .each i w .hi-some)) e)
     k h
 
+-- the parts of a node: hi's family has a set, and no set of lo's begins with the label
+module _ {K : List ℕ} {ns : List Node} (n : Nodes K ns) (i : ℕ) (w : i < length ns) where
+  pub hi-family-some : family ns (getD ns i blank .hi) ≡ [] → ⊥
+  hi-family-some = let f = n .each i w in family-some n (getD ns i blank .hi) (omega (arith, f .hi-below)) (f .hi-some)
+
+  pub lo-family-avoids : Avoids (getD ns i blank .label) (family ns (getD ns i blank .lo))
+  lo-family-avoids =
+      let x : Node = getD ns i blank in
+      let f = n .each i w in
+      from-avoids K (suc (key K (x .label))) (x .label) (family ns (x .lo))
+      (family-from n (x .lo) (omega (arith, f .lo-below)) (suc (key K (x .label))) (f .lo-after)) (omega arith)
+
+  pub family-parts : family ns (suc (suc i)) ≡ fork (getD ns i blank .label) (family ns (getD ns i blank .hi)) (family ns (getD ns i blank .lo))
+  family-parts = family-node ns i w (n .each i w .lo-below) (n .each i w .hi-below)
+
 module _ {K : List ℕ} {ns : List Node} (n : Nodes K ns) where
   -- what two nodes with one family have in common, their children's families told apart
   parts : (i j : ℕ) → i < length ns → j < length ns
@@ -56,22 +71,11 @@ module _ {K : List ℕ} {ns : List Node} (n : Nodes K ns) where
   parts i j a b e =
       let x : Node = getD ns i blank in
       let y : Node = getD ns j blank in
-      let fx : Fine K ns i x = n .each i a in
-      let fy : Fine K ns j y = n .each j b in
       let same : x .label ≡ y .label =
-      labels (x .label) (y .label) (family ns (x .hi)) (family ns (x .lo)) (family ns (y .hi)) (family ns (y .lo))
-      (family-some n (x .hi) (omega (arith, fx .hi-below)) (fx .hi-some))
-      (family-some n (y .hi) (omega (arith, fy .hi-below)) (fy .hi-some))
-      e in
-      let ax : Avoids (x .label) (family ns (x .lo)) =
-      from-avoids K (suc (key K (x .label))) (x .label) (family ns (x .lo))
-      (family-from n (x .lo) (omega (arith, fx .lo-below)) (suc (key K (x .label))) (fx .lo-after)) (omega arith) in
-      let ay : Avoids (y .label) (family ns (y .lo)) =
-      from-avoids K (suc (key K (y .label))) (y .label) (family ns (y .lo))
-      (family-from n (y .lo) (omega (arith, fy .lo-below)) (suc (key K (y .label))) (fy .lo-after)) (omega arith) in
+      labels (x .label) (y .label) (family ns (x .hi)) (family ns (x .lo)) (family ns (y .hi)) (family ns (y .lo)) (hi-family-some n i a) (hi-family-some n j b) e in
       let r : (family ns (x .hi) ≡ family ns (y .hi)) × (family ns (x .lo) ≡ family ns (y .lo)) =
       cut (x .label) (family ns (x .hi)) (family ns (x .lo)) (family ns (y .hi)) (family ns (y .lo))
-      ax (subst (λ (p : ℕ). Avoids p (family ns (y .lo))) (sym same) ay)
+      (lo-family-avoids n i a) (subst (λ (p : ℕ). Avoids p (family ns (y .lo))) (sym same) (lo-family-avoids n j b))
       (e ∙ ap (λ (p : ℕ). fork p (family ns (y .hi)) (family ns (y .lo))) (sym same)) in
       (same, r .0, r .1)
 
@@ -85,19 +89,12 @@ module _ {K : List ℕ} {ns : List Node} (n : Nodes K ns) where
       zeros zero b e = refl
       zeros (suc j) b e = absurd (family-some n (suc j) b (omega arith) (sym e))
 
-      node-eq : (j : ℕ) → j < length ns
-          → family ns (suc (suc j)) ≡ fork (getD ns j blank .label) (family ns (getD ns j blank .hi)) (family ns (getD ns j blank .lo))
-      node-eq j w = family-node ns j w (n .each j w .lo-below) (n .each j w .hi-below)
-
-      some-hi : (j : ℕ) → j < length ns → family ns (getD ns j blank .hi) ≡ [] → ⊥
-      some-hi j w = family-some n (getD ns j blank .hi) (omega (arith, n .each j w .hi-below)) (n .each j w .hi-some)
-
       ones : (j : ℕ) → j < suc (suc (length ns)) → [] ∷ [] ≡ family ns j → 1 ≡ j
       ones zero b e = absurd (cons≢nil (e ∙ family-zero ns))
       ones (suc zero) b e = refl
       ones (suc (suc j)) b e =
           absurd (fork-not-one (getD ns j blank .label) (family ns (getD ns j blank .hi)) (family ns (getD ns j blank .lo))
-          (some-hi j (omega arith)) (sym (e ∙ node-eq j (omega arith))))
+          (hi-family-some n j (omega arith)) (sym (e ∙ family-parts n j (omega arith))))
 
       steps : (i : ℕ) → i < length ns
           → ((j : ℕ) → j < suc (suc (length ns)) → family ns (getD ns i blank .hi) ≡ family ns j → getD ns i blank .hi ≡ j)
@@ -106,12 +103,12 @@ module _ {K : List ℕ} {ns : List Node} (n : Nodes K ns) where
           → fork (getD ns i blank .label) (family ns (getD ns i blank .hi)) (family ns (getD ns i blank .lo)) ≡ family ns j
           → suc (suc i) ≡ j
       steps i w r l zero b e =
-          absurd (fork-some (getD ns i blank .label) (family ns (getD ns i blank .hi)) (family ns (getD ns i blank .lo)) (some-hi i w) (e ∙ family-zero ns))
+          absurd (fork-some (getD ns i blank .label) (family ns (getD ns i blank .hi)) (family ns (getD ns i blank .lo)) (hi-family-some n i w) (e ∙ family-zero ns))
       steps i w r l (suc zero) b e =
-          absurd (fork-not-one (getD ns i blank .label) (family ns (getD ns i blank .hi)) (family ns (getD ns i blank .lo)) (some-hi i w) (e ∙ family-one ns))
+          absurd (fork-not-one (getD ns i blank .label) (family ns (getD ns i blank .hi)) (family ns (getD ns i blank .lo)) (hi-family-some n i w) (e ∙ family-one ns))
       steps i w r l (suc (suc j)) b e =
           let v : j < length ns = omega arith in
-          let p = parts i j w v (e ∙ node-eq j v) in
+          let p = parts i j w v (e ∙ family-parts n j v) in
           let hs : getD ns i blank .hi ≡ getD ns j blank .hi = r (getD ns j blank .hi) (omega (arith, n .each j v .hi-below)) (p .1) in
           let ls : getD ns i blank .lo ≡ getD ns j blank .lo = l (getD ns j blank .lo) (omega (arith, n .each j v .lo-below)) (p .2) in
           ap (λ (k : ℕ). suc (suc k)) (n .once i j w v (λ d. node (p .0 d) (ls d) (hs d)))

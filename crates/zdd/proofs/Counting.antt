@@ -1,5 +1,4 @@
--- Laws of `branches` and `missing`. THEOREM: a sound table that keeps the nodes of another and holds F is larger by at least as many nodes as are
--- missing for F; so the refusal 'full' is given only where F does not fit. Assumes nothing.
+-- Laws of `branches` and `missing`. THEOREM: the branch families of a number of a sound table are families of numbers below it. Assumes nothing.
 use mathlib.Core.Path.{_≡_, refl, sym, ap, ap₂, _∙_, subst, subst⁻¹}
 use mathlib.Core.Logic.{_⊎_, inl, inr, ⊎-elim}
 use mathlib.Core.Bool.{Bool, true, false, cond, _||_}
@@ -9,17 +8,25 @@ use native.Mathlib.Nat.{le-refl, not-suc-le-zero}
 use native.Mathlib.Omega.{arith}
 use lib.Dec.{eqb}
 use lib.ListN.{length, getD}
-use Rattle.base.proofs.Bools.{never, cases, and-left, and-right, and-both, or-cases, or-left, or-right, eqb-same}
-use Rattle.zdd.specs.Table.{Node, blank, Family, fork, families, family, eqSet, key, Nodes, _∈_}
-use Rattle.zdd.proofs.Member.{Avoids, avoids-rest, avoids-first, from-avoids, family-from, eqSet-same, eqSet-eq}
-use Rattle.zdd.proofs.Grow.{length-families, families-append, family-ind, downward, family-node}
-use Rattle.zdd.proofs.Canon.{family-some}
+use Rattle.base.proofs.Bools.{never, and-left, and-right, and-both, or-cases, or-left, or-right, eqb-same}
+use Rattle.zdd.specs.Table.{Node, blank, Family, fork, families, family, eqSet, Nodes, _∈_}
+use Rattle.zdd.proofs.Member.{Avoids, avoids-rest, avoids-first, eqSet-same, eqSet-eq}
+use Rattle.zdd.proofs.Grow.{length-families, family-ind, downward}
+use Rattle.zdd.proofs.Canon.{hi-family-some, lo-family-avoids, family-parts}
+use Rattle.zdd.specs.Below.{Below, itself, by-lo, by-hi}
 use Rattle.zdd.specs.Branches.{starting, others, weight, branchesTo, branches, eqFamily, amongb, fresh, missing}
 
 -- nothing stands twice
 abbrev pub Distinct : {A : Type 0} → List A → Type 0
 Distinct [] = Unit {0}
 Distinct (x ∷ xs) = (x ∈ xs → ⊥) × Distinct xs
+
+pub distinct-append : {A : Type 0} (xs ys : List A) → Distinct xs → Distinct ys → ((a : A) → a ∈ xs → a ∈ ys → ⊥) → Distinct (xs ++ ys)
+distinct-append [] ys d e f = e
+distinct-append (x ∷ xs) ys d e f = (
+  λ m. ⊎-elim (d .0) (f x (List·Memᴰ·head refl)) (List·Memᴰ·append-cases xs m),
+  distinct-append xs ys (d .1) e (λ a m. f a (List·Memᴰ·tail m)),
+)
 
 -- ---- the tests are exact
 
@@ -77,17 +84,6 @@ pigeonhole (x ∷ xs) ys d s =
     let m : x ∈ ys = s x (List·Memᴰ·head refl) in
     subst (λ (n : ℕ). suc (length xs) ≤ n) (drop-length m)
     (suc-le-suc (pigeonhole xs (drop-one m) (d .1) (λ F k. drop-keeps m F (s F (List·Memᴰ·tail k)) (λ e. d .0 (Memᴰ·cast (sym e) k)))))
-
--- a list without repeats that is as long as one that has all of its elements has all of that one's
-pub pigeonhole-back : (xs ys : List Family) → Distinct xs → ((F : Family) → F ∈ xs → F ∈ ys) → length ys ≤ length xs → (F : Family) → F ∈ ys → F ∈ xs
-pigeonhole-back xs ys d s l F m = go (cases (amongb F xs))
-  where
-    go : (amongb F xs ≡ true) ⊎ (amongb F xs ≡ false) → F ∈ xs
-    go (inl e) = among-of F xs e
-    go (inr e) =
-        let less : length xs ≤ length (drop-one m) =
-        pigeonhole xs (drop-one m) d (λ G g. drop-keeps m G (s G g) (λ q. never (among-test F xs (Memᴰ·cast (sym q) g)) e)) in
-        absurd (omega (arith, drop-length m))
 
 -- ---- `fresh`: those of the list that are not known, each once
 
@@ -259,27 +255,26 @@ pub branches-one : branches ([] ∷ []) ≡ []
 unfolding branches branchesTo weight
 branches-one = refl
 
--- THEOREM: each branch family of a number of a sound table is the family of a number of it
-pub branch-known : {K : List ℕ} {ns : List Node} → Nodes K ns → (k : ℕ) → k < suc (suc (length ns)) → (G : Family) → G ∈ branches (family ns k)
-    → (j : ℕ) × (j < suc (suc (length ns))) × (G ≡ family ns j)
-branch-known {K} {ns} n k h =
-    family-ind ns (downward n) (λ k F. (G : Family) → G ∈ branches F → (j : ℕ) × (j < suc (suc (length ns))) × (G ≡ family ns j))
+-- THEOREM: each branch family of a number of a sound table is the family of a number below it
+pub branch-below : {K : List ℕ} {ns : List Node} → Nodes K ns → (k : ℕ) → k < suc (suc (length ns)) → (G : Family) → G ∈ branches (family ns k)
+    → (j : ℕ) × (j < suc (suc (length ns))) × (G ≡ family ns j) × Below ns k j
+branch-below {K} {ns} n k h =
+    family-ind ns (downward n) (λ k F. (G : Family) → G ∈ branches F → (j : ℕ) × (j < suc (suc (length ns))) × (G ≡ family ns j) × Below ns k j)
     (λ G m. absurd (List·Memᴰ·not-nil (subst (λ (l : List Family). G ∈ l) branches-nil m)))
     (λ G m. absurd (List·Memᴰ·not-nil (subst (λ (l : List Family). G ∈ l) branches-one m)))
     (λ i w r l G m.
     let x : Node = getD ns i blank in
-    let f = n .each i w in
-    let some : family ns (x .hi) ≡ [] → ⊥ = family-some n (x .hi) (omega (arith, f .hi-below)) (f .hi-some) in
-    let a : Avoids (x .label) (family ns (x .lo)) =
-    from-avoids K (suc (key K (x .label))) (x .label) (family ns (x .lo))
-    (family-from n (x .lo) (omega (arith, f .lo-below)) (suc (key K (x .label))) (f .lo-after)) (omega arith) in
     ⊎-elim
-    (λ e. (suc (suc i), omega arith, e ∙ sym (family-node ns i w (f .lo-below) (f .hi-below))))
-    (λ c. ⊎-elim (r G) (l G) (List·Memᴰ·append-cases (branches (family ns (x .hi))) c))
-    (List·Memᴰ·cases-cons (subst (λ (q : List Family). G ∈ q) (branches-fork (x .label) (family ns (x .hi)) (family ns (x .lo)) some a) m)))
+    (λ e. (suc (suc i), omega arith, e ∙ sym (family-parts n i w), itself))
+    (λ c. ⊎-elim
+    (λ y. let j = r G y in (j .0, j .1, j .2, by-hi i w (j .3)))
+    (λ y. let j = l G y in (j .0, j .1, j .2, by-lo i w (j .3)))
+    (List·Memᴰ·append-cases (branches (family ns (x .hi))) c))
+    (List·Memᴰ·cases-cons (subst (λ (q : List Family). G ∈ q)
+    (branches-fork (x .label) (family ns (x .hi)) (family ns (x .lo)) (hi-family-some n i w) (lo-family-avoids n i w)) m)))
     k h
 
--- ---- the growth of a table
+-- ---- the families of a table
 
 nth-member : (l : List Family) (k : ℕ) → k < length l → getD l k [] ∈ l
 nth-member [] k h = absurd (not-suc-le-zero h)
@@ -300,35 +295,3 @@ number-in ns k h = nth-member (families ns) k (omega (arith, length-families ns)
 pub number-of : (ns : List Node) (G : Family) → G ∈ families ns → (k : ℕ) × (k < suc (suc (length ns))) × (G ≡ family ns k)
 unfolding family
 number-of ns G m = let r = member-nth (families ns) G m in (r .0, omega (arith, r .1, length-families ns), r .2)
-
--- nodes ms behind the nodes ns of a sound table that then has the number k
-module _ {K : List ℕ} (ns ms : List Node) (n : Nodes K (ns ++ ms)) (k : ℕ) (h : k < suc (suc (length (ns ++ ms)))) where
-  lacked : List Family
-  lacked = fresh (families ns) (branches (family (ns ++ ms) k))
-
-  added : (l : List Family) × (families (ns ++ ms) ≡ families ns ++ l) × (length l ≡ length ms)
-  added = families-append ns ms
-
-  lacked-added : (G : Family) → G ∈ lacked → G ∈ added .0
-  unfolding lacked
-  lacked-added G m =
-      let s = fresh-sound (branches (family (ns ++ ms) k)) (families ns) G m in
-      let j = branch-known n k h G (s .0) in
-      ⊎-elim (λ c. absurd (s .1 c)) (λ c. c)
-      (List·Memᴰ·append-cases (families ns) (subst (λ (l : List Family). G ∈ l) (added .1) (Memᴰ·cast (j .2) (number-in (ns ++ ms) (j .0) (j .1)))))
-
-  -- THEOREM: they are at least as many as ns lacks for k's family
-  pub least-growth : missing ns (family (ns ++ ms) k) ≤ length ms
-  unfolding missing lacked
-  least-growth =
-      subst (λ (c : ℕ). length lacked ≤ c) (added .2)
-      (pigeonhole lacked (added .0) (fresh-distinct (branches (family (ns ++ ms) k)) (families ns)) lacked-added)
-
-  -- THEOREM: where they are just as many, what a number denotes was denoted before, or is a branch family of k's
-  pub growth-serves : length ms ≡ missing ns (family (ns ++ ms) k) → (G : Family) → G ∈ families (ns ++ ms) → (G ∈ families ns) ⊎ (G ∈ branches (family (ns ++ ms) k))
-  unfolding missing lacked
-  growth-serves e G g =
-      ⊎-elim (λ a. inl a)
-      (λ b. inr (fresh-sound (branches (family (ns ++ ms) k)) (families ns) G
-      (pigeonhole-back lacked (added .0) (fresh-distinct (branches (family (ns ++ ms) k)) (families ns)) lacked-added (omega (arith, added .2)) G b) .0))
-      (List·Memᴰ·append-cases (families ns) (subst (λ (l : List Family). G ∈ l) (added .1) g))

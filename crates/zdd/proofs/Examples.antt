@@ -6,6 +6,7 @@ use Prim.Native.Nat.{ℕ}
 use lib.ListN.{List·getD-map}
 use Rattle.zdd.specs.Table.{Node, node, nodesOf, family, order, sets, elem, filter, onceb, soundb, Sound, Keys}
 use Rattle.zdd.proofs.Tested.{sound-of, once-of}
+use Rattle.zdd.specs.Below.{newBelow}
 use Rattle.zdd.specs.Operations.{union, combine}
 
 -- label 1 comes first, then 2, then 0
@@ -40,6 +41,20 @@ kept = refl
 both : union keys (family (nodesOf table) 2) (family (nodesOf table) 4) ≡ (1 ∷ 0 ∷ []) ∷ (2 ∷ 0 ∷ []) ∷ (0 ∷ []) ∷ [] ∷ []
 unfolding nodesOf family combine filter sets elem
 both = refl
+
+-- below 4 are all its nodes, below 3 only 2 and 3: to a table that has 3 as its answer the node 4 would be one too many
+below-four : newBelow 0 (nodesOf table) 4 ≡ 2 ∷ 3 ∷ 4 ∷ []
+unfolding nodesOf newBelow
+below-four = refl
+
+below-three : newBelow 0 (nodesOf table) 3 ≡ 2 ∷ 3 ∷ []
+unfolding nodesOf newBelow
+below-three = refl
+
+-- a table that had node 2 already
+new-four : newBelow 1 (nodesOf table) 4 ≡ 3 ∷ 4 ∷ []
+unfolding nodesOf newBelow
+new-four = refl
 
 sound : soundb keys table ≡ true
 unfolding soundb

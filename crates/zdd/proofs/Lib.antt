@@ -12,6 +12,7 @@ pub mod TableLaws
 pub mod Ordered
 pub mod Counting
 pub mod Under
+pub mod Below
 pub mod Nowaste
 pub mod Room
 pub mod Split

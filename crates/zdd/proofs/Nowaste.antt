@@ -17,7 +17,8 @@ use Rattle.zdd.proofs.Grow.{family-append, families-append, family-new}
 use Rattle.zdd.proofs.Canon.{family-some, canonical}
 use Rattle.zdd.proofs.Extend.{nodes-append}
 use Rattle.zdd.specs.Branches.{branches, fresh, missing}
-use Rattle.zdd.proofs.Counting.{Distinct, fresh-sound, fresh-distinct, at-most, fewer, number-in, number-of, least-growth}
+use Rattle.zdd.proofs.Counting.{Distinct, distinct-append, fresh-sound, fresh-distinct, at-most, fewer, number-in, number-of}
+use Rattle.zdd.proofs.Below.{least-growth}
 use Rattle.zdd.proofs.Under.{under-self, fork-branch}
 
 -- ---- no waste: how it goes together
@@ -124,13 +125,6 @@ listing-distinct f zero h = tt
 listing-distinct f (suc n) h = (
   λ m. let t = in-listing f n (f n) m in let e : n ≡ t .0 = h n (t .0) (omega arith) (omega (arith, t .1)) (t .2) in omega (arith, t .1),
   listing-distinct f n (λ i k a b e. h i k (omega arith) (omega arith) e),
-)
-
-distinct-append : {A : Type 0} (xs ys : List A) → Distinct xs → Distinct ys → ((a : A) → a ∈ xs → a ∈ ys → ⊥) → Distinct (xs ++ ys)
-distinct-append [] ys d e f = e
-distinct-append (x ∷ xs) ys d e f = (
-  λ m. ⊎-elim (d .0) (f x (List·Memᴰ·head refl)) (List·Memᴰ·append-cases xs m),
-  distinct-append xs ys (d .1) e (λ a m. f a (List·Memᴰ·tail m)),
 )
 
 -- a table that is short of F lacks something for F

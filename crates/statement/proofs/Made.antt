@@ -1,0 +1,53 @@
+-- The nodes made. THEOREMS: the new numbers below an answer are as many as were missing for its family, so that `made` is what it was said to be of
+-- families; and of a call that answers the new numbers are just those below its answer. Assumes nothing.
+use mathlib.Core.Path.{_≡_, sym, ap, _∙_, subst, subst⁻¹}
+use mathlib.Core.Logic.{_↔_}
+use mathlib.Core.Bool.{true}
+use mathlib.Core.List.{List, _++_}
+use Prim.Native.Nat.{ℕ, suc, _+_, _≤_, _<_}
+use native.Mathlib.Omega.{arith}
+use lib.ListN.{length, take, drop, take-append-drop}
+use Rattle.zdd.specs.Table.{Node, Family, count, nodesOf, family, soundb, Nodes}
+use Rattle.zdd.specs.Branches.{missing}
+use Rattle.zdd.specs.Below.{Below, newBelow}
+use Rattle.zdd.proofs.Words.{length-nodes}
+use Rattle.zdd.proofs.Tested.{sound-of}
+use Rattle.zdd.proofs.Below.{below-append, below-known, new-all, new-missing}
+use Rattle.query.specs.Questions.{familyAt}
+use Rattle.statement.specs.declared.Report.{Report}
+use Rattle.statement.specs.Postconditions.{Answered}
+use Rattle.statement.proofs.Kept.{split}
+
+-- THEOREM: where a sound table t′ keeps the nodes of t, the numbers below a that t did not have are as many as t lacks for a's family
+pub below-missing : (K t t′ : List ℕ) → soundb K t′ ≡ true → take (count t) (nodesOf t′) ≡ nodesOf t → (a : ℕ) → a < count t′ + 2
+    → length (newBelow (count t) (nodesOf t′) a) ≡ missing (nodesOf t) (familyAt t′ a)
+below-missing K t t′ s old a h =
+    let ms : List Node = drop (count t) (nodesOf t′) in
+    let e : nodesOf t′ ≡ nodesOf t ++ ms = sym (take-append-drop (count t) (nodesOf t′)) ∙ ap (λ (l : List Node). l ++ ms) old in
+    let n : Nodes K (nodesOf t ++ ms) = subst (λ (l : List Node). Nodes K l) e (sound-of K t′ s .nodes) in
+    let k : a < suc (suc (length (nodesOf t ++ ms))) = subst (λ (l : List Node). a < suc (suc (length l))) e (omega (arith, length-nodes t′)) in
+    subst⁻¹ (λ (l : List Node). length (newBelow (count t) l a) ≡ missing (nodesOf t) (family l a)) e
+    (subst (λ (c : ℕ). length (newBelow c (nodesOf t ++ ms) a) ≡ missing (nodesOf t) (family (nodesOf t ++ ms) a)) (length-nodes t)
+    (new-missing (nodesOf t) ms n a k))
+
+module _ {K : List ℕ} {F : Family} {s : ℕ} {t : List ℕ} {r : Report} {t′ : List ℕ} (A : Answered K F s t r t′) where
+  -- THEOREM: what is made was missing
+  pub made-missing : r .made ≡ missing (nodesOf t) F
+  made-missing = A .made ∙ below-missing K t t′ (A .sound) (A .old) (A .number) (A .known) ∙ ap (missing (nodesOf t)) (A .holds)
+
+  nodes : Nodes K (nodesOf t′)
+  nodes = sound-of K t′ (A .sound) .nodes
+
+  number-known : A .number < suc (suc (length (nodesOf t′)))
+  number-known = omega (arith, A .known, length-nodes t′)
+
+  -- THEOREM: of the numbers that t did not have, those of t′ are just those below the answer
+  pub new-exactly : (k : ℕ) → count t + 2 ≤ k → (k < count t′ + 2) ↔ Below (nodesOf t′) (A .number) k
+  new-exactly k l = (
+    λ h. new-all nodes (count t) (A .number) number-known (omega (arith, sym (A .made), A .grown, length-nodes t′)) k l (omega (arith, length-nodes t′)),
+    λ b. omega (arith, below-known nodes b number-known, length-nodes t′),
+  )
+
+  -- what was below an old number still is
+  pub old-below : {a k : ℕ} → Below (nodesOf t) a k → Below (nodesOf t′) a k
+  old-below {a} {k} b = subst⁻¹ (λ (l : List Node). Below l a k) (split A) (below-append (drop (count t) (nodesOf t′)) b)
