@@ -188,6 +188,18 @@ agree Q (next {h} {t} H c r t′ o p) =
     let x = agree-next Q h t c r t′ (outcomeReply (r .outcome)) refl (agree Q H) o p in
     record { nodes = x .0; each = x .1; fit = x .2 }
 
+pub nodes-sound : (Q : Problem) {h : Calls} {t : List ℕ} → History Q h t → Nodes (keysOf Q) (nodesOf t)
+nodes-sound Q H = agree Q H .nodes
+
+-- each number given is one of the table, and holds the set of a posting
+pub given-holds : (Q : Problem) {h : Calls} {t : List ℕ} → History Q h t → (a : ℕ) → a ∈ given h
+    → (a < count t + 2) × ((p : Posting) × (p ∈ ledger Q h) × (familyAt t a ≡ listing Q (p .set)))
+unfolding Posted Found
+given-holds Q {h} {t} H a m =
+    let f = given-found Q h a m in
+    let g : Posted Q t (f .0) = agree Q H .each (f .0) (f .1) in
+    (subst (λ (x : ℕ). x < count t + 2) (f .2) (g .0), (f .0, f .1, rw (f .2) at (g .1)))
+
 -- ---- pick on a sound table
 
 -- what is left of pick's tests, where the table is sound and there are enough working words

@@ -1,6 +1,6 @@
 -- The contracts can be met: a history of six calls on Figure 1, and a pick on the table that it leaves, each field by computation; and what the third
--- demand says of it. Assumes nothing.
-use mathlib.Core.Path.{_≡_, refl}
+-- demand and `no-spare-node` say of it. A table with a spare node does not meet them. Assumes nothing.
+use mathlib.Core.Path.{_≡_, refl, ap, _∙_}
 use mathlib.Core.Logic.{_⊎_, inl, inr}
 use mathlib.Core.List.{List, [], _∷_, List·Memᴰ·head, List·Memᴰ·tail, List·Memᴰ·cases-cons, List·Memᴰ·not-nil}
 use Prim.Native.Nat.{ℕ, zero, suc, _<_}
@@ -10,6 +10,7 @@ use lib.ListN.{length, getD}
 use Rattle.itemset.specs.Items.{holds, insideb, without, belowb, size, lowest}
 use Rattle.zdd.specs.Table.{nodesOf, capacity, families, family, order, allSets, sets, filter, soundb, eqSet, elem, has, _∈_}
 use Rattle.zdd.specs.Operations.{combine, including, excluding}
+use Rattle.zdd.specs.Below.{Below, newBelow}
 use Rattle.zdd.specs.Branches.{starting, others, weight, branchesTo, branches, eqFamily, amongb, fresh, missing}
 use Rattle.exact_cover.specs.Cover.{keysFrom, keysOf, holders, allInside, once, covers, covering, fits, down, candidates}
 use Rattle.exact_cover.specs.Steps.{each, visit, steps}
@@ -22,8 +23,11 @@ use Rattle.statement.specs.declared.Call.the-variants.{Cover, Only, With, Witho
 use Rattle.exact_cover.specs.Problem.{lead, done}
 use Rattle.query.specs.Questions.{unknownPackage}
 use Rattle.statement.specs.Postconditions.{CoverPost, WithPost, WithoutPost, OnlyPost, PickPost}
-use Rattle.history.specs.Histories.{entry, Calls, History, start, next, SameSet, Posting, noTimetable, ledger, Returns, Demanded}
+use Rattle.history.specs.Histories.{entry, Calls, given, History, start, next, SameSet, Posting, noTimetable, ledger, Returns, Demanded, Needed}
+use Rattle.statement.specs.Replies.{gives}
+use Rattle.history.proofs.Contract.{gives-one}
 use Rattle.history.proofs.Demand.{demand3}
+use Rattle.history.proofs.Spare.{no-spare-node}
 use Rattle.statement.specs.Examples.{figure1, emptyTable}
 
 -- 2 is {2}; 3 is {4, 2}; 4 is {1, 4, 2}; 5 is {0, 2} and {1, 4, 2}
@@ -39,7 +43,7 @@ report a s c = record { outcome = Answer a; steps = s; made = c }
 
 first-cover : CoverPost figure1 6 (emptyTable 6) 63 6 128 (report 5 6 4) covered
 unfolding holds insideb without belowb size lowest lead done nodesOf capacity families family order allSets sets filter soundb eqSet elem starting
-    others weight branchesTo branches eqFamily amongb fresh missing keysFrom keysOf holders allInside once covers covering fits down candidates each
+    others weight branchesTo branches eqFamily amongb fresh missing newBelow keysFrom keysOf holders allInside once covers covering fits down candidates each
     visit steps firstOf oversize strayIn stray unsound unknownItem shortWork spent full callRefusal
 first-cover = record {
   declined = λ l. absurd (not-suc-le-zero l);
@@ -57,7 +61,7 @@ second-cover = record {
 
 with-0 : WithPost figure1 6 covered 5 0 2 (report 6 0 1) final
 unfolding holds insideb without belowb size lowest lead done nodesOf capacity families family order allSets sets filter soundb eqSet elem has starting
-    others weight branchesTo branches eqFamily amongb fresh missing keysFrom keysOf firstOf oversize strayIn stray unsound unknownAnswer
+    others weight branchesTo branches eqFamily amongb fresh missing newBelow keysFrom keysOf firstOf oversize strayIn stray unsound unknownAnswer
     unknownPackage shortWork full including callRefusal
 with-0 = record {
   declined = λ l. absurd (not-suc-le-zero l);
@@ -67,7 +71,7 @@ with-0 = record {
 -- {1, 4, 2} is number 4 already
 only-other : OnlyPost figure1 6 final 5 6 2 (report 4 0 0) final
 unfolding holds insideb without belowb size lowest lead done nodesOf capacity families family order allSets sets filter soundb eqSet elem has combine
-    starting others weight branchesTo branches eqFamily amongb fresh missing keysFrom keysOf firstOf oversize strayIn stray unsound unknownAnswer
+    starting others weight branchesTo branches eqFamily amongb fresh missing newBelow keysFrom keysOf firstOf oversize strayIn stray unsound unknownAnswer
     shortWork full callRefusal
 only-other = record {
   declined = λ l. absurd (not-suc-le-zero l);
@@ -77,7 +81,7 @@ only-other = record {
 -- and so it is made another way
 without-0 : WithoutPost figure1 6 final 5 0 2 (report 4 0 0) final
 unfolding holds insideb without belowb size lowest lead done nodesOf capacity families family order allSets sets filter soundb eqSet elem has starting
-    others weight branchesTo branches eqFamily amongb fresh missing keysFrom keysOf firstOf oversize strayIn stray unsound unknownAnswer
+    others weight branchesTo branches eqFamily amongb fresh missing newBelow keysFrom keysOf firstOf oversize strayIn stray unsound unknownAnswer
     unknownPackage shortWork full excluding callRefusal
 without-0 = record {
   declined = λ l. absurd (not-suc-le-zero l);
@@ -87,7 +91,7 @@ without-0 = record {
 -- the first cover again: the same steps, and no node made
 third-cover : CoverPost figure1 6 final 63 6 128 (report 5 6 0) final
 unfolding holds insideb without belowb size lowest lead done nodesOf capacity families family order allSets sets filter soundb eqSet elem starting
-    others weight branchesTo branches eqFamily amongb fresh missing keysFrom keysOf holders allInside once covers covering fits down candidates each
+    others weight branchesTo branches eqFamily amongb fresh missing newBelow keysFrom keysOf holders allInside once covers covering fits down candidates each
     visit steps firstOf oversize strayIn stray unsound unknownItem shortWork spent full callRefusal
 third-cover = record {
   declined = λ l. absurd (not-suc-le-zero l);
@@ -170,3 +174,39 @@ unfolding holds insideb belowb size lowest lead done order allSets sets filter k
 second-of-five =
     demanded .picks (posting 0) (posted 0 (omega arith)) (omega arith) 6 (List·Memᴰ·head refl) 6 (omega arith) 1
     (7 ∷ 7 ∷ 7 ∷ 7 ∷ []) (Packages 3) (1 ∷ 4 ∷ 2 ∷ 7 ∷ []) picked .0 (omega arith) (omega arith)
+
+-- ---- the nodes of the table: below the answer 5 are 2, 3, 4 and 5, below 6 are 2 and 6
+
+below-five : newBelow 0 (nodesOf final) 5 ≡ 2 ∷ 3 ∷ 4 ∷ 5 ∷ []
+unfolding nodesOf newBelow
+below-five = refl
+
+below-six : newBelow 0 (nodesOf final) 6 ≡ 2 ∷ 6 ∷ []
+unfolding nodesOf newBelow
+below-six = refl
+
+needed : Needed calls final
+needed = no-spare-node figure1 calls final history
+
+-- 3 is no answer given, and is below one
+three-needed : (a : ℕ) × (a ∈ given calls) × Below (nodesOf final) a 3
+three-needed = needed 3 (omega arith) .0 (omega arith)
+
+-- 7 is below none: the table has no such node
+seven-not : (a : ℕ) → a ∈ given calls → Below (nodesOf final) a 7 → ⊥
+seven-not a m b = let l : 7 < 7 = needed 7 (omega arith) .1 (a, m, b) in omega arith
+
+-- `final` with the node 7, which is {3}: sound, and the cover of all items still has the number 5
+abbrev spare : List ℕ
+spare = 6 ∷ 2 ∷ 0 ∷ 1 ∷ 4 ∷ 0 ∷ 2 ∷ 1 ∷ 0 ∷ 3 ∷ 0 ∷ 4 ∷ 2 ∷ 0 ∷ 0 ∷ 2 ∷ 3 ∷ 0 ∷ 1 ∷ []
+
+-- a cover that makes that node, fewer than the four branch nodes of its answer, does not meet its contract
+no-spare : CoverPost figure1 6 final 63 6 128 (report 5 6 1) spare → ⊥
+unfolding holds insideb without belowb size lowest lead done nodesOf capacity families family order allSets sets filter soundb eqSet elem starting
+    others weight branchesTo branches eqFamily amongb fresh missing newBelow keysFrom keysOf holders allInside once covers covering fits down candidates
+    each visit steps firstOf oversize strayIn stray unsound unknownItem shortWork spent full callRefusal
+no-spare C =
+    let A = C .answered refl in
+    let five : A .number ≡ 5 = gives-one (gives 5) (A .number) 5 (A .outcome) refl in
+    let none : _≡_ {A = ℕ} 1 0 = A .made ∙ ap (λ (a : ℕ). length (newBelow 5 (nodesOf spare) a)) five in
+    omega arith

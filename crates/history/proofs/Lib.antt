@@ -1,6 +1,7 @@
--- The third demand, a history that meets its hypotheses, and the laws of the runner: `Determined` has what follows from its promise.
+-- The third demand, no spare node, a history that meets their hypotheses, and the laws of the runner: `Determined` has what follows from its promise.
 pub mod Contract
 pub mod Demand
+pub mod Spare
 mod Inhabited
 pub mod Requests
 pub mod Reports

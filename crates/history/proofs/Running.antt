@@ -22,6 +22,7 @@ use Rattle.history.specs.Script.{callAt, calls, passes, every, runs, run
 use Rattle.history.specs.Parts.{marked, noted, Stored}
 use Rattle.history.proofs.Contract.{operand-known, answer-below, as-long, nodes-made}
 use Rattle.history.proofs.Demand.{demand3}
+use Rattle.history.proofs.Spare.{no-spare-node}
 use Rattle.history.proofs.Requests.{every-at, every-same, Runs, may-run, runs-same}
 use Rattle.history.proofs.Reports.{calls-none, calls-same, calls-next}
 use Rattle.history.proofs.Marks.{Marks, marks-none, marks-more, marks-give, marked-passes, has-in}
@@ -131,6 +132,7 @@ module _ {Q : Problem} {script : List ℕ} {room : ℕ} {t₀ out₀ : List ℕ}
   ran t₁ l e = record {
     history = R .history;
     demanded = demand3 Q (calls script out i) t (R .history);
+    needed = no-spare-node Q (calls script out i) t (R .history);
     long = R .long ∙ l;
     wide = R .wide;
     rest = R .rest;

@@ -1,5 +1,5 @@
--- The third demand: a claim about every history of calls, over the contracts and nothing of the code. Assumes nothing: these are definitions, and
--- `proofs/Demand.antt` proves `Demand3`.
+-- The third demand, and which nodes a table has: two claims about every history of calls, over the contracts and nothing of the code. Assumes nothing:
+-- these are definitions; `proofs/Demand.antt` proves `Demand3`, and `proofs/Spare.antt` `NoSpareNode`.
 use mathlib.Core.Path.{_≡_}
 use mathlib.Core.Logic.{_↔_}
 use mathlib.Core.Bool.{Bool, true, false, cond, not, _&&_, _||_}
@@ -7,7 +7,8 @@ use mathlib.Core.List.{List, [], _∷_, _++_}
 use Prim.Native.Nat.{ℕ, _+_, _≤_, _<_}
 use lib.Dec.{eqb}
 use lib.ListN.{length, drop, replicate}
-use Rattle.zdd.specs.Table.{Family, sets, elem, filter, has, _∈_}
+use Rattle.zdd.specs.Table.{Family, count, nodesOf, sets, elem, filter, has, _∈_}
+use Rattle.zdd.specs.Below.{Below}
 use Rattle.exact_cover.specs.Problem.{Problem}
 use Rattle.exact_cover.specs.Cover.{keysOf, covers}
 use Rattle.statement.specs.declared.Call.{Call}
@@ -143,3 +144,13 @@ pub record Demanded (Q : Problem) (h : Calls) (t : List ℕ) : Type 0 where
 
 abbrev pub Demand3 : Type 0
 Demand3 = (Q : Problem) (h : Calls) (t : List ℕ) → History Q h t → Demanded Q h t
+
+-- ---- the nodes
+
+-- the table consists of the nodes below the answers given, their own included, and no others [document 02, No. 6]: of the numbers from 2 on it has just
+-- those. (Below 0 and 1, which count as given, there is none of them)
+abbrev pub Needed : Calls → List ℕ → Type 0
+Needed h t = (k : ℕ) → 2 ≤ k → (k < count t + 2) ↔ ((a : ℕ) × (a ∈ given h) × Below (nodesOf t) a k)
+
+abbrev pub NoSpareNode : Type 0
+NoSpareNode = (Q : Problem) (h : Calls) (t : List ℕ) → History Q h t → Needed h t

@@ -1,5 +1,5 @@
--- A script of calls as words, the reports that running it writes, and what the runner promises: the third demand of what it ran. Assumes nothing:
--- these are definitions.
+-- A script of calls as words, the reports that running it writes, and what the runner promises: the third demand of what it ran, and no spare node.
+-- Assumes nothing: these are definitions.
 use mathlib.Core.Path.{_≡_}
 use mathlib.Core.Bool.{Bool, true, false, cond, _&&_, _||_}
 use mathlib.Core.List.{List, [], _∷_}
@@ -15,7 +15,7 @@ use Rattle.statement.specs.declared.Report.{Report}
 use Rattle.statement.specs.declared.Outcome.{Outcome}
 use Rattle.statement.specs.declared.Outcome.the-variants.{Answer, Refused}
 use Rattle.history.specs.declared.Request.{Request}
-use Rattle.history.specs.Histories.{Entry, entry, Calls, given, History, Demanded}
+use Rattle.history.specs.Histories.{Entry, entry, Calls, given, History, Demanded, Needed}
 
 -- ---- a script: five words a call
 
@@ -103,9 +103,10 @@ runnable script out room t i = runs script (length out / 3) room i (passes (call
 -- the first n calls of the script were run from an empty table as long as t, and their reports written to the first words of out; t′ and out′ are the
 -- table and the words after that, and `room` is the number of working words lent
 pub record Ran (Q : Problem) (script : List ℕ) (room : ℕ) (t out : List ℕ) (n : ℕ) (t′ out′ : List ℕ) : Type 0 where
-  -- the calls run are a history, and the third demand's conclusion holds of it
+  -- the calls run are a history, the third demand's conclusion holds of it, and the table has just the nodes that its answers need
   pub history : History Q (calls script out′ n) t′
   pub demanded : Demanded Q (calls script out′ n) t′
+  pub needed : Needed (calls script out′ n) t′
   -- the table is as long as before; the words behind the reports are unchanged
   pub long : length t′ ≡ length t
   pub wide : length out′ ≡ length out

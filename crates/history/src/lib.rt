@@ -1,5 +1,5 @@
-// A runner of histories: it makes the calls of a lent script, one after the other, on one table, and its `ensures` states the third demand of what it ran.
-// Histories, the ledger and the demand are in specs/Histories, the script's words in specs/Script.
+// A runner of histories: it makes the calls of a lent script, one after the other, on one table, and its `ensures` states the third demand of what it ran,
+// and that the table has no spare node. Histories, the ledger and the two claims are in specs/Histories, the script's words in specs/Script.
 ghost use mathlib.Core.Path.{_≡_};
 ghost use mathlib.Core.Bool.{true};
 ghost use Prim.Native.Nat.{ℕ, _/_, _<_};
