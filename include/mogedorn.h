@@ -77,7 +77,7 @@ typedef struct {
     uint32_t refusal;
     uint32_t answer; /* the number of the set of timetables: equal numbers, equal sets */
     uint32_t steps;  /* entries into Search; 0 outside cover */
-    uint32_t made;   /* nodes made: the growth of word 0 */
+    uint32_t made;   /* nodes made, the growth of word 0: exactly those below the answer, its own included, that the table did not have */
 } mogedorn_report;
 
 /* Of count and place. */

@@ -1,8 +1,9 @@
 //! A random history of calls, each compared with the model.
 
 use crate::ffi;
-use crate::model::{capacity, Family, Packages};
+use crate::model::{below, capacity, Family, Packages};
 use crate::rng::Rng;
+use std::collections::HashSet;
 
 /// The greatest number of packages for which every set of them is tried.
 const MOST: u64 = 9;
@@ -55,6 +56,7 @@ impl History {
                 _ => self.damaged(),
             }
         }
+        self.no_spare_node();
         self.postings();
     }
 
@@ -224,10 +226,21 @@ impl History {
                 assert_eq!(self.table[1..old], before[1..old], "{call}: old nodes");
                 assert_eq!(self.table[0], before[0] + got.made, "{call}: word 0");
                 assert!(s.sound(&self.table), "{call}: not sound");
+                let new = below(&self.table, got.answer).into_iter().filter(|&k| k >= before[0] + 2).count();
+                assert_eq!(got.made as usize, new, "{call}: new nodes below the answer");
                 self.known = s.families(&self.table);
                 assert_eq!(self.known[got.answer as usize], family, "{call}: another set");
                 self.ledger.push((got.answer, family));
             }
+        }
+    }
+
+    /// Each node of the table is below an answer given.
+    fn no_spare_node(&self) {
+        let needed: HashSet<u32> = self.ledger.iter().flat_map(|(a, _)| below(&self.table, *a)).collect();
+        let nodes = self.table.first().map_or(0, |&n| n);
+        for k in 2..nodes + 2 {
+            assert!(needed.contains(&k), "node {k} is below no answer");
         }
     }
 

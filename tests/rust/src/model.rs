@@ -212,6 +212,17 @@ impl<'a> Packages<'a> {
     }
 }
 
+/// The numbers below a in a sound table: a itself, and those below its lo and its hi.
+pub fn below(t: &[u32], a: u32) -> HashSet<u32> {
+    let mut all = HashSet::from([a]);
+    if a >= 2 {
+        let at = 1 + 3 * (a as usize - 2);
+        all.extend(below(t, t[at + 1]));
+        all.extend(below(t, t[at + 2]));
+    }
+    all
+}
+
 pub fn capacity(t: &[u32]) -> usize {
     ((t.len() - 1) / 3).min(65534)
 }
