@@ -19,6 +19,7 @@ use Rattle.statement.specs.Examples.{allItems}
 use Rattle.statement.specs.Replies.{refused, gives, outcomeReply}
 use Rattle.statement.specs.declared.Report.{Report}
 use Rattle.statement.proofs.FirstOf.{passed}
+use Rattle.statement.proofs.Made.{made-missing}
 use Rattle.bids.specs.Format.{schools, slots, packages, refusal, packagesOf, costsOf, itemsOf, costOf}
 use Rattle.bids.specs.Contract.{readRefusal, ReadPost, readReply}
 use Rattle.bids.specs.declared.Reading.{Reading}
