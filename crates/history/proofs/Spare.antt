@@ -53,7 +53,7 @@ serves Q (next {h} {t} H c r t′ o p) = serves-next Q (given h) t c r t′ (out
 
 pub no-spare-node : NoSpareNode
 no-spare-node Q h t H k b = (
-  serves Q H k b,
+  λ l. serves Q H k b (omega arith),
   λ s. omega (arith, below-known (nodes-sound Q H) (s .2) (omega (arith, given-holds Q H (s .0) (s .1) .0, length-nodes t)), length-nodes t),
 )
 

@@ -33,7 +33,7 @@ below-missing K t t′ s old a h =
 module _ {K : List ℕ} {F : Family} {s : ℕ} {t : List ℕ} {r : Report} {t′ : List ℕ} (A : Answered K F s t r t′) where
   -- THEOREM: what is made was missing
   pub made-missing : r .made ≡ missing (nodesOf t) F
-  made-missing = A .made ∙ below-missing K t t′ (A .sound) (A .old) (A .number) (A .known) ∙ ap (missing (nodesOf t)) (A .holds)
+  made-missing = omega (arith, A .made, below-missing K t t′ (A .sound) (A .old) (A .number) (A .known), ap (missing (nodesOf t)) (A .holds))
 
   nodes : Nodes K (nodesOf t′)
   nodes = sound-of K t′ (A .sound) .nodes
@@ -44,7 +44,7 @@ module _ {K : List ℕ} {F : Family} {s : ℕ} {t : List ℕ} {r : Report} {t′
   -- THEOREM: of the numbers that t did not have, those of t′ are just those below the answer
   pub new-exactly : (k : ℕ) → count t + 2 ≤ k → (k < count t′ + 2) ↔ Below (nodesOf t′) (A .number) k
   new-exactly k l = (
-    λ h. new-all nodes (count t) (A .number) number-known (omega (arith, sym (A .made), A .grown, length-nodes t′)) k l (omega (arith, length-nodes t′)),
+    λ h. new-all nodes (count t) (A .number) number-known (omega (arith, A .made, A .grown, length-nodes t′)) k l (omega (arith, length-nodes t′)),
     λ b. omega (arith, below-known nodes b number-known, length-nodes t′),
   )
 
