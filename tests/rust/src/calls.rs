@@ -19,6 +19,8 @@ pub struct History {
     known: Vec<Family>,
     /// The ledger: an answer given and the set that the definitions give it.
     ledger: Vec<(u32, Family)>,
+    /// Whether operands are, but for a few, answers given, as in document 01's histories; otherwise they are any numbers of the table.
+    strict: bool,
     pub calls: u64,
     pub outcomes: [u64; 32],
 }
@@ -31,23 +33,25 @@ enum Expected {
 
 impl History {
     pub fn new(mut rng: Rng) -> History {
-        let (m, sets) = random_packages(&mut rng);
+        let strict = rng.once_in(4);
+        let (m, sets) = if strict { many_timetables(&mut rng) } else { random_packages(&mut rng) };
         let words = match rng.below(8) {
             0 => rng.below(4),
             1 => 1 + 3 * rng.below(6),
             2 => rng.from(10, 60),
             _ => 1 + 3 * rng.from(30, 300),
         };
-        let mut history = History { rng, m, sets, table: vec![0; words as usize], known: Vec::new(), ledger: Vec::new(), calls: 0, outcomes: [0; 32] };
+        let mut history = History { rng, m, sets, table: vec![0; words as usize], known: Vec::new(), ledger: Vec::new(), strict, calls: 0, outcomes: [0; 32] };
         history.learn();
         history
     }
 
     pub fn run(&mut self) {
-        for _ in 0..self.rng.from(20, 60) {
+        for _ in 0..self.rng.from(20, if self.strict { 160 } else { 60 }) {
             match self.rng.below(16) {
-                0..=3 => self.cover(),
-                4..=8 => self.combine(),
+                0 => self.cover(),
+                1..=3 if !self.strict => self.cover(),
+                1..=8 => self.combine(),
                 9 => self.check(),
                 10 => self.count(),
                 11 | 12 => self.pick(),
@@ -84,9 +88,13 @@ impl History {
         self.known.len().saturating_sub(2) as u64
     }
 
-    /// A number of the table, rarely an unknown one.
+    /// An answer given or a number of the table, rarely an unknown one.
     fn operand(&mut self) -> u32 {
         let n = self.nodes();
+        let given: Vec<u32> = self.ledger.iter().map(|p| p.0).filter(|&a| a >= 2).collect();
+        if self.strict && !given.is_empty() && !self.rng.once_in(20) {
+            return given[self.rng.below(given.len() as u64) as usize];
+        }
         match self.rng.below(40) {
             0 => (n + 2) as u32,
             1 => u32::MAX - self.rng.below(3) as u32,
@@ -443,6 +451,13 @@ fn compare_page(call: &str, refusal: u32, list: &[u16], cost: u32, before: &[u16
     assert_eq!(got, ffi::Timetable { refusal, cost, packages: list.len() as u64 }, "{call}");
     assert_eq!(&page[..list.len()], list, "{call}");
     assert_eq!(page[list.len()..], before[list.len()..], "{call}: the rest of the page");
+}
+
+/// Several packages for each of a few items: a cover has many timetables, and so the parts of it are many sets.
+fn many_timetables(rng: &mut Rng) -> (u32, Vec<u64>) {
+    let m = rng.from(2, 4);
+    let sets = (0..rng.from(6, MOST)).map(|p| 1 << (p % m) | if rng.once_in(6) { 1 << rng.below(m) } else { 0 }).collect();
+    (m as u32, sets)
 }
 
 /// Packages over a few items, which lie anywhere below M.
