@@ -3,7 +3,7 @@ use mathlib.Core.Path.{_≡_, sym, ap, _∙_, subst}
 use mathlib.Core.List.{List, _++_}
 use Prim.Native.Nat.{ℕ, _+_, _≤_, _<_}
 use native.Mathlib.Omega.{arith}
-use lib.ListN.{drop, take-append-drop}
+use lib.ListN.{take, drop, take-append-drop}
 use Rattle.zdd.specs.Table.{Node, Family, count, nodesOf, family}
 use Rattle.zdd.proofs.Grow.{family-append}
 use Rattle.zdd.proofs.Words.{length-nodes}
@@ -18,14 +18,14 @@ refused-makes {K} {t} {t′} {n} {s} {F} {r} k e f d = record {
   answered = λ z. absurd (f (sym e ∙ z));
 }
 
-module _ {K : List ℕ} {F : Family} {s : ℕ} {t : List ℕ} {r : Report} {t′ : List ℕ} (A : Answered K F s t r t′) where
-  -- the old nodes, and then the new ones
-  pub split : nodesOf t′ ≡ nodesOf t ++ drop (count t) (nodesOf t′)
-  split = sym (take-append-drop (count t) (nodesOf t′)) ∙ ap (λ (l : List Node). l ++ drop (count t) (nodesOf t′)) (A .old)
+-- a table that keeps the nodes of another has these first, and then the new ones
+pub nodes-split : (t t′ : List ℕ) → take (count t) (nodesOf t′) ≡ nodesOf t → nodesOf t′ ≡ nodesOf t ++ drop (count t) (nodesOf t′)
+nodes-split t t′ old = sym (take-append-drop (count t) (nodesOf t′)) ∙ ap (λ (l : List Node). l ++ drop (count t) (nodesOf t′)) old
 
+module _ {K : List ℕ} {F : Family} {s : ℕ} {t : List ℕ} {r : Report} {t′ : List ℕ} (A : Answered K F s t r t′) where
   pub keeps : (k : ℕ) → k < count t + 2 → familyAt t′ k ≡ familyAt t k
   keeps k h =
-      ap (λ (l : List Node). family l k) split ∙ family-append (nodesOf t) (drop (count t) (nodesOf t′)) k (omega (arith, length-nodes t))
+      ap (λ (l : List Node). family l k) (nodes-split t t′ (A .old)) ∙ family-append (nodesOf t) (drop (count t) (nodesOf t′)) k (omega (arith, length-nodes t))
 
   pub grows : count t ≤ count t′
   grows = omega (arith, A .grown)

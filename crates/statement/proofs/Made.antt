@@ -1,12 +1,12 @@
 -- The nodes made. THEOREMS: the new numbers below an answer are as many as were missing for its family, so that `made` is what it was said to be of
 -- families; and of a call that answers the new numbers are just those below its answer. Assumes nothing.
-use mathlib.Core.Path.{_≡_, sym, ap, _∙_, subst, subst⁻¹}
+use mathlib.Core.Path.{_≡_, ap, subst, subst⁻¹}
 use mathlib.Core.Logic.{_↔_}
 use mathlib.Core.Bool.{true}
 use mathlib.Core.List.{List, _++_}
 use Prim.Native.Nat.{ℕ, suc, _+_, _≤_, _<_}
 use native.Mathlib.Omega.{arith}
-use lib.ListN.{length, take, drop, take-append-drop}
+use lib.ListN.{length, take, drop}
 use Rattle.zdd.specs.Table.{Node, Family, count, nodesOf, family, soundb, Nodes}
 use Rattle.zdd.specs.Branches.{missing}
 use Rattle.zdd.specs.Below.{Below, newBelow}
@@ -16,14 +16,14 @@ use Rattle.zdd.proofs.Below.{below-append, below-known, new-all, new-missing}
 use Rattle.query.specs.Questions.{familyAt}
 use Rattle.statement.specs.declared.Report.{Report}
 use Rattle.statement.specs.Postconditions.{Answered}
-use Rattle.statement.proofs.Kept.{split}
+use Rattle.statement.proofs.Kept.{nodes-split}
 
 -- THEOREM: where a sound table t′ keeps the nodes of t, the numbers below a that t did not have are as many as t lacks for a's family
 pub below-missing : (K t t′ : List ℕ) → soundb K t′ ≡ true → take (count t) (nodesOf t′) ≡ nodesOf t → (a : ℕ) → a < count t′ + 2
     → length (newBelow (count t) (nodesOf t′) a) ≡ missing (nodesOf t) (familyAt t′ a)
 below-missing K t t′ s old a h =
     let ms : List Node = drop (count t) (nodesOf t′) in
-    let e : nodesOf t′ ≡ nodesOf t ++ ms = sym (take-append-drop (count t) (nodesOf t′)) ∙ ap (λ (l : List Node). l ++ ms) old in
+    let e : nodesOf t′ ≡ nodesOf t ++ ms = nodes-split t t′ old in
     let n : Nodes K (nodesOf t ++ ms) = subst (λ (l : List Node). Nodes K l) e (sound-of K t′ s .nodes) in
     let k : a < suc (suc (length (nodesOf t ++ ms))) = subst (λ (l : List Node). a < suc (suc (length l))) e (omega (arith, length-nodes t′)) in
     subst⁻¹ (λ (l : List Node). length (newBelow (count t) l a) ≡ missing (nodesOf t) (family l a)) e
@@ -50,4 +50,4 @@ module _ {K : List ℕ} {F : Family} {s : ℕ} {t : List ℕ} {r : Report} {t′
 
   -- what was below an old number still is
   pub old-below : {a k : ℕ} → Below (nodesOf t) a k → Below (nodesOf t′) a k
-  old-below {a} {k} b = subst⁻¹ (λ (l : List Node). Below l a k) (split A) (below-append (drop (count t) (nodesOf t′)) b)
+  old-below {a} {k} b = subst⁻¹ (λ (l : List Node). Below l a k) (nodes-split t t′ (A .old)) (below-append (drop (count t) (nodesOf t′)) b)
