@@ -2,11 +2,12 @@
 -- demand and `no-spare-node` say of it. A table with a spare node does not meet them. Assumes nothing.
 use mathlib.Core.Path.{_≡_, refl, ap, _∙_}
 use mathlib.Core.Logic.{_⊎_, inl, inr}
+use mathlib.Core.Bool.{true}
 use mathlib.Core.List.{List, [], _∷_, List·Memᴰ·head, List·Memᴰ·tail, List·Memᴰ·cases-cons, List·Memᴰ·not-nil}
 use Prim.Native.Nat.{ℕ, zero, suc, _<_}
 use native.Mathlib.Nat.{not-suc-le-zero}
 use native.Mathlib.Omega.{arith}
-use lib.ListN.{length, getD}
+use lib.ListN.{length, getD, take}
 use Rattle.itemset.specs.Items.{holds, insideb, without, belowb, size, lowest}
 use Rattle.zdd.specs.Table.{nodesOf, capacity, families, family, order, allSets, sets, filter, soundb, eqSet, elem, has, _∈_}
 use Rattle.zdd.specs.Operations.{combine, including, excluding}
@@ -196,11 +197,17 @@ three-needed = needed 3 (omega arith) .0 (omega arith)
 seven-not : (a : ℕ) → a ∈ given calls → Below (nodesOf final) a 7 → ⊥
 seven-not a m b = let l : 7 < 7 = needed 7 (omega arith) .1 (a, m, b) in omega arith
 
--- `final` with the node 7, which is {3}: sound, and the cover of all items still has the number 5
+-- `final` with the node 7, which is {3}
 abbrev spare : List ℕ
 spare = 6 ∷ 2 ∷ 0 ∷ 1 ∷ 4 ∷ 0 ∷ 2 ∷ 1 ∷ 0 ∷ 3 ∷ 0 ∷ 4 ∷ 2 ∷ 0 ∷ 0 ∷ 2 ∷ 3 ∷ 0 ∷ 1 ∷ []
 
--- a cover that makes that node, fewer than the four branch nodes of its answer, does not meet its contract
+-- it is sound, the old nodes stand first, and 5 still holds the covers of all items
+spare-sound : (soundb (keysOf figure1) spare ≡ true) × (take 5 (nodesOf spare) ≡ nodesOf final) × (family (nodesOf spare) 5 ≡ covering figure1 63)
+unfolding holds insideb belowb size lowest lead done nodesOf capacity families family order allSets sets filter soundb keysFrom keysOf holders allInside
+    once covers covering
+spare-sound = (refl, refl, refl)
+
+-- but a cover that makes that node, fewer than the four branch nodes of its answer, does not meet its contract
 no-spare : CoverPost figure1 6 final 63 6 128 (report 5 6 1) spare → ⊥
 unfolding holds insideb without belowb size lowest lead done nodesOf capacity families family order allSets sets filter soundb eqSet elem starting
     others weight branchesTo branches eqFamily amongb fresh missing newBelow keysFrom keysOf holders allInside once covers covering fits down candidates
