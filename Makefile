@@ -5,6 +5,7 @@ CC ?= cc
 CFLAGS ?= -O2
 WARN = -std=c11 -Wall -Wextra -pedantic
 CARGO ?= cargo
+OBJCOPY ?= objcopy
 CALLS ?= 120000
 SEED ?= 1
 
@@ -12,14 +13,19 @@ build = target/c
 archive = target/staticlib/libcapi.a
 header = include/mogedorn.h
 
-.PHONY: lib install example stack test-rust bench words bucket clean-c
+.PHONY: lib install example stack test-rust bench picks words bucket clean-c
 
-# Proves the library and writes the archive.
+# Proves the library and writes the archive. Its functions are set to start at multiples of 64 bytes, for speed: see docs/PERFORMANCE.md.
+define write-archive
+rt staticlib capi
+$(OBJCOPY) --set-section-alignment '.text.*=64' $(archive)
+endef
+
 lib:
-	rt staticlib capi
+	$(write-archive)
 
 $(archive): crates.txt $(shell find crates -name '*.rt')
-	rt staticlib capi
+	$(write-archive)
 
 install: $(archive)
 	install -d $(DESTDIR)$(PREFIX)/include $(DESTDIR)$(PREFIX)/lib/pkgconfig
@@ -41,17 +47,24 @@ stack: $(build)/stack
 test-rust: $(archive)
 	MOGEDORN_LIB='$(abspath target/staticlib)' $(CARGO) run --quiet --release --manifest-path tests/rust/Cargo.toml --target-dir target/tests-rust -- $(SEED) $(CALLS)
 
-# Against the same algorithm in Rust, where libbrial-dev is installed against CUDD, and with OLD=ARCHIVE against an earlier archive.
+# The benchmarks. OLD is an earlier archive to stand beside this one; its functions and Rust's start at multiples of 64 bytes too.
+bench_run = MOGEDORN_LIB='$(abspath target/staticlib)' $(if $(OLD),MOGEDORN_OLD='$(abspath $(OLD))') RUSTFLAGS='-C llvm-args=-align-all-functions=6' $(CARGO) run --quiet --release --manifest-path bench/Cargo.toml --target-dir target/bench
+
+# Against the same algorithm in Rust, and where libbrial-dev is installed against CUDD.
 bench: $(archive)
-	$(if $(OLD),MOGEDORN_OLD='$(abspath $(OLD))') MOGEDORN_LIB='$(abspath target/staticlib)' $(CARGO) run --quiet --release --manifest-path bench/Cargo.toml --target-dir target/bench
+	$(bench_run)
+
+# What thousands of picks in a row cost, and of what.
+picks: $(archive)
+	$(bench_run) --bin picks
 
 # How many working words either, both and only want.
 words: $(archive)
-	MOGEDORN_LIB='$(abspath target/staticlib)' $(CARGO) run --quiet --release --manifest-path bench/Cargo.toml --target-dir target/bench --bin words
+	$(bench_run) --bin words
 
 # What a table costs whose nodes share one bucket of the index.
 bucket: $(archive)
-	MOGEDORN_LIB='$(abspath target/staticlib)' $(CARGO) run --quiet --release --manifest-path bench/Cargo.toml --target-dir target/bench --bin bucket
+	$(bench_run) --bin bucket
 
 $(build)/week: examples/week.c $(header) $(archive)
 	mkdir -p $(build)

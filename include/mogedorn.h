@@ -10,8 +10,8 @@
  *   - the thread has the stack that a call needs, see below.
  *
  * Ownership. Everything is lent for the time of the call. Nothing is kept, allocated or freed, and there is no state between calls but the table.
- * Threads. The entries are reentrant. Any number of calls may run at once on different tables; calls that only read (check, count, pick, place, cheapest)
- * may share a table, each with its own working words and page.
+ * Threads. The entries are reentrant. Any number of calls may run at once on different tables; calls that only read (check, count, measure, pick, place,
+ * cheapest) may share a table, each with its own working words and page.
  *
  * The arguments that most entries share, by document 01's names:
  *   m                        M, the number of items: 0 to 64
@@ -26,8 +26,8 @@
  *
  * Stack and time are not proved, only that every call ends. Stack: measured by `make stack`: each entry on a stack filled with a pattern, on inputs that make
  * it go deepest, the lowest changed byte counted; here rounded up. Lend a thread that much and what its own code takes. The recursion is bounded: by 64 items in
- * cover, by 512 packages in the others. Time: cover is bounded by its step limit; count, pick, place, cheapest, with and without go through the table; either,
- * both and only may take very long where too few words are lent for large answers, see there. A table made on purpose to fill one bucket of the node index is
+ * cover, by 512 packages in the others. Time: cover is bounded by its step limit; count, measure, pick, place, cheapest, with and without go through the table;
+ * either, both and only may take very long where too few words are lent for large answers, see there. A table made on purpose to fill one bucket of the node index is
  * checked in quadratic time: 65,534 nodes in 4.5 s.
  */
 #ifndef MOGEDORN_H
@@ -56,7 +56,7 @@ enum {
     MOGEDORN_SPENT = 9,            /* more steps than the limit, counted as if the table had no end */
     MOGEDORN_FULL = 10,            /* the answer's nodes that are not yet in the table outnumber the free places */
     MOGEDORN_UNCOUNTABLE = 11,     /* more than 18446744073709551615 timetables */
-    MOGEDORN_PAST_THE_END = 12,    /* pick of k at or above the count */
+    MOGEDORN_PAST_THE_END = 12,    /* pick or measure of k at or above the count */
     MOGEDORN_NOTHING = 13,         /* cheapest of 0 */
     MOGEDORN_ABSENT = 14,          /* place of a timetable not in the answer */
     MOGEDORN_SHORT_PAGE = 15,      /* the timetable is longer than the page; of read_bids: a buffer with fewer than N places */
@@ -80,7 +80,7 @@ typedef struct {
     uint32_t made;   /* nodes made, the growth of word 0: exactly those below the answer, its own included, that the table did not have */
 } mogedorn_report;
 
-/* Of count and place. */
+/* Of count, measure and place. */
 typedef struct {
     uint32_t refusal;
     uint64_t value;
@@ -136,6 +136,11 @@ mogedorn_report mogedorn_without(uint32_t m, const uint64_t *packages, size_t pa
 /* How many timetables the answer holds. At least answer + 1 working words. Refusals 1, 2, 4, 5, 8, 11. Stack: 265 KB. */
 mogedorn_number mogedorn_count(uint32_t m, const uint64_t *packages, size_t packages_len, const uint32_t *table, size_t table_len, uint32_t answer,
                                uint64_t *work, size_t work_len);
+
+/* How many packages the k-th timetable has, in listing order, from 0: what pick returns on a page with so many places or more; on a shorter one pick is
+   refused (15). At least answer + 1 working words. Refusals 1, 2, 4, 5, 8, 11, 12. Stack: 265 KB. */
+mogedorn_number mogedorn_measure(uint32_t m, const uint64_t *packages, size_t packages_len, const uint32_t *table, size_t table_len, uint32_t answer,
+                                 uint64_t k, uint64_t *work, size_t work_len);
 
 /* The k-th timetable in listing order, from 0, written to the page. At least answer + 1 working words. Refusals 1, 2, 4, 5, 8, 11, 12, 15.
    Stack: 265 KB. */

@@ -315,3 +315,91 @@ pub fn hand_combine(op: u8, m: u32, packs: &[u64], t: &mut [u32], a: u32, b: u32
     }
     r.ok_or(10)
 }
+
+/// What a question does first: the table is checked, and it knows the answer.
+fn opened(m: u32, packs: &[u64], t: &[u32], a: u32) -> Result<(), u32> {
+    let mut keys = [0; 512];
+    let mut index = Index([0; 131072]);
+    match admit(m, packs, t, &mut keys, &mut index) {
+        0 if a >= t[0] + 2 => Err(5),
+        0 => Ok(()),
+        r => Err(r),
+    }
+}
+
+/// A word for each number up to a: how many timetables, less one, at most the greatest word.
+fn counts(t: &[u32], a: usize, work: &mut [u64]) -> Result<u64, u32> {
+    if work.len() <= a {
+        return Err(8);
+    }
+    work[0] = 0;
+    if a == 0 {
+        return Ok(0);
+    }
+    work[1] = 0;
+    for k in 2..=a {
+        let w = 3 * k - 5;
+        let (lo, hi) = (t[w + 1] as usize, t[w + 2] as usize);
+        work[k] = if lo == 0 { work[hi] } else { work[hi].saturating_add(work[lo]).saturating_add(1) };
+    }
+    work[a].checked_add(1).ok_or(11)
+}
+
+/// The walk to the k-th timetable, whose packages are told on the way.
+fn walk(t: &[u32], a: usize, mut k: u64, work: &[u64], mut package: impl FnMut(u32)) {
+    let mut node = a;
+    while node != 1 {
+        let w = 3 * node - 5;
+        let hi = t[w + 2] as usize;
+        if k <= work[hi] {
+            package(t[w]);
+            node = hi;
+        } else {
+            k -= work[hi] + 1;
+            node = t[w + 1] as usize;
+        }
+    }
+}
+
+fn length(t: &[u32], a: usize, k: u64, work: &mut [u64]) -> Result<usize, u32> {
+    if counts(t, a, work)? <= k {
+        return Err(12);
+    }
+    let mut n = 0;
+    walk(t, a, k, work, |_| n += 1);
+    Ok(n)
+}
+
+#[inline(never)]
+pub fn hand_check(m: u32, packs: &[u64], t: &[u32]) -> u32 {
+    let mut keys = [0; 512];
+    let mut index = Index([0; 131072]);
+    admit(m, packs, t, &mut keys, &mut index)
+}
+
+#[inline(never)]
+pub fn hand_count(m: u32, packs: &[u64], t: &[u32], a: u32, work: &mut [u64]) -> Result<u64, u32> {
+    opened(m, packs, t, a)?;
+    counts(t, a as usize, work)
+}
+
+#[inline(never)]
+pub fn hand_measure(m: u32, packs: &[u64], t: &[u32], a: u32, k: u64, work: &mut [u64]) -> Result<usize, u32> {
+    opened(m, packs, t, a)?;
+    length(t, a as usize, k, work)
+}
+
+#[inline(never)]
+pub fn hand_pick(m: u32, packs: &[u64], t: &[u32], a: u32, k: u64, work: &mut [u64], page: &mut [u16]) -> Result<usize, u32> {
+    opened(m, packs, t, a)?;
+    let a = a as usize;
+    if page.len() < length(t, a, k, work)? {
+        return Err(15);
+    }
+    let mut n = 0;
+    walk(t, a, k, work, |p| {
+        page[n] = p as u16;
+        n += 1;
+    });
+    Ok(n)
+}

@@ -10,9 +10,11 @@ mod cudd;
 #[allow(dead_code)]
 mod ffi;
 mod hand;
+mod instances;
 #[cfg(old)]
 mod old;
 
+use instances::{instances, Instance};
 use std::cell::RefCell;
 use std::hint::black_box;
 use std::time::Instant;
@@ -22,49 +24,9 @@ const CALLS: [&str; 7] = ["cover", "either", "both", "only", "with", "without", 
 /// Packages of one instance that the rounds go through.
 const ROUNDS: usize = 6;
 
-struct Instance {
-    name: &'static str,
-    m: u32,
-    packs: Vec<u64>,
-    /// The timetables, by Table 1.
-    count: u64,
-    /// What is lent: the nodes that the table has room for, and the places of the memo, a prime.
-    nodes: usize,
-    places: usize,
-}
-
-impl Instance {
-    fn all(&self) -> u64 {
-        if self.m == 64 {
-            u64::MAX
-        } else {
-            (1 << self.m) - 1
-        }
-    }
-
-    /// The packages of the rounds, spread over all.
-    fn chosen(&self) -> impl Iterator<Item = usize> + '_ {
-        (0..ROUNDS).map(|i| i * self.packs.len() / ROUNDS)
-    }
-}
-
-fn instances() -> Vec<Instance> {
-    let bell = (1..512).collect();
-    let pairs = (0..1u64 << 18).filter(|x| x.count_ones() == 2).collect();
-    let mut dominoes = Vec::new();
-    for cell in 0..64 {
-        if cell % 8 < 7 {
-            dominoes.push(3 << cell);
-        }
-        if cell < 56 {
-            dominoes.push(257 << cell);
-        }
-    }
-    vec![
-        Instance { name: "bell-09", m: 9, packs: bell, count: 21147, nodes: 8192, places: 16381 },
-        Instance { name: "doublefact-17", m: 18, packs: pairs, count: 34459425, nodes: 65534, places: 65521 },
-        Instance { name: "domino.8.8", m: 64, packs: dominoes, count: 12988816, nodes: 8192, places: 16381 },
-    ]
+/// The packages of the rounds, spread over all.
+fn chosen(who: &Instance) -> impl Iterator<Item = usize> + '_ {
+    (0..ROUNDS).map(|i| i * who.packs.len() / ROUNDS)
 }
 
 /// The nanoseconds of one repetition, for each of CALLS (the rounds' calls on average), and the steps.
@@ -82,7 +44,7 @@ fn repetition<A: Copy + PartialEq>(
     let started = Instant::now();
     let (all, steps) = black_box(cover());
     times[0] = started.elapsed().as_nanos() as f64;
-    for p in who.chosen() {
+    for p in chosen(who) {
         let mut timed = |op: usize, a: A, b: A| {
             let started = Instant::now();
             let f = black_box(combine(op, a, b, p));

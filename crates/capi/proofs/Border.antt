@@ -10,11 +10,12 @@ use Rattle.exact_cover.specs.Problem.{Problem}
 use Rattle.statement.specs.declared.Soundness.{Soundness}
 use Rattle.statement.specs.declared.Counted.{Counted}
 use Rattle.statement.specs.declared.Picked.{Picked}
+use Rattle.statement.specs.declared.Measured.{Measured}
 use Rattle.statement.specs.declared.Placed.{Placed}
 use Rattle.statement.specs.declared.Priced.{Priced}
-use Rattle.statement.specs.Replies.{Reply, refused, soundnessReply, countReply, pickReply, placeReply, cheapestReply}
-use Rattle.statement.specs.Refusals.{checkRefusal, countRefusal, pickRefusal, placeRefusal, cheapestRefusal}
-use Rattle.statement.specs.Postconditions.{Makes, CheckPost, CountPost, PickPost, PlacePost, CheapestPost}
+use Rattle.statement.specs.Replies.{Reply, refused, soundnessReply, countReply, measureReply, pickReply, placeReply, cheapestReply}
+use Rattle.statement.specs.Refusals.{checkRefusal, countRefusal, measureRefusal, pickRefusal, placeRefusal, cheapestRefusal}
+use Rattle.statement.specs.Postconditions.{Makes, CheckPost, CountPost, MeasurePost, PickPost, PlacePost, CheapestPost}
 use Rattle.statement.proofs.TestLaws.{reply-refused}
 use Rattle.query.specs.Questions.{familyAt, nth, position, cost, cheapest}
 use Rattle.bids.specs.declared.Reading.{Reading}
@@ -24,7 +25,7 @@ use Rattle.capi.specs.declared.Report.{Report}
 use Rattle.capi.specs.declared.Number.{Number}
 use Rattle.capi.specs.declared.Timetable.{Timetable}
 use Rattle.capi.specs.declared.Bids.{Bids}
-use Rattle.capi.specs.Structs.{soundnessOf, reportOf, countedOf, pickedOf, placedOf, pricedOf, readingOf, Says, Shows}
+use Rattle.capi.specs.Structs.{soundnessOf, reportOf, countedOf, measuredOf, pickedOf, placedOf, pricedOf, readingOf, Says, Shows}
 
 -- x is `gives`, and the struct says so
 pub says-gives : {A : Type 0} {x y : Reply A} → x ≡ y → Says x y
@@ -66,6 +67,10 @@ shows-check {Q} {m} {t} r h p = record { result = h (checkRefusal Q m t) tt (p .
 
 pub shows-count : {Q : Problem} {m : ℕ} {t : List ℕ} {a w : ℕ} {e : Counted} (r : Number) → Says (countReply e) (countReply (countedOf r)) → CountPost Q m t a w e → CountPost Q m t a w (countedOf r)
 shows-count {Q} {m} {t} {a} {w} r h p = record { result = h (countRefusal Q m t a w) (length (familyAt t a)) (p .result) }
+
+pub shows-measure : {Q : Problem} {m : ℕ} {t : List ℕ} {a k w : ℕ} {e : Measured} (r : Number) → Says (measureReply e) (measureReply (measuredOf r))
+    → MeasurePost Q m t a k w e → MeasurePost Q m t a k w (measuredOf r)
+shows-measure {Q} {m} {t} {a} {k} {w} r h p = record { result = h (measureRefusal Q m t a k w) (length (nth (familyAt t a) k)) (p .result) }
 
 pub shows-pick : {Q : Problem} {m : ℕ} {t : List ℕ} {a k w : ℕ} {g g′ : List ℕ} {e : Picked} (r : Timetable) → Says (pickReply e) (pickReply (pickedOf r))
     → PickPost Q m t a k w g e g′ → PickPost Q m t a k w g (pickedOf r) g′

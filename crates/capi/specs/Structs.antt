@@ -13,6 +13,8 @@ use Rattle.statement.specs.declared.Counted.{Counted}
 use Rattle.statement.specs.declared.Counted.the-variants.{Count, Refused as CountedRefused}
 use Rattle.statement.specs.declared.Picked.{Picked}
 use Rattle.statement.specs.declared.Picked.the-variants.{Packages, Refused as PickedRefused}
+use Rattle.statement.specs.declared.Measured.{Measured}
+use Rattle.statement.specs.declared.Measured.the-variants.{Packages as MeasuredPackages, Refused as MeasuredRefused}
 use Rattle.statement.specs.declared.Placed.{Placed}
 use Rattle.statement.specs.declared.Placed.the-variants.{Place, Refused as PlacedRefused}
 use Rattle.statement.specs.declared.Priced.{Priced}
@@ -52,6 +54,13 @@ placeOf (suc n) k = PlacedRefused (suc n)
 
 abbrev pub placedOf : Number → Placed
 placedOf r = placeOf (r .refusal) (r .value)
+
+abbrev pub measureOf : (refusal value : ℕ) → Measured
+measureOf zero c = MeasuredPackages c
+measureOf (suc n) c = MeasuredRefused (suc n)
+
+abbrev pub measuredOf : Number → Measured
+measuredOf r = measureOf (r .refusal) (r .value)
 
 abbrev pub pickOf : (refusal packages : ℕ) → Picked
 pickOf zero c = Packages c

@@ -2,13 +2,14 @@
 // engine's call, of the answer that its struct stands for (specs/Structs), and none has a `requires`, since nothing checks a C caller.
 ghost use lib.ListN.{length};
 ghost use Rattle.exact_cover.specs.Problem.{problemOf};
-ghost use Rattle.statement.specs.Replies.{soundnessReply, countReply, pickReply, placeReply, cheapestReply};
-ghost use Rattle.statement.specs.Postconditions.{CheckPost, CountPost, PickPost, PlacePost, CheapestPost, CoverPost, EitherPost, BothPost, OnlyPost, WithPost, WithoutPost};
+ghost use Rattle.statement.specs.Replies.{soundnessReply, countReply, measureReply, pickReply, placeReply, cheapestReply};
+ghost use Rattle.statement.specs.Postconditions.{CheckPost, CountPost, MeasurePost, PickPost, PlacePost, CheapestPost, CoverPost, EitherPost, BothPost, OnlyPost, WithPost, WithoutPost};
 ghost use Rattle.bids.specs.Contract.{readReply, ReadPost};
-ghost use Rattle.capi.specs.Structs.{soundnessOf, engineReport, reportOf, countedOf, pickedOf, placedOf, pricedOf, readingOf, BlankReport};
+ghost use Rattle.capi.specs.Structs.{soundnessOf, engineReport, reportOf, countedOf, measuredOf, pickedOf, placedOf, pricedOf, readingOf, BlankReport};
 ghost use Rattle.capi.specs.Structs.{BlankNumber, BlankPick, BlankTimetable, BlankBids, Says, Shows};
 use bids::Reading;
 use statement::Counted;
+use statement::Measured;
 use statement::Outcome;
 use statement::Picked;
 use statement::Placed;
@@ -24,7 +25,7 @@ pub struct Report {
     pub made: u32,
 }
 
-// What count and place return.
+// What count, measure and place return.
 #[repr(C)]
 pub struct Number {
     pub refusal: u32,
@@ -95,6 +96,22 @@ fn counted(c: Counted) -> Number
             value: n,
         },
         Counted::Refused(n) => Number {
+            refusal: n as u32,
+            value: 0,
+        },
+    }
+}
+
+fn measured(p: Measured) -> Number
+    ensures { λ r. ⌜ Says (measureReply p) (measureReply (measuredOf r)) ⌝ }
+    ensures { λ r. ⌜ BlankNumber r ⌝ }
+{
+    match p {
+        Measured::Packages(n) => Number {
+            refusal: 0,
+            value: n as u64,
+        },
+        Measured::Refused(n) => Number {
             refusal: n as u32,
             value: 0,
         },
@@ -200,6 +217,22 @@ pub extern "C" fn mogedorn_count(
 {
     let c = engine::count(m, packages, t, answer, work);
     counted(c)
+}
+
+#[no_mangle]
+pub extern "C" fn mogedorn_measure(
+    m: u32,
+    packages: &[u64],
+    t: &[u32],
+    answer: u32,
+    k: u64,
+    work: &mut [u64],
+) -> Number
+    ensures { λ r. ⌜ MeasurePost (problemOf (now (packages .entry))) m (now (t .entry)) answer k (length (now (work .entry))) (measuredOf r) ⌝ }
+    ensures { λ r. ⌜ BlankNumber r ⌝ }
+{
+    let p = engine::measure(m, packages, t, answer, k, work);
+    measured(p)
 }
 
 #[no_mangle]

@@ -12,7 +12,7 @@ use Rattle.exact_cover.specs.Problem.{Problem}
 use Rattle.exact_cover.specs.Cover.{keysOf}
 use Rattle.exact_cover.proofs.Order.{length-keys}
 use Rattle.query.specs.Questions.{familyAt, nth, position, cost, cheapest, ascending, inPrecedence}
-use Rattle.query.specs.Reading.{Readable, Priceable}
+use Rattle.query.specs.Reading.{Readable, Priceable, Filled, countWord}
 use Rattle.query.specs.Answers.{Told, Wrote, PlaceFound, Bought}
 use Rattle.query.specs.declared.Tally.{Tally}
 use Rattle.query.specs.declared.Tally.the-variants.{Exactly, TooMany}
@@ -27,20 +27,23 @@ use Rattle.statement.specs.declared.Counted.{Counted}
 use Rattle.statement.specs.declared.Counted.the-variants.{Refused as CountRefused}
 use Rattle.statement.specs.declared.Picked.{Picked}
 use Rattle.statement.specs.declared.Picked.the-variants.{Refused as PickRefused}
+use Rattle.statement.specs.declared.Measured.{Measured}
+use Rattle.statement.specs.declared.Measured.the-variants.{Packages as MeasurePackages, Refused as MeasureRefused}
 use Rattle.statement.specs.declared.Placed.{Placed}
 use Rattle.statement.specs.declared.Placed.the-variants.{Refused as PlaceRefused}
 use Rattle.statement.specs.declared.Priced.{Priced}
 use Rattle.statement.specs.declared.Priced.the-variants.{Refused as PriceRefused}
 use Rattle.statement.specs.Replies.{gives, reply, countReply, pickReply, placeReply, cheapestReply}
 use Rattle.statement.specs.Refusals.{firstOf, packageTests, tableTests, unpriced, notTimetable, uncountable, pastEnd, absent, shortPage}
-use Rattle.statement.specs.Refusals.{countRefusal, pickRefusal, placeRefusal, cheapestRefusal}
-use Rattle.statement.specs.Postconditions.{CountPost, PickPost, PlacePost, CheapestPost}
+use Rattle.statement.specs.Refusals.{countRefusal, measureRefusal, pickRefusal, placeRefusal, cheapestRefusal}
+use Rattle.statement.specs.Postconditions.{CountPost, MeasurePost, PickPost, PlacePost, CheapestPost}
 use Rattle.statement.proofs.FirstOf.{pass, hit, none, passed, front, Numbered, behind}
 use Rattle.statement.proofs.Admission.{fit-passes, fit-of, fit-refused, table-passes}
 use Rattle.statement.proofs.TestLaws.{reply-refused, reply-gives, page-left, page-written, all-priced, not-priced, answer-known, answer-unknown, enough, too-few}
-use Rattle.statement.proofs.TestLaws.{countable, too-many, not-past, something, is-nothing, page-fits, page-short}
+use Rattle.statement.proofs.TestLaws.{countable, too-many, something, is-nothing, page-fits, page-short}
+use Rattle.statement.proofs.Measure.{pick-before, pick-last}
 use Rattle.engine.specs.Answers.{tallyReply, endRefusal, writtenReply, placedReply, cheapReply}
-use Rattle.engine.specs.Opened.{openTests, pricedTests, Opened}
+use Rattle.engine.specs.Opened.{openTests, pricedTests, Opened, OpenedAt}
 use Rattle.guard.specs.Admitted.{Usable, Admitted}
 use Rattle.guard.proofs.GuardLaws.{admit-refused}
 
@@ -121,60 +124,68 @@ module _ {Q : Problem} {m : ℕ} {t keys : List ℕ} {a words r : ℕ} (o : Open
         go (Exactly n) e = ap gives (e .0) ∙ reply-gives _ (so-far ∙ pass 11 _ (countable (familyAt t a) (e .1)) ∙ none)
         go TooMany e = reply-refused 11 _ (so-far ∙ hit 11 _ (too-many (familyAt t a) e)) (λ z. omega arith)
 
--- ---- pick
-
-pick-post : {Q : Problem} {m : ℕ} {t : List ℕ} {a k words : ℕ} {page : List ℕ} {r : ℕ} → pickRefusal Q m t a k words page ≡ r → (r ≡ 0 → ⊥)
-    → PickPost Q m t a k words page (PickRefused r) page
-pick-post {page = page} {r} e f = record { result = reply-refused r _ e f; pages = page-left r _ page e f }
+-- ---- the k-th timetable
 
 -- 11 and 12 do not apply
-pub below-end : (F : Family) (k : ℕ) (c : Tally) → Told c (length F) → endRefusal c k ≡ 0 → (length F ≤ 18446744073709551615) × (k < length F)
-below-end F k (Exactly n) d e = (d .1, omega (arith, leb-false n k (passed (leb n k) 11 [] e .0), d .0))
+below-end : (F : Family) (k : ℕ) (c : Tally) → Told c (length F) → endRefusal c k ≡ 0 → k < length F
+below-end F k (Exactly n) d e = omega (arith, leb-false n k (passed (leb n k) 11 [] e .0), d .0)
 below-end F k TooMany d e = absurd (omega arith)
 
-module _ {Q : Problem} {m : ℕ} {t keys : List ℕ} {a k words q : ℕ} {page : List ℕ} (o : Opened (openTests Q m t a) Q t keys a q) where
-  pub pick-refused : (q ≡ 0 → ⊥) → PickPost Q m t a k words page (PickRefused q) page
-  unfolding pickRefusal
-  pick-refused f = pick-post (refused-by o _ f) f
+module _ {Q : Problem} {m : ℕ} {t keys : List ℕ} {a k words q : ℕ} {w : List ℕ} (o : Opened (openTests Q m t a) Q t keys a q) where
+  pub at-refused : (q ≡ 0 → ⊥) → OpenedAt Q m t a k words w q
+  unfolding measureRefusal
+  at-refused f = record { says = sym (refused-by o _ f); ready = λ z. absurd (f z) }
 
-  pub pick-words : q ≡ 0 → words ≤ a → PickPost Q m t a k words page (PickRefused 8) page
-  unfolding pickRefusal
-  pick-words ok h = pick-post (passed-by o _ tt ok ∙ hit 8 _ (too-few (a + 1) words (omega arith))) (λ z. omega arith)
+  module _ (ok : q ≡ 0) where
+    pub at-words : words ≤ a → OpenedAt Q m t a k words w 8
+    unfolding measureRefusal
+    at-words h = record { says = sym (passed-by o _ tt ok ∙ hit 8 _ (too-few (a + 1) words (omega arith))); ready = λ z. absurd (omega arith) }
 
-  module _ (ok : q ≡ 0) (room : a < words) (c : Tally) (told : Told c (length (familyAt t a))) where
-    pub pick-end : {r : ℕ} → r ≡ endRefusal c k → (r ≡ 0 → ⊥) → PickPost Q m t a k words page (PickRefused r) page
-    unfolding pickRefusal pastEnd
-    pick-end {r} e f = pick-post (passed-by o _ tt ok ∙ pass 8 _ (enough (a + 1) words (omega arith)) ∙ go c told e) f
+    pub at-counted : {r : ℕ} → a < words → (c : Tally) → Told c (length (familyAt t a)) → Filled (countWord t) (a + 1) w → r ≡ endRefusal c k → OpenedAt Q m t a k words w r
+    unfolding measureRefusal pastEnd
+    at-counted room c told filled e = record {
+      says = e ∙ sym (passed-by o _ tt ok ∙ pass 8 _ (enough (a + 1) words (omega arith)) ∙ go c told);
+      ready = λ z. record {
+        readable = readable (o .ready ok .usable);
+        known = o .ready ok .known;
+        inside = below-end (familyAt t a) k c told (sym e ∙ z);
+        counted = filled;
+      };
+    }
       where
-        go : (c : Tally) → Told c (length (familyAt t a)) → r ≡ endRefusal c k
-            → firstOf ((uncountable (familyAt t a), 11) ∷ (pastEnd (familyAt t a) k, 12) ∷ (shortPage page (nth (familyAt t a) k), 15) ∷ []) ≡ r
-        go (Exactly n) d e =
-            let F : Family = familyAt t a in
-            let z : r ≡ firstOf ((leb (length F) k, 12) ∷ []) = e ∙ rw (d .0) in
-            pass 11 _ (countable F (d .1)) ∙ front ((leb (length F) k, 12) ∷ []) _ (λ y. f (z ∙ y)) ∙ sym z
-        go TooMany d e = hit 11 _ (too-many (familyAt t a) d) ∙ sym e
+        go : (c : Tally) → Told c (length (familyAt t a)) → firstOf ((uncountable (familyAt t a), 11) ∷ (pastEnd (familyAt t a) k, 12) ∷ []) ≡ endRefusal c k
+        go (Exactly n) d = pass 11 _ (countable (familyAt t a) (d .1)) ∙ ap (λ (i : ℕ). firstOf ((leb i k, 12) ∷ [])) (sym (d .0))
+        go TooMany d = hit 11 _ (too-many (familyAt t a) d)
 
-    pub pick-delivers : {page′ : List ℕ} → endRefusal c k ≡ 0 → (x : Picked) (w : Written) → pickReply x ≡ writtenReply w
-        → Wrote (nth (familyAt t a) k) page page′ w → PickPost Q m t a k words page x page′
-    unfolding pickRefusal
-    pick-delivers {page′} e x w d p = go w d p
-      where
-        s : List ℕ
-        s = nth (familyAt t a) k
+-- ---- measure and pick
 
-        so-far : pickRefusal Q m t a k words page ≡ firstOf ((shortPage page s, 15) ∷ [])
-        so-far =
-            let i = below-end (familyAt t a) k c told e in
-            passed-by o _ tt ok ∙ pass 8 _ (enough (a + 1) words (omega arith)) ∙ pass 11 _ (countable (familyAt t a) (i .0))
-            ∙ pass 12 _ (not-past (familyAt t a) k (i .1))
+module _ {Q : Problem} {m : ℕ} {t : List ℕ} {a k words r : ℕ} {w : List ℕ} (o : OpenedAt Q m t a k words w r) where
+  pub measure-refused : (r ≡ 0 → ⊥) → MeasurePost Q m t a k words (MeasureRefused r)
+  measure-refused f = record { result = reply-refused r _ (sym (o .says)) f }
 
-        go : (w : Written) → pickReply x ≡ writtenReply w → Wrote (nth (familyAt t a) k) page page′ w → PickPost Q m t a k words page x page′
-        go (Packages n) d p =
-            let z : pickRefusal Q m t a k words page ≡ 0 = so-far ∙ pass 15 _ (page-fits page s (p .1)) ∙ none in
-            record { result = d ∙ ap gives (p .0) ∙ reply-gives (length s) z; pages = p .2 ∙ page-written s page z }
-        go Short d p =
-            let z : pickRefusal Q m t a k words page ≡ 15 = so-far ∙ hit 15 _ (page-short page s (p .0)) in
-            record { result = d ∙ reply-refused 15 _ z (λ y. omega arith); pages = p .1 ∙ page-left 15 s page z (λ y. omega arith) }
+  pub measure-delivers : {n : ℕ} → r ≡ 0 → n ≡ length (nth (familyAt t a) k) → MeasurePost Q m t a k words (MeasurePackages n)
+  measure-delivers ok e = record { result = ap gives e ∙ reply-gives _ (sym (o .says) ∙ ok) }
+
+  pub pick-refused : {page : List ℕ} → (r ≡ 0 → ⊥) → PickPost Q m t a k words page (PickRefused r) page
+  pick-refused {page} f = let e = pick-before Q m t a k words page (sym (o .says)) f in record { result = reply-refused r _ e f; pages = page-left r _ page e f }
+
+  pub pick-delivers : {page page′ : List ℕ} → r ≡ 0 → (x : Picked) (w : Written) → pickReply x ≡ writtenReply w
+      → Wrote (nth (familyAt t a) k) page page′ w → PickPost Q m t a k words page x page′
+  pick-delivers {page} {page′} ok x w d p = go w d p
+    where
+      s : List ℕ
+      s = nth (familyAt t a) k
+
+      so-far : pickRefusal Q m t a k words page ≡ firstOf ((shortPage page s, 15) ∷ [])
+      so-far = pick-last Q m t a k words page (sym (o .says) ∙ ok)
+
+      go : (w : Written) → pickReply x ≡ writtenReply w → Wrote (nth (familyAt t a) k) page page′ w → PickPost Q m t a k words page x page′
+      go (Packages n) d p =
+          let z : pickRefusal Q m t a k words page ≡ 0 = so-far ∙ pass 15 _ (page-fits page s (p .1)) ∙ none in
+          record { result = d ∙ ap gives (p .0) ∙ reply-gives (length s) z; pages = p .2 ∙ page-written s page z }
+      go Short d p =
+          let z : pickRefusal Q m t a k words page ≡ 15 = so-far ∙ hit 15 _ (page-short page s (p .0)) in
+          record { result = d ∙ reply-refused 15 _ z (λ y. omega arith); pages = p .1 ∙ page-left 15 s page z (λ y. omega arith) }
 
 -- ---- place
 

@@ -4,9 +4,12 @@ use mathlib.Core.Path.{_≡_}
 use mathlib.Core.Bool.{Bool}
 use mathlib.Core.List.{List, [], _∷_}
 use Prim.Native.Nat.{ℕ, _+_, _<_}
+use lib.ListN.{length}
 use Rattle.zdd.specs.Table.{count}
 use Rattle.exact_cover.specs.Problem.{Problem}
-use Rattle.statement.specs.Refusals.{firstOf, packageTests, unpriced, unsound, unknownAnswer}
+use Rattle.query.specs.Questions.{familyAt}
+use Rattle.query.specs.Reading.{Readable, Filled, countWord}
+use Rattle.statement.specs.Refusals.{firstOf, packageTests, unpriced, unsound, unknownAnswer, measureRefusal}
 use Rattle.guard.specs.Admitted.{Usable}
 
 -- refusals 4 and 5
@@ -35,3 +38,17 @@ pub record Opened (ts : List (Bool × ℕ)) (Q : Problem) (t keys : List ℕ) (a
 -- by those of cheapest
 abbrev pub OpenedPriced : (Q : Problem) (m : ℕ) (C t keys : List ℕ) (a r : ℕ) → Type 0
 OpenedPriced Q m C t keys a = Opened (pricedTests Q m C t a) Q t keys a
+
+-- ---- the k-th timetable of the answer
+
+-- it can be walked to: the table is good and knows the answer, there is a k-th, and the working words w have the counts
+pub record Reachable (t : List ℕ) (a k : ℕ) (w : List ℕ) : Type 0 where
+  pub readable : Readable t
+  pub known : a < count t + 2
+  pub inside : k < length (familyAt t a)
+  pub counted : Filled (countWord t) (a + 1) w
+
+-- r is the refusal by the tests of measure; where it is 0, none, the k-th timetable can be walked to
+pub record OpenedAt (Q : Problem) (m : ℕ) (t : List ℕ) (a k words : ℕ) (w : List ℕ) (r : ℕ) : Type 0 where
+  pub says : r ≡ measureRefusal Q m t a k words
+  pub ready : r ≡ 0 → Reachable t a k w

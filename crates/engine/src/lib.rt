@@ -8,10 +8,10 @@ ghost use lib.ListN.{length};
 ghost use Rattle.zdd.specs.Table.{count as nodes};
 ghost use Rattle.exact_cover.specs.Problem.{problemOf};
 ghost use Rattle.statement.specs.Replies.{countReply, pickReply, placeReply, cheapestReply};
-ghost use Rattle.statement.specs.Postconditions.{CheckPost, CountPost, PickPost, PlacePost, CheapestPost};
+ghost use Rattle.statement.specs.Postconditions.{CheckPost, CountPost, MeasurePost, PickPost, PlacePost, CheapestPost};
 ghost use Rattle.statement.specs.Postconditions.{AnswerPost, CoverPost, EitherPost, BothPost, OnlyPost, WithPost, WithoutPost};
 ghost use Rattle.engine.specs.Answers.{tallyReply, endRefusal, writtenReply, placedReply, cheapReply};
-ghost use Rattle.engine.specs.Opened.{openTests, Opened, OpenedPriced};
+ghost use Rattle.engine.specs.Opened.{openTests, Opened, OpenedAt, OpenedPriced};
 ghost use Rattle.engine.specs.Reports.{Reported, pairCall, partCall};
 use query::Cheap;
 use query::Spot;
@@ -19,6 +19,7 @@ use query::Tally;
 use query::Written;
 use statement::Call;
 use statement::Counted;
+use statement::Measured;
 use statement::Outcome;
 use statement::Picked;
 use statement::Placed;
@@ -97,6 +98,42 @@ fn past_end(c: Tally, k: u64) -> u8
     }
 }
 
+// Refusal 1, 2, 4, 5, 8, 11 or 12 of a call for the k-th timetable; 0 where none applies, and then the words have the counts that the walks go by.
+fn opened_at(m: u32, packages: &[u64], t: &[u32], answer: u32, k: u64, work: &mut [u64]) -> u8
+    ensures { λ r. ⌜ OpenedAt (problemOf (now (packages .entry))) m (now (t .entry)) answer k (length (now (work .entry))) (now (work .exit)) r ⌝ }
+{
+    let mut keys = [0u32; 512];
+    let r = opened(m, packages, t, answer, &mut keys);
+    if r != 0 {
+        return r;
+    }
+    let a = base::wide(answer);
+    if work.len() <= a {
+        return 8;
+    }
+    let c = query::count(t, a, work);
+    past_end(c, k)
+}
+
+// How many packages the k-th timetable of the answer has: the first walk of `pick`.
+pub fn measure(
+    m: u32,
+    packages: &[u64],
+    t: &[u32],
+    answer: u32,
+    k: u64,
+    work: &mut [u64],
+) -> Measured
+    ensures { λ r. ⌜ MeasurePost (problemOf (now (packages .entry))) m (now (t .entry)) answer k (length (now (work .entry))) r ⌝ }
+{
+    let r = opened_at(m, packages, t, answer, k, work);
+    if r != 0 {
+        return Measured::Refused(r);
+    }
+    let a = base::wide(answer);
+    Measured::Packages(query::measure(t, a, k, work))
+}
+
 fn picked(w: Written) -> Picked
     ensures { λ r. ⌜ pickReply r ≡ writtenReply w ⌝ }
 {
@@ -106,7 +143,7 @@ fn picked(w: Written) -> Picked
     }
 }
 
-// The k-th timetable of the answer, to the start of the page.
+// The k-th timetable of the answer, to the start of the page: one walk measures it, and where the page is long enough a second writes it.
 pub fn pick(
     m: u32,
     packages: &[u64],
@@ -118,20 +155,11 @@ pub fn pick(
 ) -> Picked
     ensures { λ r. ⌜ PickPost (problemOf (now (packages .entry))) m (now (t .entry)) answer k (length (now (work .entry))) (now (page .entry)) r (now (page .exit)) ⌝ }
 {
-    let mut keys = [0u32; 512];
-    let r = opened(m, packages, t, answer, &mut keys);
+    let r = opened_at(m, packages, t, answer, k, work);
     if r != 0 {
         return Picked::Refused(r);
     }
     let a = base::wide(answer);
-    if work.len() <= a {
-        return Picked::Refused(8);
-    }
-    let c = query::count(t, a, work);
-    let past = past_end(c, k);
-    if past != 0 {
-        return Picked::Refused(past);
-    }
     let w = query::pick(t, a, k, work, page);
     picked(w)
 }

@@ -20,10 +20,11 @@ use Rattle.exact_cover.specs.Problem.{Problem}
 use Rattle.exact_cover.specs.Cover.{keysOf}
 use Rattle.statement.specs.declared.Report.{Report}
 use Rattle.statement.specs.declared.Picked.{Picked}
-use Rattle.statement.specs.Replies.{Reply, refused, gives, reply, outcomeReply}
+use Rattle.statement.specs.declared.Measured.{Measured}
+use Rattle.statement.specs.Replies.{Reply, refused, gives, reply, outcomeReply, measureReply}
 use Rattle.query.specs.Questions.{familyAt, nth}
 use Rattle.statement.specs.Refusals.{firstOf, Fit, unsound, unknownAnswer, shortWork, uncountable, pastEnd, shortPage, pickRefusal}
-use Rattle.statement.specs.Postconditions.{Answered, PickPost, written}
+use Rattle.statement.specs.Postconditions.{Answered, PickPost, MeasurePost, written}
 use Rattle.statement.specs.declared.Call.{Call}
 use Rattle.statement.specs.declared.Call.the-variants.{Cover, Either, Both, Only, With, Without}
 use Rattle.statement.specs.Calls.{operands, familyOf, stepsOf}
@@ -31,6 +32,8 @@ use Rattle.history.specs.Histories.{Entry, Step, Calls, give, given, All
 use Rattle.history.specs.Histories.{noTimetable, emptyTimetable, makes, Posting, latest, post, ledger, countIn, answeredWith, Returns, Refuses, Demand3}
 use Rattle.statement.proofs.FirstOf.{pass, hit, none}
 use Rattle.statement.proofs.Admission.{table-passes}
+use Rattle.statement.proofs.TestLaws.{answer-known, countable}
+use Rattle.statement.proofs.Measure.{measure-lists}
 use Rattle.statement.proofs.Kept.{keeps, grows}
 use Rattle.history.proofs.Contract.{refusalOf, made, made-family, fit-call, gives-one, no-refusal, refusal}
 
@@ -261,5 +264,20 @@ module _ (Q : Problem) (h : Calls) (t : List ℕ) (G : Agree Q h t) where
           (subst⁻¹ (λ (G : Family). length G ≤ 18446744073709551615) e c)
           ∙ ap (λ (G : Family). firstOf ((pastEnd G k, 12) ∷ (shortPage page (nth G k), 15) ∷ [])) e
 
+  measures : (p : Posting) → p ∈ ledger Q h → length (listing Q (p .set)) ≤ 18446744073709551615
+      → (m : ℕ) → m ∈ answeredWith h → (words : ℕ) → p .number + 1 ≤ words
+      → (k : ℕ) (r : Measured) → MeasurePost Q m t (p .number) k words r
+      → (k < length (listing Q (p .set)) → measureReply r ≡ gives (length (nth (listing Q (p .set)) k)))
+      × (length (listing Q (p .set)) ≤ k → measureReply r ≡ refused 12)
+  unfolding Posted unsound
+  measures p i c m j words w k r M =
+      subst (λ (F : Family). (k < length F → measureReply r ≡ gives (length (nth F k))) × (length F ≤ k → measureReply r ≡ refused 12)) (G .each p i .1)
+      (measure-lists (record {
+        fit = G .fit m j .0;
+        sound = ap not (G .fit m j .1);
+        known = answer-known t (p .number) (G .each p i .0);
+        counted = countable (familyAt t (p .number)) (subst⁻¹ (λ (F : Family). length F ≤ 18446744073709551615) (G .each p i .1) c);
+      }) w M)
+
 pub demand3 : Demand3
-demand3 Q h t H = let G = agree Q H in record { numbers = numbers Q h t G; picks = picks Q h t G }
+demand3 Q h t H = let G = agree Q H in record { numbers = numbers Q h t G; picks = picks Q h t G; measures = measures Q h t G }

@@ -1,4 +1,4 @@
--- The contracts can be met: a history of six calls on Figure 1, and a pick on the table that it leaves, each field by computation; and what the third
+-- The contracts can be met: a history of six calls on Figure 1, and a pick and a measure on the table that it leaves, each field by computation; and what the third
 -- demand and `no-spare-node` say of it. A table with a spare node does not meet them. Assumes nothing.
 use mathlib.Core.Path.{_≡_, refl, ap, _∙_}
 use mathlib.Core.Logic.{_⊎_, inl, inr}
@@ -18,14 +18,15 @@ use Rattle.exact_cover.specs.Steps.{each, visit, steps}
 use Rattle.statement.specs.declared.Report.{Report}
 use Rattle.statement.specs.declared.Outcome.the-variants.{Answer, Refused}
 use Rattle.statement.specs.declared.Picked.the-variants.{Packages}
-use Rattle.statement.specs.Refusals.{firstOf, oversize, strayIn, stray, unsound, unknownAnswer, unknownItem, shortWork, spent, full, uncountable, pastEnd, shortPage, pickRefusal}
+use Rattle.statement.specs.declared.Measured.the-variants.{Packages as MeasuredPackages}
+use Rattle.statement.specs.Refusals.{firstOf, oversize, strayIn, stray, unsound, unknownAnswer, unknownItem, shortWork, spent, full, uncountable, pastEnd, shortPage, pickRefusal, measureRefusal}
 use Rattle.statement.specs.Calls.{callRefusal}
 use Rattle.statement.specs.declared.Call.the-variants.{Cover, Only, With, Without}
 use Rattle.exact_cover.specs.Problem.{lead, done}
 use Rattle.query.specs.Questions.{unknownPackage}
-use Rattle.statement.specs.Postconditions.{CoverPost, WithPost, WithoutPost, OnlyPost, PickPost}
+use Rattle.statement.specs.Postconditions.{CoverPost, WithPost, WithoutPost, OnlyPost, PickPost, MeasurePost}
 use Rattle.history.specs.Histories.{entry, Calls, given, History, start, next, SameSet, Posting, noTimetable, ledger, Returns, Demanded, Needed}
-use Rattle.statement.specs.Replies.{gives}
+use Rattle.statement.specs.Replies.{gives, measureReply}
 use Rattle.history.proofs.Contract.{gives-one}
 use Rattle.history.proofs.Demand.{demand3}
 use Rattle.history.proofs.Spare.{no-spare-node}
@@ -175,6 +176,18 @@ unfolding holds insideb belowb size lowest lead done order allSets sets filter k
 second-of-five =
     demanded .picks (posting 0) (posted 0 (omega arith)) (omega arith) 6 (List·Memᴰ·head refl) 6 (omega arith) 1
     (7 ∷ 7 ∷ 7 ∷ 7 ∷ []) (Packages 3) (1 ∷ 4 ∷ 2 ∷ 7 ∷ []) picked .0 (omega arith) (omega arith)
+
+-- measured, with no page
+measured : MeasurePost figure1 6 final 5 1 6 (MeasuredPackages 3)
+unfolding holds insideb belowb lowest lead done nodesOf capacity families family soundb keysFrom keysOf firstOf oversize strayIn stray unsound
+    unknownAnswer shortWork uncountable pastEnd measureRefusal
+measured = record { result = refl }
+
+three-packages : measureReply (MeasuredPackages 3) ≡ gives (length {A = ℕ} (1 ∷ 4 ∷ 2 ∷ []))
+unfolding holds insideb belowb size lowest lead done order allSets sets filter keysFrom keysOf holders allInside once covers
+three-packages =
+    demanded .measures (posting 0) (posted 0 (omega arith)) (omega arith) 6 (List·Memᴰ·head refl) 6 (omega arith) 1
+    (MeasuredPackages 3) measured .0 (omega arith)
 
 -- ---- the nodes of the table: below the answer 5 are 2, 3, 4 and 5, below 6 are 2 and 6
 

@@ -15,10 +15,11 @@ use Rattle.statement.specs.declared.Call.{Call}
 use Rattle.statement.specs.declared.Call.the-variants.{Cover, Either, Both, Only, With, Without}
 use Rattle.statement.specs.declared.Report.{Report}
 use Rattle.statement.specs.declared.Picked.{Picked}
-use Rattle.statement.specs.Replies.{Reply, refused, gives, outcomeReply, pickReply}
+use Rattle.statement.specs.declared.Measured.{Measured}
+use Rattle.statement.specs.Replies.{Reply, refused, gives, outcomeReply, pickReply, measureReply}
 use Rattle.query.specs.Questions.{nth}
 use Rattle.statement.specs.Calls.{operands}
-use Rattle.statement.specs.Postconditions.{AnswerPost, PickPost}
+use Rattle.statement.specs.Postconditions.{AnswerPost, PickPost, MeasurePost}
 
 -- ---- calls
 
@@ -141,6 +142,12 @@ pub record Demanded (Q : Problem) (h : Calls) (t : List ℕ) : Type 0 where
       → (k : ℕ) (page : List ℕ) (r : Picked) (page′ : List ℕ) → PickPost Q m t (p .number) k words page r page′
       → (k < length (listing Q (p .set)) → length (nth (listing Q (p .set)) k) ≤ length page → Returns (nth (listing Q (p .set)) k) page r page′)
       × (length (listing Q (p .set)) ≤ k → Refuses 12 page r page′)
+  -- and measure gives how many packages the k-th has for each k below their count, and 12 for each other k
+  pub measures : (p : Posting) → p ∈ ledger Q h → length (listing Q (p .set)) ≤ 18446744073709551615
+      → (m : ℕ) → m ∈ answeredWith h → (words : ℕ) → p .number + 1 ≤ words
+      → (k : ℕ) (r : Measured) → MeasurePost Q m t (p .number) k words r
+      → (k < length (listing Q (p .set)) → measureReply r ≡ gives (length (nth (listing Q (p .set)) k)))
+      × (length (listing Q (p .set)) ≤ k → measureReply r ≡ refused 12)
 
 abbrev pub Demand3 : Type 0
 Demand3 = (Q : Problem) (h : Calls) (t : List ℕ) → History Q h t → Demanded Q h t

@@ -78,10 +78,12 @@ fn count_word(t: &[u32], k: usize, work: &[u64]) -> u64
     }
     let h = hi(t, k);
     let l = lo(t, k);
+    let x = work[h];
+    let y = work[l];
     if l == 0 {
-        return work[h];
+        return x;
     }
-    plus(work[h], work[l])
+    plus(x, y)
 }
 
 // A word for each number up to a: how many sets it holds, less one, at most the greatest word.
@@ -118,7 +120,7 @@ pub fn count(t: &[u32], a: usize, work: &mut [u64]) -> Tally
 }
 
 // How many packages the k-th set of number a has: down from a, by hi where the set is among hi's, until 1.
-fn measure(t: &[u32], a: usize, k: u64, work: &[u64]) -> usize
+pub fn measure(t: &[u32], a: usize, k: u64, work: &[u64]) -> usize
     requires { ⌜ Readable (now t) ⌝ }
     requires { ⌜ (a < nodes (now t) + 2) × (k < length (familyAt (now t) a)) ⌝ }
     requires { ⌜ Filled (countWord (now t)) (a + 1) (now work) ⌝ }
@@ -172,7 +174,7 @@ fn write(t: &[u32], a: usize, k: u64, work: &[u64], page: &mut [u16]) -> usize
     }
 }
 
-// The k-th set of number a, to the start of the page.
+// The k-th set of number a, to the start of the page: measured first, and written only where it fits.
 pub fn pick(t: &[u32], a: usize, k: u64, work: &[u64], page: &mut [u16]) -> Written
     requires { ⌜ Readable (now t) ⌝ }
     requires { ⌜ (a < nodes (now t) + 2) × (k < length (familyAt (now t) a)) ⌝ }

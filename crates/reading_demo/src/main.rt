@@ -5,20 +5,21 @@
 // holds all 2^(j - 1) subsets of the last j - 1 packages, and number 67 + i the 2^i - 1 non-empty ones of the last i, for i from 1 to 65.
 ghost use Prim.Native.Nat.{_≤_};
 use statement::Counted;
+use statement::Measured;
 use statement::Picked;
 use statement::Placed;
 use statement::Priced;
 
-// The texts, one after the other: the calls by their numbers, 0 to 3, and three more.
-const TEXTS: [u8; 41] = *b"countpickplacecheapest refused cost; page";
+// The texts, one after the other: the calls by their numbers, 0 to 4, and three more.
+const TEXTS: [u8; 48] = *b"countpickplacecheapestmeasure refused cost; page";
 
-const STARTS: [usize; 8] = [0, 5, 9, 14, 22, 30, 35, 41];
+const STARTS: [usize; 9] = [0, 5, 9, 14, 22, 29, 37, 42, 48];
 
-const REFUSED: usize = 4;
+const REFUSED: usize = 5;
 
-const COST: usize = 5;
+const COST: usize = 6;
 
-const PAGE: usize = 6;
+const PAGE: usize = 7;
 
 // The lesser of the two.
 fn least(x: usize, y: usize) -> usize
@@ -33,8 +34,8 @@ fn least(x: usize, y: usize) -> usize
 fn text(i: usize) {
     let s = TEXTS;
     let starts = STARTS;
-    let n = i % 7;
-    let b = least(starts[n + 1], 41);
+    let n = i % 8;
+    let b = least(starts[n + 1], 48);
     let a = least(starts[n], b);
     io::write_all(1, &s[a..b]);
 }
@@ -61,6 +62,13 @@ fn tell_counted(r: Counted) {
     match r {
         Counted::Count(n) => number(n),
         Counted::Refused(n) => refused(n),
+    }
+}
+
+fn tell_measured(r: Measured) {
+    match r {
+        Measured::Packages(n) => number(n as u64),
+        Measured::Refused(n) => refused(n),
     }
 }
 
@@ -102,8 +110,8 @@ fn numbers(list: [u16; 66], n: usize) {
 // ---- the cases
 
 // A row, by its digits: the call; the table (0 the figure's, 1 a spoilt one, 2 the chains); M; the answer; the working words; the length of the page; and
-// of pick which of KS, of place how many packages and these, of cheapest how many costs and which of COSTS.
-const CASES: [u64; 71] = [
+// of pick and measure which of KS, of place how many packages and these, of cheapest how many costs and which of COSTS.
+const CASES: [u64; 87] = [
     // Count: each known number with the least words; then each refusal, where those behind it apply too.
     0_0_06_000_001_00_0_00_00_00,
     0_0_06_001_002_00_0_00_00_00,
@@ -130,6 +138,17 @@ const CASES: [u64; 71] = [
     1_0_06_000_006_00_0_00_00_00,
     1_0_06_005_006_02_0_00_00_01,
     1_0_06_005_006_01_0_00_00_00,
+    // Measure: the same, but for the page.
+    4_0_06_005_006_00_0_00_00_00,
+    4_0_06_005_006_00_0_00_00_01,
+    4_0_06_001_002_00_0_00_00_00,
+    4_1_65_006_000_00_0_00_00_02,
+    4_1_05_006_000_00_0_00_00_02,
+    4_1_06_006_000_00_0_00_00_02,
+    4_0_06_006_000_00_0_00_00_02,
+    4_0_06_005_005_00_0_00_00_02,
+    4_0_06_005_006_00_0_00_00_02,
+    4_0_06_000_006_00_0_00_00_00,
     // Place.
     2_0_06_005_006_00_2_00_02_00,
     2_0_06_005_006_00_3_01_04_02,
@@ -176,6 +195,12 @@ const CASES: [u64; 71] = [
     1_2_64_131_132_01_0_00_00_05,
     1_2_64_131_132_00_0_00_00_06,
     1_2_64_065_066_00_0_00_00_00,
+    4_2_64_131_132_00_0_00_00_00,
+    4_2_64_131_132_00_0_00_00_03,
+    4_2_64_131_132_00_0_00_00_04,
+    4_2_64_131_132_00_0_00_00_05,
+    4_2_64_131_132_00_0_00_00_06,
+    4_2_64_065_066_00_0_00_00_00,
     2_2_64_131_132_00_1_02_00_00,
     2_2_64_131_132_00_1_65_00_00,
     2_2_64_131_132_00_0_00_00_00,
@@ -211,7 +236,7 @@ struct Case {
 }
 
 fn row(i: usize) -> Case {
-    let x = CASES[i % 71];
+    let x = CASES[i % 87];
     Case {
         call: (x / 1000000000000000000 % 10) as usize,
         table: (x / 100000000000000000 % 10) as usize,
@@ -247,6 +272,15 @@ fn count(packages: &[u64], t: &[u32], c: Case) {
     let r = engine::count(c.m, packages, t, c.answer, &mut work[0..words]);
     mark(b':');
     tell_counted(r);
+}
+
+fn measure(packages: &[u64], t: &[u32], c: Case, k: u64) {
+    number(k);
+    mark(b':');
+    let words = least(c.words, 264);
+    let mut work = [7u64; 264];
+    let r = engine::measure(c.m, packages, t, c.answer, k, &mut work[0..words]);
+    tell_measured(r);
 }
 
 fn page_after(page: [u16; 66]) {
@@ -315,7 +349,10 @@ fn ask(packages: &[u64], t: &[u32], c: Case) {
     if c.call == 2 {
         return place(packages, t, c, list(c.rest));
     }
-    cheapest(packages, t, c, costs(c.rest))
+    if c.call == 3 {
+        return cheapest(packages, t, c, costs(c.rest));
+    }
+    measure(packages, t, c, key(c.rest))
 }
 
 // ---- the tables
@@ -377,7 +414,7 @@ fn run(c: Case) {
 
 fn main() {
     let mut i: usize = 0;
-    while i < 71 {
+    while i < 87 {
         run(row(i));
         mark(b'\n');
         i += 1;

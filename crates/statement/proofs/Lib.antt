@@ -6,6 +6,7 @@ pub mod Kept
 pub mod Made
 pub mod Determined
 pub mod Undo
+pub mod Measure
 pub mod Counts
 pub mod Cheapest
 pub mod Full

@@ -82,6 +82,10 @@ pub too-many : (F : Family) → 18446744073709551615 < length F → uncountable 
 unfolding uncountable
 too-many F h = lt-ltb 18446744073709551615 (length F) h
 
+pub is-past : (F : Family) (k : ℕ) → length F ≤ k → pastEnd F k ≡ true
+unfolding pastEnd
+is-past F k h = le-leb (length F) k h
+
 pub not-past : (F : Family) (k : ℕ) → k < length F → pastEnd F k ≡ false
 unfolding pastEnd
 not-past F k h = lt-leb (length F) k h

@@ -138,7 +138,7 @@ placed-ready Q m t a s words e =
     (record { fit = a2 .0; sound = a4 .0; known = a5 .0; counted = a11 .0 }, not-false (elem s (familyAt t a)) (a14 .0))
 
 -- a reply that gives v is no refusal, and v is its value
-replied : (o : Reply ℕ) (n x v : ℕ) → o ≡ reply n x → o ≡ gives v → (n ≡ 0) × (v ≡ x)
+pub replied : (o : Reply ℕ) (n x v : ℕ) → o ≡ reply n x → o ≡ gives v → (n ≡ 0) × (v ≡ x)
 replied o zero x v p q = (refl, cc)
 replied o (suc n) x v p q = absurd (let z : _≡_ {A = ℕ} 0 1 = cc in omega arith)
 

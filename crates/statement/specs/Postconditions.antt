@@ -16,12 +16,13 @@ use Rattle.statement.specs.declared.Report.{Report}
 use Rattle.statement.specs.declared.Soundness.{Soundness}
 use Rattle.statement.specs.declared.Counted.{Counted}
 use Rattle.statement.specs.declared.Picked.{Picked}
+use Rattle.statement.specs.declared.Measured.{Measured}
 use Rattle.statement.specs.declared.Placed.{Placed}
 use Rattle.statement.specs.declared.Priced.{Priced}
-use Rattle.statement.specs.Replies.{refused, gives, reply, outcomeReply, soundnessReply, countReply, pickReply, placeReply, cheapestReply}
+use Rattle.statement.specs.Replies.{refused, gives, reply, outcomeReply, soundnessReply, countReply, pickReply, measureReply, placeReply, cheapestReply}
 use Rattle.query.specs.Questions.{familyAt, nth, position, cost, cheapest}
 use Rattle.statement.specs.Calls.{familyOf, stepsOf, callRefusal}
-use Rattle.statement.specs.Refusals.{checkRefusal, countRefusal, pickRefusal, placeRefusal, cheapestRefusal}
+use Rattle.statement.specs.Refusals.{checkRefusal, countRefusal, pickRefusal, measureRefusal, placeRefusal, cheapestRefusal}
 
 -- ---- the calls that make an answer: cover, either, both, only, with, without
 
@@ -101,6 +102,10 @@ pub record CountPost (Q : Problem) (m : ℕ) (t : List ℕ) (a words : ℕ) (r :
 pub record PickPost (Q : Problem) (m : ℕ) (t : List ℕ) (a k words : ℕ) (page : List ℕ) (r : Picked) (page′ : List ℕ) : Type 0 where
   pub result : pickReply r ≡ reply (pickRefusal Q m t a k words page) (length (nth (familyAt t a) k))
   pub pages : page′ ≡ written (pickRefusal Q m t a k words page) (nth (familyAt t a) k) page
+
+-- measure k: how many packages the k-th timetable of the answer a has
+pub record MeasurePost (Q : Problem) (m : ℕ) (t : List ℕ) (a k words : ℕ) (r : Measured) : Type 0 where
+  pub result : measureReply r ≡ reply (measureRefusal Q m t a k words) (length (nth (familyAt t a) k))
 
 -- place: where the timetable s stands in the listing of the answer a
 pub record PlacePost (Q : Problem) (m : ℕ) (t : List ℕ) (a : ℕ) (s : List ℕ) (words : ℕ) (r : Placed) : Type 0 where

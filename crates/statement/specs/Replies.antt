@@ -8,6 +8,8 @@ use Rattle.statement.specs.declared.Counted.{Counted}
 use Rattle.statement.specs.declared.Counted.the-variants.{Count, Refused as CountedRefused}
 use Rattle.statement.specs.declared.Picked.{Picked}
 use Rattle.statement.specs.declared.Picked.the-variants.{Packages, Refused as PickedRefused}
+use Rattle.statement.specs.declared.Measured.{Measured}
+use Rattle.statement.specs.declared.Measured.the-variants.{Packages as MeasuredPackages, Refused as MeasuredRefused}
 use Rattle.statement.specs.declared.Placed.{Placed}
 use Rattle.statement.specs.declared.Placed.the-variants.{Place, Refused as PlacedRefused}
 use Rattle.statement.specs.declared.Priced.{Priced}
@@ -42,6 +44,11 @@ countReply (CountedRefused n) = refused n
 abbrev pub pickReply : Picked → Reply ℕ
 pickReply (Packages c) = gives c
 pickReply (PickedRefused n) = refused n
+
+-- measure: how many packages the timetable has
+abbrev pub measureReply : Measured → Reply ℕ
+measureReply (MeasuredPackages c) = gives c
+measureReply (MeasuredRefused n) = refused n
 
 -- place: the timetable's place
 abbrev pub placeReply : Placed → Reply ℕ

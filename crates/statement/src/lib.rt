@@ -46,6 +46,12 @@ pub enum Picked {
     Refused(u8),
 }
 
+// What measure returns: how many packages the timetable has.
+pub enum Measured {
+    Packages(usize),
+    Refused(u8),
+}
+
 // What place returns: the timetable's place in the listing, from 0.
 pub enum Placed {
     Place(u64),

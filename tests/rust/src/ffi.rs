@@ -45,6 +45,7 @@ extern "C" {
     fn mogedorn_without(m: u32, p: *const u64, pn: usize, t: *mut u32, tn: usize, a: u32, k: u32, w: *mut u64, wn: usize) -> Report;
     fn mogedorn_count(m: u32, p: *const u64, pn: usize, t: *const u32, tn: usize, a: u32, w: *mut u64, wn: usize) -> Number;
     fn mogedorn_pick(m: u32, p: *const u64, pn: usize, t: *const u32, tn: usize, a: u32, k: u64, w: *mut u64, wn: usize, g: *mut u16, gn: usize) -> Timetable;
+    fn mogedorn_measure(m: u32, p: *const u64, pn: usize, t: *const u32, tn: usize, a: u32, k: u64, w: *mut u64, wn: usize) -> Number;
     fn mogedorn_place(m: u32, p: *const u64, pn: usize, t: *const u32, tn: usize, a: u32, l: *const u16, ln: usize, w: *mut u64, wn: usize) -> Number;
     fn mogedorn_cheapest(
         m: u32,
@@ -83,6 +84,10 @@ pub fn count(m: u32, s: &[u64], t: &[u32], a: u32, w: &mut [u64]) -> Number {
 
 pub fn pick(m: u32, s: &[u64], t: &[u32], a: u32, k: u64, w: &mut [u64], page: &mut [u16]) -> Timetable {
     unsafe { mogedorn_pick(m, s.as_ptr(), s.len(), t.as_ptr(), t.len(), a, k, w.as_mut_ptr(), w.len(), page.as_mut_ptr(), page.len()) }
+}
+
+pub fn measure(m: u32, s: &[u64], t: &[u32], a: u32, k: u64, w: &mut [u64]) -> Number {
+    unsafe { mogedorn_measure(m, s.as_ptr(), s.len(), t.as_ptr(), t.len(), a, k, w.as_mut_ptr(), w.len()) }
 }
 
 pub fn place(m: u32, s: &[u64], t: &[u32], a: u32, list: &[u16], w: &mut [u64]) -> Number {
