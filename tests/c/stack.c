@@ -61,6 +61,7 @@ static void do_with(void) { refused |= mogedorn_with(64, packages, N, table, siz
 static void do_without(void) { refused |= mogedorn_without(64, packages, N, table, sizeof table / 4, all, N - 1, work, 2).refusal; }
 static void do_count(void) { refused |= mogedorn_count(64, packages, N, table, sizeof table / 4, all, work, 4 * NODES).refusal; }
 static void do_pick(void) { refused |= mogedorn_pick(64, packages, N, table, sizeof table / 4, all, 0, work, 4 * NODES, page, N).refusal; }
+static void do_measure(void) { refused |= mogedorn_measure(64, packages, N, table, sizeof table / 4, all, 0, work, 4 * NODES).refusal; }
 static void do_place(void) { refused |= mogedorn_place(64, packages, N, table, sizeof table / 4, all, list, N, work, 4 * NODES).refusal; }
 static void do_cheapest(void) { refused |= mogedorn_cheapest(64, packages, N, costs, N, table, sizeof table / 4, all, work, 4 * NODES, page, N).refusal; }
 
@@ -85,7 +86,7 @@ int main(void) {
     make_file();
     static const struct { const char *name; void (*call)(void); } calls[] = {
         {"check", do_check}, {"cover", do_cover}, {"either", do_either}, {"both", do_both}, {"only", do_only}, {"with", do_with}, {"without", do_without},
-        {"count", do_count}, {"pick", do_pick}, {"place", do_place}, {"cheapest", do_cheapest}, {"read_bids", do_read_bids},
+        {"count", do_count}, {"measure", do_measure}, {"pick", do_pick}, {"place", do_place}, {"cheapest", do_cheapest}, {"read_bids", do_read_bids},
     };
     for (size_t i = 0; i < sizeof calls / sizeof *calls; i++) {
         refused = 0;

@@ -26,15 +26,15 @@ module _ (Q : Problem) (m : ℕ) (t : List ℕ) (a k words : ℕ) where
       tableTests Q m t (
       (unknownAnswer t a, 5) ∷ (shortWork (a + 1) words, 8) ∷ (uncountable (familyAt t a), 11) ∷ (pastEnd (familyAt t a) k, 12) ∷ [])
 
+  -- where measure is not refused, the page decides
+  pub pick-last : (page : List ℕ) → measureRefusal Q m t a k words ≡ 0 → pickRefusal Q m t a k words page ≡ firstOf ((shortPage page (nth (familyAt t a) k), 15) ∷ [])
+  unfolding pickRefusal measureRefusal
+  pick-last page e = behind tests _ tt e
+
   -- a refusal of measure is pick's, whatever the page
   pub pick-before : (page : List ℕ) {r : ℕ} → measureRefusal Q m t a k words ≡ r → (r ≡ 0 → ⊥) → pickRefusal Q m t a k words page ≡ r
   unfolding pickRefusal measureRefusal
   pick-before page e f = front tests _ (λ z. f (sym e ∙ z)) ∙ e
-
-  -- where there is none, the page decides
-  pub pick-last : (page : List ℕ) → measureRefusal Q m t a k words ≡ 0 → pickRefusal Q m t a k words page ≡ firstOf ((shortPage page (nth (familyAt t a) k), 15) ∷ [])
-  unfolding pickRefusal measureRefusal
-  pick-last page e = behind tests _ tt e
 
 -- ---- the two calls, with the same arguments
 

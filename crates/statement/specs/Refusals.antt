@@ -128,11 +128,7 @@ pickRefusal Q m t a k words page =
 unfoldable pub measureRefusal : (Q : Problem) (m : ℕ) (t : List ℕ) (a k words : ℕ) → ℕ
 measureRefusal Q m t a k words =
     firstOf (tableTests Q m t (
-    (unknownAnswer t a, 5) ∷
-    (shortWork (a + 1) words, 8) ∷
-    (uncountable (familyAt t a), 11) ∷
-    (pastEnd (familyAt t a) k, 12) ∷
-    []))
+    (unknownAnswer t a, 5) ∷ (shortWork (a + 1) words, 8) ∷ (uncountable (familyAt t a), 11) ∷ (pastEnd (familyAt t a) k, 12) ∷ []))
 
 -- s is the list of packages whose place is asked
 unfoldable pub placeRefusal : (Q : Problem) (m : ℕ) (t : List ℕ) (a : ℕ) (s : List ℕ) (words : ℕ) → ℕ

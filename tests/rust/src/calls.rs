@@ -48,7 +48,7 @@ impl History {
 
     pub fn run(&mut self) {
         for _ in 0..self.rng.from(20, if self.strict { 160 } else { 60 }) {
-            match self.rng.below(16) {
+            match self.rng.below(17) {
                 0 => self.cover(),
                 1..=3 if !self.strict => self.cover(),
                 1..=8 => self.combine(),
@@ -57,6 +57,7 @@ impl History {
                 11 | 12 => self.pick(),
                 13 => self.place(),
                 14 => self.cheapest(),
+                15 => self.measure(),
                 _ => self.damaged(),
             }
         }
@@ -274,9 +275,13 @@ impl History {
             let written = s.written(t);
             assert_eq!((got.refusal, got.packages), (0, written.len() as u64), "pick {k} of {a}");
             assert_eq!(page[..written.len()], written[..], "pick {k} of {a}");
+            let measured = ffi::measure(self.m, &self.sets, &self.table, a, k as u64, &mut work);
+            assert_eq!(measured, ffi::Number { refusal: 0, value: got.packages }, "measure {k} of {a}");
         }
         let past = ffi::pick(self.m, &self.sets, &self.table, a, f.len(), &mut work, &mut [0; 12]);
         assert_eq!(past.refusal, 12);
+        let past = ffi::measure(self.m, &self.sets, &self.table, a, f.len(), &mut work);
+        assert_eq!(past, ffi::Number { refusal: 12, value: 0 });
     }
 
     // ---- the questions
@@ -311,7 +316,8 @@ impl History {
         assert_eq!(got, expected, "count {a}");
     }
 
-    fn pick(&mut self) {
+    /// An answer, a k, the timetable there, if there is one, and working words; and 1 to 12 of a call for it.
+    fn kth(&mut self) -> (u32, u64, Vec<u16>, Vec<u64>, u32) {
         let a = self.operand();
         let count = self.known.get(a as usize).map_or(0, |f| f.len());
         let k = match self.rng.below(12) {
@@ -320,21 +326,42 @@ impl History {
             2 => count.saturating_sub(1),
             _ => self.rng.below(count.max(1)),
         };
-        let mut work = self.work((a as u64 + 1).min(2000));
+        let work = self.work((a as u64 + 1).min(2000));
         let s = Packages::new(self.m, &self.sets);
         let member = self.known.get(a as usize).and_then(|f| s.listing(f).get(k as usize).copied());
         let list = member.map(|t| s.written(t)).unwrap_or_default();
+        let refusal = match self.question_refusal(a, &work, a as u64 + 1, true, None) {
+            0 if k >= count => 12,
+            r => r,
+        };
+        (a, k, list, work, refusal)
+    }
+
+    fn pick(&mut self) {
+        let (a, k, list, mut work, refusal) = self.kth();
         let mut page = self.page(list.len());
         let before = page.clone();
         let got = ffi::pick(self.m, &self.sets, &self.table, a, k, &mut work, &mut page);
         self.told(got.refusal);
-        let refusal = match self.question_refusal(a, &work, a as u64 + 1, true, None) {
-            0 if k >= count => 12,
-            0 if list.len() > before.len() => 15,
-            r => r,
-        };
-        let call = format!("pick {k} of {a}");
-        compare_page(&call, refusal, &list, 0, &before, &page, got);
+        let refusal = if refusal == 0 && list.len() > before.len() { 15 } else { refusal };
+        compare_page(&format!("pick {k} of {a}"), refusal, &list, 0, &before, &page, got);
+    }
+
+    /// measure, and with the same working words pick on a page with just that many places and on one with one less.
+    fn measure(&mut self) {
+        let (a, k, list, mut work, refusal) = self.kth();
+        let got = ffi::measure(self.m, &self.sets, &self.table, a, k, &mut work);
+        self.told(got.refusal);
+        assert_eq!(got, ffi::Number { refusal, value: if refusal == 0 { list.len() as u64 } else { 0 } }, "measure {k} of {a}");
+        let mut page = vec![9999; got.value as usize];
+        let picked = ffi::pick(self.m, &self.sets, &self.table, a, k, &mut work, &mut page);
+        assert_eq!((picked.refusal, picked.packages), (got.refusal, got.value), "pick {k} of {a} as measured");
+        if page.pop().is_some() {
+            page.fill(9999);
+            let short = ffi::pick(self.m, &self.sets, &self.table, a, k, &mut work, &mut page);
+            assert_eq!((short.refusal, short.packages), (15, 0), "pick {k} of {a} on a page with one place less");
+            assert!(page.iter().all(|&p| p == 9999), "pick {k} of {a}: refused, and the page changed");
+        }
     }
 
     fn place(&mut self) {
@@ -426,13 +453,14 @@ impl History {
         self.learn();
         self.ledger.clear();
         for _ in 0..self.rng.from(1, 3) {
-            match self.rng.below(7) {
+            match self.rng.below(8) {
                 0 => self.cover(),
                 1 => self.combine(),
                 2 => self.count(),
                 3 => self.pick(),
                 4 => self.place(),
                 5 => self.cheapest(),
+                6 => self.measure(),
                 _ => self.check(),
             }
         }

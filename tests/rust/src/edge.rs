@@ -13,6 +13,7 @@ pub fn sixty_four_bits() {
     let a = all.answer;
     assert_eq!(ffi::count(64, &sets, &table, a, &mut work).refusal, 11);
     assert_eq!(ffi::pick(64, &sets, &table, a, 0, &mut work, &mut page).refusal, 11);
+    assert_eq!(ffi::measure(64, &sets, &table, a, 0, &mut work), ffi::Number { refusal: 11, value: 0 });
     // cheapest has no such bound: the odd packages, at 64 times 1
     let costs: Vec<u16> = (0..128).map(|p| 2 - p % 2).collect();
     let least = ffi::cheapest(64, &sets, &costs, &table, a, &mut work, &mut page);
@@ -28,6 +29,8 @@ pub fn sixty_four_bits() {
     let rest = ffi::combine(2, 64, &sets, &mut table, a, last, &mut work).answer;
     assert_eq!(ffi::count(64, &sets, &table, rest, &mut work), ffi::Number { refusal: 0, value: u64::MAX });
     assert_eq!(ffi::pick(64, &sets, &table, rest, u64::MAX, &mut work, &mut page).refusal, 12);
+    assert_eq!(ffi::measure(64, &sets, &table, rest, u64::MAX, &mut work), ffi::Number { refusal: 12, value: 0 });
+    assert_eq!(ffi::measure(64, &sets, &table, rest, u64::MAX - 1, &mut work), ffi::Number { refusal: 0, value: 64 });
     assert_eq!(ffi::pick(64, &sets, &table, rest, u64::MAX - 1, &mut work, &mut page).refusal, 0);
     assert!(page.iter().enumerate().all(|(i, &p)| p as usize == if i < 63 { 2 * i + 1 } else { 126 }));
     assert_eq!(ffi::place(64, &sets, &table, rest, &page, &mut work), ffi::Number { refusal: 0, value: u64::MAX - 1 });
