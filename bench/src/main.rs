@@ -9,9 +9,11 @@ mod cudd;
 #[path = "../../tests/rust/src/ffi.rs"]
 #[allow(dead_code)]
 mod ffi;
+#[allow(dead_code)]
 mod hand;
 mod instances;
 #[cfg(old)]
+#[allow(dead_code)]
 mod old;
 
 use instances::{instances, Instance};
