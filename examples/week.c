@@ -103,6 +103,12 @@ int main(void) {
     /* the two together are the week again: the same number, and no node */
     uint32_t again = answer("either", mogedorn_either(items(), packages, n, table, t, with1, without1, work, w));
     printf("the same set: %s\n", again == week ? "yes" : "no");
+    /* the page that the last timetable needs, and a shorter one */
+    mogedorn_number last = mogedorn_measure(items(), packages, n, table, t, week, 2, work, w);
+    if (last.refusal) stop("measure", last.refusal);
+    printf("measure 2: %llu packages\n", (unsigned long long)last.value);
+    printf("pick 2 on a shorter page: refused %u\n",
+           (unsigned)mogedorn_pick(items(), packages, n, table, t, week, 2, work, w, page, last.value - 1).refusal);
     /* a refusal has its number and changes nothing */
     printf("pick past the end: refused %u\n", (unsigned)mogedorn_pick(items(), packages, n, table, t, week, 3, work, w, page, PAGE).refusal);
     return 0;
@@ -128,5 +134,7 @@ without 1: answer 9, 0 steps, 1 nodes made
   packages: 4 5
 either: answer 7, 0 steps, 0 nodes made
 the same set: yes
+measure 2: 2 packages
+pick 2 on a shorter page: refused 15
 pick past the end: refused 12
 */
