@@ -43,7 +43,7 @@ use Rattle.statement.proofs.TestLaws.{reply-refused, reply-gives, page-left, pa
 use Rattle.statement.proofs.TestLaws.{countable, too-many, something, is-nothing, page-fits, page-short}
 use Rattle.statement.proofs.Measure.{pick-before, pick-last}
 use Rattle.engine.specs.Answers.{tallyReply, endRefusal, writtenReply, placedReply, cheapReply}
-use Rattle.engine.specs.Opened.{openTests, pricedTests, Opened, OpenedAt}
+use Rattle.engine.specs.Opened.{openTests, pricedTests, Opened, Reachable, OpenedAt}
 use Rattle.guard.specs.Admitted.{Usable, Admitted}
 use Rattle.guard.proofs.GuardLaws.{admit-refused}
 
@@ -156,6 +156,11 @@ module _ {Q : Problem} {m : ℕ} {t keys : List ℕ} {a k words q : ℕ} {w : Li
         go : (c : Tally) → Told c (length (familyAt t a)) → firstOf ((uncountable (familyAt t a), 11) ∷ (pastEnd (familyAt t a) k, 12) ∷ []) ≡ endRefusal c k
         go (Exactly n) d = pass 11 _ (countable (familyAt t a) (d .1)) ∙ ap (λ (i : ℕ). firstOf ((leb i k, 12) ∷ [])) (sym (d .0))
         go TooMany d = hit 11 _ (too-many (familyAt t a) d)
+
+-- what `query`'s walks ask, of the answer as an index n
+pub walks : {t w : List ℕ} {a k n : ℕ} → Reachable t a k w → n ≡ a
+    → Readable t × (((n < count t + 2) × (k < length (familyAt t n))) × Filled (countWord t) (n + 1) w)
+walks R e = (R .readable, ((omega (arith, R .known), rw e (R .inside)), rw e (R .counted)))
 
 -- ---- measure and pick
 

@@ -21,8 +21,11 @@ count-requires c κs =
     (readable (opened .ensures .ready (if1 .left) .usable), (omega (arith, c .before .before .wide .ensures, opened .ensures .ready (if1 .left) .known), omega (arith, c .before .if2 .left)))
 
 returns-3 : tie.Need-returns-3
-returns-3 c = at-counted (c .before .before .before .before .before .before .before .before .opened .ensures) (c .before .before .before .before .before .before .before .if1 .left) (omega (arith, c .before .before .before .before .before .before .wide .ensures, c .before .before .before .before .before .if2 .left)) (c .before .before .before .count .result) (rw (c .before .before .before .before .before .before .wide .ensures) at (c .before .before .before .count .ensures .1))
-    (rw (c .before .before .before .before .before .before .wide .ensures) at (c .before .before .before .count .ensures .0)) (c .past-end .ensures)
+returns-3 c =
+    let opened = c .before .before .before .before .before .before .before .before .opened in let if1 = c .before .before .before .before .before .before .before .if1 in let wide = c .before .before .before .before .before .before .wide in
+    let if2 = c .before .before .before .before .before .if2 in let count = c .before .before .before .count in
+    at-counted (opened .ensures) (if1 .left) (omega (arith, wide .ensures, if2 .left)) (count .result)
+    (rw (wide .ensures) at (count .ensures .1)) (rw (wide .ensures) at (count .ensures .0)) (c .past-end .ensures)
 
 pub opened-at-spec : {M : Type 1} → statement M
 opened-at-spec =

@@ -17,24 +17,36 @@ lo-requires : tie.Need-lo-requires
 lo-requires c κs = branch (c .before .before .before .before .pre .0) (c .before .before .before .before .args .k) (omega arith) (c .before .before .before .before .pre .1 .0 .1)
 
 mul-x : tie.Need-mul-x
-mul-x c = let pre = c .before .before .before .before .before .pre in let P = parts (pre .0) (c .before .before .before .before .before .args .k) (omega arith) (pre .1 .0 .1) in omega (arith, c .before .hi .ensures, P .hi-below, pre .1 .1 .room)
+mul-x c =
+    let start = c .before .before .before .before .before in let P = parts (start .pre .0) (start .args .k) (omega arith) (start .pre .1 .0 .1) in
+    omega (arith, c .before .hi .ensures, P .hi-below, start .pre .1 .1 .room)
 
 shared-slice-read-x : tie.Need-shared-slice-read-x
-shared-slice-read-x c = let pre = c .before .before .before .before .before .before .pre in let P = parts (pre .0) (c .before .before .before .before .before .before .args .k) (omega arith) (pre .1 .0 .1) in omega (arith, c .before .before .hi .ensures, P .hi-below, pre .1 .1 .room)
+shared-slice-read-x c =
+    let start = c .before .before .before .before .before .before in let P = parts (start .pre .0) (start .args .k) (omega arith) (start .pre .1 .0 .1) in
+    omega (arith, c .before .before .hi .ensures, P .hi-below, start .pre .1 .1 .room)
 
 mul-y : tie.Need-mul-y
-mul-y c = let pre = c .before .before .before .before .before .before .pre in let P = parts (pre .0) (c .before .before .before .before .before .before .args .k) (omega arith) (pre .1 .0 .1) in omega (arith, c .before .lo .ensures, P .lo-below, pre .1 .1 .room)
+mul-y c =
+    let start = c .before .before .before .before .before .before in let P = parts (start .pre .0) (start .args .k) (omega arith) (start .pre .1 .0 .1) in
+    omega (arith, c .before .lo .ensures, P .lo-below, start .pre .1 .1 .room)
 
 shared-slice-read-y : tie.Need-shared-slice-read-y
-shared-slice-read-y c = let pre = c .before .before .before .before .before .before .before .pre in let P = parts (pre .0) (c .before .before .before .before .before .before .before .args .k) (omega arith) (pre .1 .0 .1) in omega (arith, c .before .before .lo .ensures, P .lo-below, pre .1 .1 .room)
+shared-slice-read-y c =
+    let start = c .before .before .before .before .before .before .before in let P = parts (start .pre .0) (start .args .k) (omega arith) (start .pre .1 .0 .1) in
+    omega (arith, c .before .before .lo .ensures, P .lo-below, start .pre .1 .1 .room)
 
 returns-2 : tie.Need-returns-2
-returns-2 c = let pre = c .before .before .before .before .before .before .before .before .pre in
-    read-hi (pre .0) (c .before .before .before .before .before .before .before .before .args .k) (omega arith) (pre .1 .0 .1) (c .before .before .before .before .before .before .before .before .args .work .now) (pre .1 .1) (c .before .before .before .before .hi .result) (c .before .before .before .lo .result) (c .before .before .before .before .hi .ensures) (c .before .before .before .lo .ensures) (c .if2 .taken)
+returns-2 c =
+    let lo = c .before .before .before .lo in let hi = c .before .before .before .before .hi in let start = c .before .before .before .before .before .before .before .before in
+    read-hi (start .pre .0) (start .args .k) (omega arith) (start .pre .1 .0 .1) (start .args .work .now) (start .pre .1 .1)
+    (hi .result) (lo .result) (hi .ensures) (lo .ensures) (c .if2 .taken)
 
 returns-3 : tie.Need-returns-3
-returns-3 c = let pre = c .before .before .before .before .before .before .before .before .before .pre in
-    read-both (pre .0) (c .before .before .before .before .before .before .before .before .before .args .k) (omega arith) (pre .1 .0 .1) (c .before .before .before .before .before .before .before .before .before .args .work .now) (pre .1 .1) (c .before .before .before .before .before .hi .result) (c .before .before .before .before .lo .result) (c .plus .result) (c .before .before .before .before .before .hi .ensures) (c .before .before .before .before .lo .ensures) (omega arith) (c .plus .ensures)
+returns-3 c =
+    let lo = c .before .before .before .before .lo in let hi = c .before .before .before .before .before .hi in let start = c .before .before .before .before .before .before .before .before .before in
+    read-both (start .pre .0) (start .args .k) (omega arith) (start .pre .1 .0 .1) (start .args .work .now) (start .pre .1 .1)
+    (hi .result) (lo .result) (c .plus .result) (hi .ensures) (lo .ensures) (omega arith) (c .plus .ensures)
 
 pub count-word-spec : {M : Type 1} → statement M
 count-word-spec =
