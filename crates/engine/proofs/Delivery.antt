@@ -27,7 +27,6 @@ use Rattle.statement.specs.declared.Counted.{Counted}
 use Rattle.statement.specs.declared.Counted.the-variants.{Refused as CountRefused}
 use Rattle.statement.specs.declared.Picked.{Picked}
 use Rattle.statement.specs.declared.Picked.the-variants.{Refused as PickRefused}
-use Rattle.statement.specs.declared.Measured.{Measured}
 use Rattle.statement.specs.declared.Measured.the-variants.{Packages as MeasurePackages, Refused as MeasureRefused}
 use Rattle.statement.specs.declared.Placed.{Placed}
 use Rattle.statement.specs.declared.Placed.the-variants.{Refused as PlaceRefused}

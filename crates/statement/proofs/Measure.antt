@@ -1,6 +1,6 @@
 -- THEOREMS, from the contracts of measure and pick: pick replies what measure replies on every page that is long enough, on a shorter one it is refused
 -- with 15, and measure of 0, 1, 2, .. gives the lengths of the listing, then is past the end. Assumes nothing.
-use mathlib.Core.Path.{_≡_, refl, sym, ap, _∙_, subst}
+use mathlib.Core.Path.{_≡_, refl, sym, ap, _∙_}
 use mathlib.Core.Bool.{Bool}
 use mathlib.Core.List.{List, [], _∷_}
 use Prim.Native.Nat.{ℕ, zero, suc, _+_, _≤_, _<_}

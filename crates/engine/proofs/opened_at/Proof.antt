@@ -22,7 +22,8 @@ count-requires c κs =
 
 returns-3 : tie.Need-returns-3
 returns-3 c =
-    let opened = c .before .before .before .before .before .before .before .before .opened in let if1 = c .before .before .before .before .before .before .before .if1 in let wide = c .before .before .before .before .before .before .wide in
+    let opened = c .before .before .before .before .before .before .before .before .opened in let if1 = c .before .before .before .before .before .before .before .if1 in
+    let wide = c .before .before .before .before .before .before .wide in
     let if2 = c .before .before .before .before .before .if2 in let count = c .before .before .before .count in
     at-counted (opened .ensures) (if1 .left) (omega (arith, wide .ensures, if2 .left)) (count .result)
     (rw (wide .ensures) at (count .ensures .1)) (rw (wide .ensures) at (count .ensures .0)) (c .past-end .ensures)

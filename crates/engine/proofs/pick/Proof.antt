@@ -11,7 +11,9 @@ pick-requires c κs = walks (c .before .before .before .before .before .before .
 
 returns-2 : tie.Need-returns-2
 returns-2 c =
-    let opened-at = c .before .before .before .before .before .before .before .before .before .before .opened-at in let if1 = c .before .before .before .before .before .before .before .if1 in let wide = c .before .before .before .before .before .before .wide in let pick′ = c .before .before .before .pick in
+    let opened-at = c .before .before .before .before .before .before .before .before .before .before .opened-at in
+    let if1 = c .before .before .before .before .before .before .before .if1 in let wide = c .before .before .before .before .before .before .wide in
+    let pick′ = c .before .before .before .pick in
     pick-delivers (opened-at .ensures) (if1 .left) (c .picked .result) (pick′ .result) (c .picked .ensures) (rw (wide .ensures) at (pick′ .ensures))
 
 pub pick-spec : {M : Type 1} → statement M
