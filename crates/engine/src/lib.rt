@@ -1,4 +1,4 @@
-// The public calls of document 01. None has a `requires`: each refuses what it cannot take, in the order of the table of refusals, and its one
+// The public calls of documents 01 and 02. None has a `requires`: each refuses what it cannot take, in the order of the table of refusals, and its one
 // `ensures` (a record of `statement`'s specs/Postconditions) fixes the result, the table and the page.
 //
 // m is M, packages the N item sets, t the table's words; work are the working words, whose contents before a call do not matter.

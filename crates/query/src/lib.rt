@@ -1,4 +1,4 @@
-// Questions to a sound table: how many sets a number holds, which is the k-th, where a set stands, and which is the cheapest.
+// Questions to a sound table: how many sets a number holds, which is the k-th and how long it is, where a set stands, and which is the cheapest.
 ghost use mathlib.Core.Path.{_≡_};
 ghost use mathlib.Core.Bool.{true, false};
 ghost use mathlib.Core.List.{_++_};
