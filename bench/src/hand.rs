@@ -340,7 +340,8 @@ fn counts(t: &[u32], a: usize, work: &mut [u64]) -> Result<u64, u32> {
     for k in 2..=a {
         let w = 3 * k - 5;
         let (lo, hi) = (t[w + 1] as usize, t[w + 2] as usize);
-        work[k] = if lo == 0 { work[hi] } else { work[hi].saturating_add(work[lo]).saturating_add(1) };
+        let (x, y) = (work[hi], work[lo]);
+        work[k] = if lo == 0 { x } else { x.saturating_add(y).saturating_add(1) };
     }
     work[a].checked_add(1).ok_or(11)
 }

@@ -100,6 +100,11 @@ module _ {xs : List (Bool × ℕ)} {Q : Problem} {t keys : List ℕ} {a r : ℕ}
   passed-by : Numbered xs → r ≡ 0 → firstOf (xs ++ ts) ≡ firstOf ts
   passed-by n z = behind xs ts n (sym (o .says) ∙ z)
 
+-- what `query::count` asks, of the answer as an index n
+pub counting : {ts : List (Bool × ℕ)} {Q : Problem} {t keys : List ℕ} {a r n words : ℕ} → Opened ts Q t keys a r → r ≡ 0 → n ≡ a → n < words
+    → Readable t × ((n < count t + 2) × (n < words))
+counting o ok e l = (readable (o .ready ok .usable), (omega (arith, o .ready ok .known), l))
+
 -- ---- count
 
 module _ {Q : Problem} {m : ℕ} {t keys : List ℕ} {a words r : ℕ} (o : Opened (openTests Q m t a) Q t keys a r) where

@@ -1,7 +1,6 @@
 -- THEOREMS, from the contracts of measure and pick: pick replies what measure replies on every page that is long enough, on a shorter one it is refused
 -- with 15, and measure of 0, 1, 2, .. gives the lengths of the listing, then is past the end. Assumes nothing.
 use mathlib.Core.Path.{_≡_, refl, sym, ap, _∙_}
-use mathlib.Core.Bool.{Bool}
 use mathlib.Core.List.{List, [], _∷_}
 use Prim.Native.Nat.{ℕ, zero, suc, _+_, _≤_, _<_}
 use native.Mathlib.Omega.{arith}
@@ -11,7 +10,7 @@ use Rattle.query.specs.Questions.{familyAt, nth}
 use Rattle.statement.specs.declared.Picked.{Picked}
 use Rattle.statement.specs.declared.Measured.{Measured}
 use Rattle.statement.specs.Replies.{refused, gives, reply, pickReply, measureReply}
-use Rattle.statement.specs.Refusals.{firstOf, tableTests, unknownAnswer, shortWork, uncountable, pastEnd, shortPage, pickRefusal, measureRefusal}
+use Rattle.statement.specs.Refusals.{firstOf, pastEnd, shortPage, pickRefusal, measureTests, measureRefusal}
 use Rattle.statement.specs.Postconditions.{PickPost, MeasurePost, written}
 use Rattle.statement.proofs.FirstOf.{pass, hit, none, front, behind}
 use Rattle.statement.proofs.Admission.{table-passes}
@@ -21,20 +20,15 @@ use Rattle.statement.proofs.Undo.{Answerable, replied}
 -- ---- pick's tests are measure's, and behind them 15
 
 module _ (Q : Problem) (m : ℕ) (t : List ℕ) (a k words : ℕ) where
-  abbrev tests : List (Bool × ℕ)
-  tests =
-      tableTests Q m t (
-      (unknownAnswer t a, 5) ∷ (shortWork (a + 1) words, 8) ∷ (uncountable (familyAt t a), 11) ∷ (pastEnd (familyAt t a) k, 12) ∷ [])
-
   -- where measure is not refused, the page decides
   pub pick-last : (page : List ℕ) → measureRefusal Q m t a k words ≡ 0 → pickRefusal Q m t a k words page ≡ firstOf ((shortPage page (nth (familyAt t a) k), 15) ∷ [])
   unfolding pickRefusal measureRefusal
-  pick-last page e = behind tests _ tt e
+  pick-last page e = behind (measureTests Q m t a k words) _ tt e
 
   -- a refusal of measure is pick's, whatever the page
   pub pick-before : (page : List ℕ) {r : ℕ} → measureRefusal Q m t a k words ≡ r → (r ≡ 0 → ⊥) → pickRefusal Q m t a k words page ≡ r
   unfolding pickRefusal measureRefusal
-  pick-before page e f = front tests _ (λ z. f (sym e ∙ z)) ∙ e
+  pick-before page e f = front (measureTests Q m t a k words) _ (λ z. f (sym e ∙ z)) ∙ e
 
 -- ---- the two calls, with the same arguments
 

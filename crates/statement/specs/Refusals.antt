@@ -124,11 +124,14 @@ pickRefusal Q m t a k words page =
     (shortPage page (nth (familyAt t a) k), 15) ∷
     []))
 
--- pick's but 15 [document 02, No. 3]
+-- pick's tests but 15 [document 02, No. 3]
+abbrev pub measureTests : (Q : Problem) (m : ℕ) (t : List ℕ) (a k words : ℕ) → List (Bool × ℕ)
+measureTests Q m t a k words =
+    tableTests Q m t (
+    (unknownAnswer t a, 5) ∷ (shortWork (a + 1) words, 8) ∷ (uncountable (familyAt t a), 11) ∷ (pastEnd (familyAt t a) k, 12) ∷ [])
+
 unfoldable pub measureRefusal : (Q : Problem) (m : ℕ) (t : List ℕ) (a k words : ℕ) → ℕ
-measureRefusal Q m t a k words =
-    firstOf (tableTests Q m t (
-    (unknownAnswer t a, 5) ∷ (shortWork (a + 1) words, 8) ∷ (uncountable (familyAt t a), 11) ∷ (pastEnd (familyAt t a) k, 12) ∷ []))
+measureRefusal Q m t a k words = firstOf (measureTests Q m t a k words)
 
 -- s is the list of packages whose place is asked
 unfoldable pub placeRefusal : (Q : Problem) (m : ℕ) (t : List ℕ) (a : ℕ) (s : List ℕ) (words : ℕ) → ℕ

@@ -1,7 +1,7 @@
 use lib.ListN.{length-replicate}
 use Prim.Native.Nat.{ℕ}
 use native.Mathlib.Omega.{arith}
-use Rattle.engine.proofs.Delivery.{readable, count-refused, count-words, count-delivers}
+use Rattle.engine.proofs.Delivery.{counting, count-refused, count-words, count-delivers}
 use borrow.Author.Needs.{needs}
 use Rattle.engine.proofs.count.Statement.{statement}
 use Rattle.engine.proofs.count.Tie as tie
@@ -16,9 +16,7 @@ returns-2 : tie.Need-returns-2
 returns-2 c = count-words (c .before .before .before .opened .ensures) (c .before .before .if1 .left) (omega (arith, c .before .wide .ensures, c .if2 .taken))
 
 count-requires : tie.Need-count-requires
-count-requires c κs =
-    let if1 = c .before .before .before .if1 in let opened = c .before .before .before .before .opened in
-    (readable (opened .ensures .ready (if1 .left) .usable), (omega (arith, c .before .before .wide .ensures, opened .ensures .ready (if1 .left) .known), omega (arith, c .before .if2 .left)))
+count-requires c κs = counting (c .before .before .before .before .opened .ensures) (c .before .before .before .if1 .left) (c .before .before .wide .ensures) (omega (arith, c .before .if2 .left))
 
 returns-3 : tie.Need-returns-3
 returns-3 c =

@@ -1,7 +1,7 @@
 use Prim.Native.Nat.{ℕ}
 use lib.ListN.{length-replicate}
 use native.Mathlib.Omega.{arith}
-use Rattle.engine.proofs.Delivery.{readable, at-refused, at-words, at-counted}
+use Rattle.engine.proofs.Delivery.{counting, at-refused, at-words, at-counted}
 use borrow.Author.Needs.{needs}
 use Rattle.engine.proofs.opened_at.Statement.{statement}
 use Rattle.engine.proofs.opened_at.Tie as tie
@@ -16,9 +16,7 @@ returns-2 : tie.Need-returns-2
 returns-2 c = at-words (c .before .before .before .opened .ensures) (c .before .before .if1 .left) (omega (arith, c .before .wide .ensures, c .if2 .taken))
 
 count-requires : tie.Need-count-requires
-count-requires c κs =
-    let if1 = c .before .before .before .if1 in let opened = c .before .before .before .before .opened in
-    (readable (opened .ensures .ready (if1 .left) .usable), (omega (arith, c .before .before .wide .ensures, opened .ensures .ready (if1 .left) .known), omega (arith, c .before .if2 .left)))
+count-requires c κs = counting (c .before .before .before .before .opened .ensures) (c .before .before .before .if1 .left) (c .before .before .wide .ensures) (omega (arith, c .before .if2 .left))
 
 returns-3 : tie.Need-returns-3
 returns-3 c =

@@ -4,7 +4,7 @@ use native.Mathlib.Omega.{arith}
 use mathlib.Core.Path.{sym, ap, _∙_}
 use borrow.Author.Tests.{not-true, not-false}
 use Rattle.exact_cover.proofs.Order.{length-keys}
-use Rattle.engine.proofs.Delivery.{readable, place-refused, place-unlisted, place-words, place-delivers, no-list, is-list}
+use Rattle.engine.proofs.Delivery.{readable, counting, place-refused, place-unlisted, place-words, place-delivers, no-list, is-list}
 use borrow.Author.Needs.{needs}
 use Rattle.engine.proofs.place.Statement.{statement}
 use Rattle.engine.proofs.place.Tie as tie
@@ -34,9 +34,7 @@ returns-3 c =
     (not-false _ (c .before .if2 .left))) (omega (arith, c .before .before .wide .ensures, c .if3 .taken))
 
 count-requires : tie.Need-count-requires
-count-requires c κs =
-    let here = c .before .before .before .before .before .before in let if1 = here .if1 in let opened = here .before .opened in
-    (readable (opened .ensures .ready (if1 .left) .usable), (omega (arith, c .before .before .before .wide .ensures, opened .ensures .ready (if1 .left) .known), omega (arith, c .before .if3 .left)))
+count-requires c κs = counting (c .before .before .before .before .before .before .before .opened .ensures) (c .before .before .before .before .before .before .if1 .left) (c .before .before .before .wide .ensures) (omega (arith, c .before .if3 .left))
 
 place-requires : tie.Need-place-requires
 place-requires c κs =
