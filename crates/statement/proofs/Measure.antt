@@ -23,7 +23,7 @@ module _ (Q : Problem) (m : ℕ) (t : List ℕ) (a k words : ℕ) where
   -- where measure is not refused, the page decides
   pub pick-last : (page : List ℕ) → measureRefusal Q m t a k words ≡ 0 → pickRefusal Q m t a k words page ≡ firstOf ((shortPage page (nth (familyAt t a) k), 15) ∷ [])
   unfolding pickRefusal measureRefusal
-  pick-last page e = behind (measureTests Q m t a k words) _ tt e
+  pick-last page e = behind (measureTests Q m t a k words) ((shortPage page (nth (familyAt t a) k), 15) ∷ []) tt e
 
   -- a refusal of measure is pick's, whatever the page
   pub pick-before : (page : List ℕ) {r : ℕ} → measureRefusal Q m t a k words ≡ r → (r ≡ 0 → ⊥) → pickRefusal Q m t a k words page ≡ r

@@ -34,7 +34,9 @@ returns-3 c =
     (not-false _ (c .before .if2 .left))) (omega (arith, c .before .before .wide .ensures, c .if3 .taken))
 
 count-requires : tie.Need-count-requires
-count-requires c κs = counting (c .before .before .before .before .before .before .before .opened .ensures) (c .before .before .before .before .before .before .if1 .left) (c .before .before .before .wide .ensures) (omega (arith, c .before .if3 .left))
+count-requires c κs =
+    let here = c .before .before .before .before .before .before in let wide = c .before .before .before .wide in
+    counting (here .before .opened .ensures) (here .if1 .left) (wide .ensures) (omega (arith, c .before .if3 .left))
 
 place-requires : tie.Need-place-requires
 place-requires c κs =
