@@ -33,7 +33,7 @@ use Rattle.statement.specs.declared.Placed.the-variants.{Refused as PlaceRefuse
 use Rattle.statement.specs.declared.Priced.{Priced}
 use Rattle.statement.specs.declared.Priced.the-variants.{Refused as PriceRefused}
 use Rattle.statement.specs.Replies.{gives, reply, countReply, pickReply, placeReply, cheapestReply}
-use Rattle.statement.specs.Refusals.{firstOf, packageTests, tableTests, unpriced, notTimetable, uncountable, pastEnd, absent, shortPage}
+use Rattle.statement.specs.Refusals.{firstOf, packageTests, tableTests, openTests, pricedTests, unpriced, notTimetable, uncountable, pastEnd, absent, shortPage}
 use Rattle.statement.specs.Refusals.{countRefusal, measureRefusal, pickRefusal, placeRefusal, cheapestRefusal}
 use Rattle.statement.specs.Postconditions.{CountPost, MeasurePost, PickPost, PlacePost, CheapestPost}
 use Rattle.statement.proofs.FirstOf.{pass, hit, none, passed, front, Numbered, behind}
@@ -42,7 +42,7 @@ use Rattle.statement.proofs.TestLaws.{reply-refused, reply-gives, page-left, pa
 use Rattle.statement.proofs.TestLaws.{countable, too-many, something, is-nothing, page-fits, page-short}
 use Rattle.statement.proofs.Measure.{pick-before, pick-last}
 use Rattle.engine.specs.Answers.{tallyReply, endRefusal, writtenReply, placedReply, cheapReply}
-use Rattle.engine.specs.Opened.{openTests, pricedTests, Opened, Reachable, OpenedAt}
+use Rattle.engine.specs.Opened.{Opened, Reachable, OpenedAt}
 use Rattle.guard.specs.Admitted.{Usable, Admitted}
 use Rattle.guard.proofs.GuardLaws.{admit-refused}
 

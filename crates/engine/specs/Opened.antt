@@ -2,27 +2,15 @@
 -- Assumes nothing.
 use mathlib.Core.Path.{_≡_}
 use mathlib.Core.Bool.{Bool}
-use mathlib.Core.List.{List, [], _∷_}
+use mathlib.Core.List.{List}
 use Prim.Native.Nat.{ℕ, _+_, _<_}
 use lib.ListN.{length}
 use Rattle.zdd.specs.Table.{count}
 use Rattle.exact_cover.specs.Problem.{Problem}
 use Rattle.query.specs.Questions.{familyAt}
 use Rattle.query.specs.Reading.{Readable, Filled, countWord}
-use Rattle.statement.specs.Refusals.{firstOf, packageTests, unpriced, unsound, unknownAnswer, measureRefusal}
+use Rattle.statement.specs.Refusals.{firstOf, pricedTests, measureRefusal}
 use Rattle.guard.specs.Admitted.{Usable}
-
--- refusals 4 and 5
-abbrev pub knownTests : (Q : Problem) (t : List ℕ) (a : ℕ) → List (Bool × ℕ)
-knownTests Q t a = (unsound Q t, 4) ∷ (unknownAnswer t a, 5) ∷ []
-
--- behind 1 and 2
-abbrev pub openTests : (Q : Problem) (m : ℕ) (t : List ℕ) (a : ℕ) → List (Bool × ℕ)
-openTests Q m t a = packageTests Q m (knownTests Q t a)
-
--- and 3 in its place
-abbrev pub pricedTests : (Q : Problem) (m : ℕ) (C t : List ℕ) (a : ℕ) → List (Bool × ℕ)
-pricedTests Q m C t a = packageTests Q m ((unpriced Q C, 3) ∷ knownTests Q t a)
 
 -- the table is good, the keys are computed, and the table knows the answer
 pub record Known (Q : Problem) (t keys : List ℕ) (a : ℕ) : Type 0 where

@@ -63,14 +63,6 @@ covering-short Q R D w s e =
 
 -- ---- replies
 
-pub was-given : {A : Type 0} (x : A) (k : ℕ) (v : A) → gives x ≡ reply k v → (k ≡ 0) × (x ≡ v)
-was-given x zero v e = (refl, cc)
-was-given x (suc k) v e = absurd (let z : _≡_ {A = ℕ} 0 1 = cc in omega arith)
-
-pub was-refused : {A : Type 0} (n k : ℕ) (v : A) → refused n ≡ reply k v → (k ≡ n) × (n ≡ 0 → ⊥)
-was-refused n zero v e = absurd (let z : _≡_ {A = ℕ} 0 1 = cc in omega arith)
-was-refused n (suc k) v e = let q : n ≡ suc k = cc in (sym q, λ z. omega arith)
-
 pub gives-same : {A : Type 0} {x y : A} → gives x ≡ gives y → x ≡ y
 gives-same e = cc
 

@@ -20,6 +20,7 @@ use Rattle.statement.specs.Replies.{refused, gives, outcomeReply}
 use Rattle.statement.specs.declared.Report.{Report}
 use Rattle.statement.proofs.FirstOf.{passed}
 use Rattle.statement.proofs.Made.{made-missing}
+use Rattle.statement.proofs.TestLaws.{was-given, was-refused}
 use Rattle.bids.specs.Format.{schools, slots, packages, refusal, packagesOf, costsOf, itemsOf, costOf}
 use Rattle.bids.specs.Contract.{readRefusal, ReadPost, readReply}
 use Rattle.bids.specs.declared.Reading.{Reading}
@@ -30,7 +31,7 @@ use Rattle.bids.proofs.Laws.{length-listed}
 use Rattle.printout.specs.Text.{head, timetableLine, cheapestLine, noneLine, refusedLine}
 use Rattle.printout.specs.Written.{Holds, Puts}
 use Rattle.printout.specs.Program.{unless, timetableLines, lastLine, sheet, answerText, blank, solved, printed, Askable}
-use Rattle.printout.proofs.Asking.{page-left, was-given, was-refused, cover-refused, cover-answered, askable}
+use Rattle.printout.proofs.Asking.{page-left, cover-refused, cover-answered, askable}
 
 -- ---- a text from the start of the buffer
 

@@ -14,8 +14,8 @@ use Rattle.statement.specs.Refusals.{firstOf, pastEnd, shortPage, pickRe
 use Rattle.statement.specs.Postconditions.{PickPost, MeasurePost, written}
 use Rattle.statement.proofs.FirstOf.{pass, hit, none, front, behind}
 use Rattle.statement.proofs.Admission.{table-passes}
-use Rattle.statement.proofs.TestLaws.{enough, not-past, is-past, page-fits, page-short}
-use Rattle.statement.proofs.Undo.{Answerable, replied}
+use Rattle.statement.proofs.TestLaws.{was-given, enough, not-past, is-past, page-fits, page-short}
+use Rattle.statement.proofs.Undo.{Answerable}
 
 -- ---- pick's tests are measure's, and behind them 15
 
@@ -60,7 +60,7 @@ module _ {Q : Problem} {m : ℕ} {t : List ℕ} {a k words : ℕ} {r : Measured}
   pub pick-shorter : {c : ℕ} → measureReply r ≡ gives c → length page < c → (pickReply p ≡ refused 15) × (page′ ≡ page)
   unfolding s
   pick-shorter {c} e l =
-      let z = replied (measureReply r) (measureRefusal Q m t a k words) (length s) c (M .result) e in
+      let z = was-given c (measureRefusal Q m t a k words) (length s) (sym e ∙ M .result) in
       let n15 = pick-last Q m t a k words page (z .0) ∙ hit 15 _ (page-short page s (omega (arith, z .1))) in
       (picked n15, P .pages ∙ ap (λ (n : ℕ). written n s page) n15)
 

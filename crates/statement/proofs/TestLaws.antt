@@ -3,6 +3,7 @@ use mathlib.Core.Path.{_≡_, refl, sym, ap}
 use mathlib.Core.Bool.{true, false, not}
 use mathlib.Core.List.{List, _++_}
 use Prim.Native.Nat.{ℕ, zero, suc, _+_, _≤_, _<_}
+use native.Mathlib.Omega.{arith}
 use lib.ListN.{length, drop}
 use borrow.Author.Tests.{lt-ltb, le-ltb, le-leb, lt-leb, eq-eqb, ne-eqb}
 use Rattle.zdd.specs.Table.{Family, count}
@@ -22,6 +23,16 @@ reply-refused (suc n) v e f = sym (ap (λ (i : ℕ). reply i v) e)
 -- there is none, and the values are given
 pub reply-gives : {A : Type 0} {k : ℕ} (v : A) → k ≡ 0 → gives v ≡ reply k v
 reply-gives v e = sym (ap (λ (i : ℕ). reply i v) e)
+
+-- back: a reply that gives x is no refusal, and x is its value
+pub was-given : {A : Type 0} (x : A) (k : ℕ) (v : A) → gives x ≡ reply k v → (k ≡ 0) × (x ≡ v)
+was-given x zero v e = (refl, cc)
+was-given x (suc k) v e = absurd (let z : _≡_ {A = ℕ} 0 1 = cc in omega arith)
+
+-- and one that says n is the refusal n
+pub was-refused : {A : Type 0} (n k : ℕ) (v : A) → refused n ≡ reply k v → (k ≡ n) × (n ≡ 0 → ⊥)
+was-refused n zero v e = absurd (let z : _≡_ {A = ℕ} 0 1 = cc in omega arith)
+was-refused n (suc k) v e = let q : n ≡ suc k = cc in (sym q, λ z. omega arith)
 
 -- a refused call leaves the page alone
 pub page-left : {k : ℕ} (n : ℕ) (s page : List ℕ) → k ≡ n → (n ≡ 0 → ⊥) → page ≡ written k s page

@@ -24,13 +24,14 @@ use Rattle.exact_cover.proofs.Order.{keys-apart}
 use Rattle.exact_cover.proofs.Sets.{sets-member}
 use Rattle.statement.specs.declared.Picked.{Picked}
 use Rattle.statement.specs.declared.Placed.{Placed}
-use Rattle.statement.specs.Replies.{Reply, gives, reply, pickReply, placeReply}
+use Rattle.statement.specs.Replies.{gives, reply, pickReply, placeReply}
 use Rattle.query.proofs.Seeks.{position-here, position-later}
 use Rattle.query.specs.Questions.{familyAt, nth, position, unknownPackage, anyUnknown, ascending}
 use Rattle.statement.specs.Refusals.{Fit, unsound, unknownAnswer, notTimetable, shortWork, uncountable, pastEnd, absent, shortPage, pickRefusal, placeRefusal}
 use Rattle.statement.specs.Postconditions.{PickPost, PlacePost, written}
 use Rattle.statement.proofs.FirstOf.{pass, none, passed}
 use Rattle.statement.proofs.Admission.{fit-of, packages-fit, table-passes}
+use Rattle.statement.proofs.TestLaws.{was-given}
 
 -- ---- places in a family without repeats
 
@@ -137,18 +138,13 @@ placed-ready Q m t a s words e =
     let a14 = passed _ 13 _ (a11 .1) in
     (record { fit = a2 .0; sound = a4 .0; known = a5 .0; counted = a11 .0 }, not-false (elem s (familyAt t a)) (a14 .0))
 
--- a reply that gives v is no refusal, and v is its value
-pub replied : (o : Reply ℕ) (n x v : ℕ) → o ≡ reply n x → o ≡ gives v → (n ≡ 0) × (v ≡ x)
-replied o zero x v p q = (refl, cc)
-replied o (suc n) x v p q = absurd (let z : _≡_ {A = ℕ} 0 1 = cc in omega arith)
-
 -- what pick wrote, where it gave c
 picked : {Q : Problem} {m : ℕ} {t : List ℕ} {a k words : ℕ} {page : List ℕ} {r : Picked} {page′ : List ℕ} {c : ℕ}
     → PickPost Q m t a k words page r page′ → pickReply r ≡ gives c
     → Answerable Q m t a × (k < length (familyAt t a)) × (take c page′ ≡ nth (familyAt t a) k)
 picked {Q} {m} {t} {a} {k} {words} {page} {r} {page′} {c} P e =
     let s : List ℕ = nth (familyAt t a) k in
-    let z = replied (pickReply r) (pickRefusal Q m t a k words page) (length s) c (P .result) e in
+    let z = was-given c (pickRefusal Q m t a k words page) (length s) (sym e ∙ P .result) in
     let R = picked-ready Q m t a k words page (z .0) in
     let p : page′ ≡ s ++ drop (length s) page = P .pages ∙ ap (λ (n : ℕ). written n s page) (z .0) in
     (R .0, R .1, ap₂ take (z .1) p ∙ take-at s (drop (length s) page) (length s) refl)
@@ -173,7 +169,7 @@ pub pick-of-place : {Q : Problem} {m : ℕ} {t : List ℕ} {a : ℕ} {s : List �
     → (pickReply r′ ≡ gives (length s)) × (page′ ≡ s ++ drop (length s) page)
 pick-of-place {Q} {m} {t} {a} {s} {words} {r} {k} L e words′ w page l r′ page′ P =
     let F : Family = familyAt t a in
-    let z = replied (placeReply r) (placeRefusal Q m t a s words) (position s F) k (L .result) e in
+    let z = was-given k (placeRefusal Q m t a s words) (position s F) (sym e ∙ L .result) in
     let R = placed-ready Q m t a s words (z .0) in
     let i = nth-position s F (R .1) in
     let j : nth F k ≡ s = ap (nth F) (z .1) ∙ i .1 in

@@ -96,6 +96,14 @@ packageTests Q m ts = (oversize m Q, 1) ∷ (stray m Q, 2) ∷ ts
 abbrev pub tableTests : Problem → ℕ → List ℕ → List (Bool × ℕ) → List (Bool × ℕ)
 tableTests Q m t ts = packageTests Q m ((unsound Q t, 4) ∷ ts)
 
+-- and 5: of a call that reads the answer a
+abbrev pub openTests : (Q : Problem) (m : ℕ) (t : List ℕ) (a : ℕ) → List (Bool × ℕ)
+openTests Q m t a = tableTests Q m t ((unknownAnswer t a, 5) ∷ [])
+
+-- of one that is lent the costs C, 3 in its place
+abbrev pub pricedTests : (Q : Problem) (m : ℕ) (C t : List ℕ) (a : ℕ) → List (Bool × ℕ)
+pricedTests Q m C t a = packageTests Q m ((unpriced Q C, 3) ∷ (unsound Q t, 4) ∷ (unknownAnswer t a, 5) ∷ [])
+
 -- none of 1 and 2 applies
 pub record Fit (Q : Problem) (m : ℕ) : Type 0 where
   pub sized : oversize m Q ≡ false

@@ -1,9 +1,10 @@
 use Rattle.exact_cover.specs.Problem.{problemOf}
 use Rattle.printout.proofs.Sheets.{from-start, holds-same, said, unsaid, few-of}
-use Rattle.printout.proofs.Asking.{count-left, was-given, was-refused}
+use Rattle.printout.proofs.Asking.{count-left}
 use Rattle.printout.specs.Program.{answerText, sheet, Askable}
 use Rattle.statement.specs.Replies.{countReply}
 use Rattle.statement.specs.Refusals.{countRefusal}
+use Rattle.statement.proofs.TestLaws.{was-given, was-refused}
 use Rattle.query.specs.Questions.{familyAt}
 use lib.ListN.{length}
 use Prim.Native.Nat.{ℕ, _+_}
