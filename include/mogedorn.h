@@ -151,7 +151,7 @@ mogedorn_timetable mogedorn_pick(uint32_t m, const uint64_t *packages, size_t pa
 mogedorn_number mogedorn_place(uint32_t m, const uint64_t *packages, size_t packages_len, const uint32_t *table, size_t table_len, uint32_t answer,
                                const uint16_t *list, size_t list_len, uint64_t *work, size_t work_len);
 
-/* The timetable of least cost, the first listed of equals, written to the page. `costs` has one cost for each package. At least 2 (answer + 1) working words.
+/* The timetable of least cost, the first listed of equals, written to the page. `costs` has one cost for each package. At least answer + 1 working words.
    Refusals 1, 2, 3, 4, 5, 8, 13, 15. Stack: 265 KB. */
 mogedorn_timetable mogedorn_cheapest(uint32_t m, const uint64_t *packages, size_t packages_len, const uint16_t *costs, size_t costs_len,
                                      const uint32_t *table, size_t table_len, uint32_t answer, uint64_t *work, size_t work_len, uint16_t *page,

@@ -2,7 +2,7 @@
 use mathlib.Core.Path.{_≡_, sym, ap, ap₂, _∙_}
 use mathlib.Core.Bool.{Bool, true, false, not, _||_}
 use mathlib.Core.List.{List, [], _∷_, _++_}
-use Prim.Native.Nat.{ℕ, _+_, _*_, _≤_, _<_}
+use Prim.Native.Nat.{ℕ, _+_, _≤_, _<_}
 use native.Mathlib.Omega.{arith}
 use lib.Dec.{leb}
 use lib.ListN.{length}
@@ -264,15 +264,15 @@ module _ {Q : Problem} {m : ℕ} {C t keys : List ℕ} {a words r : ℕ} {page :
   cheapest-refused f = cheapest-post (refused-by o _ f) f
 
   module _ (ok : r ≡ 0) where
-    pub cheapest-words : words < 2 * (a + 1) → CheapestPost Q m C t a words page (PriceRefused 8) page
+    pub cheapest-words : words < a + 1 → CheapestPost Q m C t a words page (PriceRefused 8) page
     unfolding cheapestRefusal
-    cheapest-words h = cheapest-post (passed-by o _ tt ok ∙ hit 8 _ (too-few (2 * (a + 1)) words h)) (λ z. omega arith)
+    cheapest-words h = cheapest-post (passed-by o _ tt ok ∙ hit 8 _ (too-few (a + 1) words h)) (λ z. omega arith)
 
-    module _ (room : 2 * (a + 1) ≤ words) where
+    module _ (room : a + 1 ≤ words) where
       pub cheapest-nothing : a ≡ 0 → CheapestPost Q m C t a words page (PriceRefused 13) page
       unfolding cheapestRefusal
       cheapest-nothing e =
-          cheapest-post (passed-by o _ tt ok ∙ pass 8 _ (enough (2 * (a + 1)) words room) ∙ hit 13 _ (is-nothing a e)) (λ z. omega arith)
+          cheapest-post (passed-by o _ tt ok ∙ pass 8 _ (enough (a + 1) words room) ∙ hit 13 _ (is-nothing a e)) (λ z. omega arith)
 
       pub cheapest-delivers : {page′ : List ℕ} → (a ≡ 0 → ⊥) → (x : Priced) (b : Cheap) → cheapestReply x ≡ cheapReply b
           → Bought (cheapest C (familyAt t a)) (cost C (cheapest C (familyAt t a))) page page′ b → CheapestPost Q m C t a words page x page′
@@ -283,7 +283,7 @@ module _ {Q : Problem} {m : ℕ} {C t keys : List ℕ} {a words r : ℕ} {page :
           s = cheapest C (familyAt t a)
 
           so-far : cheapestRefusal Q m C t a words page ≡ firstOf ((shortPage page s, 15) ∷ [])
-          so-far = passed-by o _ tt ok ∙ pass 8 _ (enough (2 * (a + 1)) words room) ∙ pass 13 _ (something a some)
+          so-far = passed-by o _ tt ok ∙ pass 8 _ (enough (a + 1) words room) ∙ pass 13 _ (something a some)
 
           go : (b : Cheap) → cheapestReply x ≡ cheapReply b → Bought s (cost C s) page page′ b → CheapestPost Q m C t a words page x page′
           go (Found n c) d p =

@@ -257,7 +257,7 @@ pub fn cheapest(
         return Priced::Refused(r);
     }
     let a = base::wide(answer);
-    if work.len() < 2 * (a + 1) {
+    if work.len() < a + 1 {
         return Priced::Refused(8);
     }
     if a == 0 {

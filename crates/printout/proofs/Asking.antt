@@ -2,7 +2,7 @@
 use mathlib.Core.Path.{_≡_, refl, sym, ap, ap₂, _∙_, subst⁻¹}
 use mathlib.Core.Bool.{true, not, _&&_}
 use mathlib.Core.List.{List, [], _∷_}
-use Prim.Native.Nat.{ℕ, zero, suc, _+_, _*_, _^_, _≤_, _<_}
+use Prim.Native.Nat.{ℕ, zero, suc, _+_, _^_, _≤_, _<_}
 use native.Mathlib.Nat.{lt-of-lt-of-le}
 use native.Mathlib.Omega.{arith}
 use lib.Pow.{pow-pos, pow-mono}
@@ -82,7 +82,7 @@ pub count-left : {Q : Problem} {m : ℕ} {t : List ℕ} {a words : ℕ} → Aska
     → countRefusal Q m t a words ≡ firstOf ((uncountable (familyAt t a), 11) ∷ [])
 unfolding countRefusal
 count-left {t = t} {a} {words} A =
-    table-passes t _ (A .fit) (A .sound) ∙ pass 5 _ (A .known) ∙ pass 8 _ (enough (a + 1) words (omega (arith, A .room)))
+    table-passes t _ (A .fit) (A .sound) ∙ pass 5 _ (A .known) ∙ pass 8 _ (enough (a + 1) words (A .room))
 
 module _ {Q : Problem} {m : ℕ} {t : List ℕ} {a words : ℕ} (L : Listable Q m t a words) where
   abbrev A : Askable Q m t a words
@@ -99,7 +99,7 @@ module _ {Q : Problem} {m : ℕ} {t : List ℕ} {a words : ℕ} (L : Listable Q 
       → ((x : ℕ) → pickReply r ≡ gives x → n ≡ x) → (n ≤ 64) × (take n page′ ≡ nth F k)
   picked-page {k} {n} {page} {page′} l h P f =
       let b = A .short (nth F k) (nth-elem F k l) in
-      let z = pick-ready ready k words page (omega (arith, A .room)) l (omega (arith, h, b)) in
+      let z = pick-ready ready k words page (A .room) l (omega (arith, h, b)) in
       let e : n ≡ length (nth F k) = f (length (nth F k)) (P .result ∙ sym (reply-gives (length (nth F k)) z)) in
       (omega (arith, e, b), page-left (nth F k) page e z (P .pages))
 
@@ -117,7 +117,7 @@ module _ {Q : Problem} {m : ℕ} {t : List ℕ} {a words : ℕ} (L : Listable Q 
     unfolding cheapestRefusal
     cheapest-given page h =
         fit-passes _ (A .fit) ∙ pass 3 _ (all-priced Q C p) ∙ pass 4 _ (A .sound) ∙ pass 5 _ (A .known)
-        ∙ pass 8 _ (enough (2 * (a + 1)) words (A .room)) ∙ pass 13 _ (something a not-empty)
+        ∙ pass 8 _ (enough (a + 1) words (A .room)) ∙ pass 13 _ (something a not-empty)
         ∙ pass 15 _ (page-fits page s (omega (arith, h, A .short s in-F))) ∙ none
 
     -- what cheapest leaves; n is what was read off its answer

@@ -3,7 +3,7 @@
 use mathlib.Core.Path.{_≡_}
 use mathlib.Core.Bool.{true, false}
 use mathlib.Core.List.{List, [], _∷_, _++_}
-use Prim.Native.Nat.{ℕ, zero, suc, _+_, _*_, _≤_, min}
+use Prim.Native.Nat.{ℕ, zero, suc, _+_, _≤_, min}
 use lib.Dec.{eqb}
 use lib.ListN.{length, replicate, take}
 use Rattle.zdd.specs.Table.{Family, nodesOf, elem}
@@ -67,7 +67,7 @@ pub record Askable (Q : Problem) (m : ℕ) (t : List ℕ) (a words : ℕ) : Type
   pub fit : Fit Q m
   pub sound : unsound Q t ≡ false
   pub known : unknownAnswer t a ≡ false
-  pub room : 2 * (a + 1) ≤ words
+  pub room : a + 1 ≤ words
   pub short : (s : List ℕ) → elem s (familyAt t a) ≡ true → length s ≤ 64
 
 -- and count was not refused

@@ -1,8 +1,9 @@
-// Runs the calls that read an answer on two tables made by hand, and prints what each gives. The page holds 9s before each call; its first five
+// Runs the calls that read an answer on three tables made by hand, and prints what each gives. The page holds 9s before each call; its first five
 // words are printed after it.
 //
 // The first table is Figure 1 of document 000: number 5 holds "0 2" and "1 4 2". The second holds chains over 66 packages: number j from 2 to 67
-// holds all 2^(j - 1) subsets of the last j - 1 packages, and number 67 + i the 2^i - 1 non-empty ones of the last i, for i from 1 to 65.
+// holds all 2^(j - 1) subsets of the last j - 1 packages, and number 67 + i the 2^i - 1 non-empty ones of the last i, for i from 1 to 65. The third is one path
+// over 512 packages: number 513 holds the one timetable of them all.
 ghost use Prim.Native.Nat.{_≤_};
 use statement::Counted;
 use statement::Measured;
@@ -109,9 +110,10 @@ fn numbers(list: [u16; 66], n: usize) {
 
 // ---- the cases
 
-// A row, by its digits: the call; the table (0 the figure's, 1 a spoilt one, 2 the chains); M; the answer; the working words; the length of the page; and
-// of pick and measure which of KS, of place how many packages and these, of cheapest how many costs and which of COSTS.
-const CASES: [u64; 87] = [
+// A row, by its digits: the call; the table (0 the figure's, 1 a spoilt one, 2 the chains, 3 the path); M; the answer; the working words; the length of the page;
+// and of pick and measure which of KS, of place how many packages and these, of cheapest how many costs and which of COSTS. On the path cheapest has a page
+// of 512 and costs of 65535.
+const CASES: [u64; 91] = [
     // Count: each known number with the least words; then each refusal, where those behind it apply too.
     0_0_06_000_001_00_0_00_00_00,
     0_0_06_001_002_00_0_00_00_00,
@@ -166,21 +168,25 @@ const CASES: [u64; 87] = [
     2_0_06_005_006_00_3_00_04_02,
     2_0_06_005_006_00_0_00_00_00,
     2_0_06_000_001_00_0_00_00_00,
-    // Cheapest.
+    // Cheapest. From a + 1 words on the number of words changes nothing.
+    3_0_06_005_006_02_5_00_00_00,
+    3_0_06_005_011_02_5_00_00_00,
     3_0_06_005_012_02_5_00_00_00,
-    3_0_06_005_012_02_5_00_00_01,
-    3_0_06_005_012_03_5_00_00_02,
-    3_0_06_004_010_66_5_00_00_03,
-    3_0_06_001_004_00_5_00_00_04,
+    3_0_06_005_006_02_5_00_00_01,
+    3_0_06_005_006_03_5_00_00_02,
+    3_0_06_004_005_66_5_00_00_03,
+    3_0_06_001_002_00_5_00_00_04,
     3_1_65_006_000_00_1_00_00_04,
     3_1_05_006_000_00_1_00_00_04,
     3_1_06_006_000_00_1_00_00_04,
     3_1_06_006_000_00_5_00_00_04,
     3_0_06_006_000_00_5_00_00_04,
-    3_0_06_005_011_00_5_00_00_04,
+    3_0_06_005_005_00_5_00_00_04,
+    3_0_06_000_000_00_5_00_00_04,
     3_0_06_000_001_00_5_00_00_04,
-    3_0_06_000_002_00_5_00_00_04,
-    3_0_06_005_012_01_5_00_00_04,
+    3_0_06_005_006_01_5_00_00_04,
+    3_3_01_513_514_00_0_00_00_00,
+    3_3_01_513_513_00_0_00_00_00,
     // The chains. Numbers below 131 that it does not reach hold more than 2^64 timetables.
     0_2_64_064_065_00_0_00_00_00,
     0_2_64_065_066_00_0_00_00_00,
@@ -236,7 +242,7 @@ struct Case {
 }
 
 fn row(i: usize) -> Case {
-    let x = CASES[i % 87];
+    let x = CASES[i % 91];
     Case {
         call: (x / 1000000000000000000 % 10) as usize,
         table: (x / 100000000000000000 % 10) as usize,
@@ -283,9 +289,13 @@ fn measure(packages: &[u64], t: &[u32], c: Case, k: u64) {
     tell_measured(r);
 }
 
-fn page_after(page: [u16; 66]) {
+fn page_after(first: [u16; 5]) {
     text(PAGE);
-    numbers(page, 5);
+    half(first[0]);
+    half(first[1]);
+    half(first[2]);
+    half(first[3]);
+    half(first[4]);
 }
 
 fn pick(packages: &[u64], t: &[u32], c: Case, k: u64) {
@@ -305,7 +315,7 @@ fn pick(packages: &[u64], t: &[u32], c: Case, k: u64) {
         &mut page[0..room],
     );
     tell_picked(r);
-    page_after(page);
+    page_after([page[0], page[1], page[2], page[3], page[4]]);
 }
 
 fn place(packages: &[u64], t: &[u32], c: Case, list: [u16; 66]) {
@@ -336,7 +346,7 @@ fn cheapest(packages: &[u64], t: &[u32], c: Case, costs: [u16; 5]) {
         &mut page[0..room],
     );
     tell_priced(r);
-    page_after(page);
+    page_after([page[0], page[1], page[2], page[3], page[4]]);
 }
 
 fn ask(packages: &[u64], t: &[u32], c: Case) {
@@ -400,6 +410,39 @@ fn on_chains(c: Case) {
     ask(&packages, &t, c);
 }
 
+// Node i has the number i + 2.
+fn path() -> [u32; 1537] {
+    let mut t = [0u32; 1537];
+    t[0] = 512;
+    let mut i: u32 = 0;
+    while i < 512 {
+        let w = 3 * base::wide(i) + 1;
+        t[w] = 511 - i;
+        t[w + 2] = i + 1;
+        i += 1;
+    }
+    t
+}
+
+fn on_path(c: Case) {
+    mark(b':');
+    let t = path();
+    let words = least(c.words, 514);
+    let mut work = [7u64; 514];
+    let mut page = [9u16; 512];
+    let r = engine::cheapest(
+        c.m,
+        &[1; 512],
+        &[65535; 512],
+        &t,
+        c.answer,
+        &mut work[0..words],
+        &mut page,
+    );
+    tell_priced(r);
+    page_after([page[0], page[1], page[2], page[3], page[4]]);
+}
+
 fn run(c: Case) {
     text(c.call);
     number(c.answer as u64);
@@ -409,12 +452,15 @@ fn run(c: Case) {
     if c.table == 1 {
         return on_spoilt(c);
     }
-    on_chains(c)
+    if c.table == 2 {
+        return on_chains(c);
+    }
+    on_path(c)
 }
 
 fn main() {
     let mut i: usize = 0;
-    while i < 87 {
+    while i < 91 {
         run(row(i));
         mark(b'\n');
         i += 1;

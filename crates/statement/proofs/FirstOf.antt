@@ -1,9 +1,12 @@
 -- How a call's refusal is read off its list of tests. Assumes nothing.
-use mathlib.Core.Path.{_≡_, refl}
+use mathlib.Core.Path.{_≡_, refl, sym, _∙_}
 use mathlib.Core.Bool.{Bool, true, false}
 use mathlib.Core.List.{List, [], _∷_, _++_}
 use Prim.Native.Nat.{ℕ, zero, suc}
 use native.Mathlib.Omega.{arith}
+use lib.Dec.{eqb}
+use borrow.Author.Tests.{eq-eqb}
+use Rattle.base.proofs.Bools.{never}
 use Rattle.statement.specs.Refusals.{firstOf}
 
 -- the first test fails: the others decide
@@ -57,3 +60,52 @@ behind (x ∷ xs) ts n e = go (x .0) (x .1) n (behind xs ts) e
     go b zero n h e = absurd n
     go true (suc k) n h e = absurd (omega arith)
     go false (suc k) n h e = h n e
+
+-- a test gives way to one that holds less often: where its number was not the refusal, the refusal stays
+pub relaxed : (xs ts : List (Bool × ℕ)) (n : ℕ) {b c : Bool} → (c ≡ true → b ≡ true) → (firstOf (xs ++ ((b, n) ∷ ts)) ≡ n → ⊥)
+    → firstOf (xs ++ ((c, n) ∷ ts)) ≡ firstOf (xs ++ ((b, n) ∷ ts))
+unfolding firstOf
+relaxed [] ts n {b} {c} h f = go b c h f
+  where
+    go : (b c : Bool) → (c ≡ true → b ≡ true) → (firstOf ((b, n) ∷ ts) ≡ n → ⊥) → firstOf ((c, n) ∷ ts) ≡ firstOf ((b, n) ∷ ts)
+    go true c h f = absurd (f refl)
+    go false true h f = absurd (never (h refl) refl)
+    go false false h f = refl
+relaxed (x ∷ xs) ts n {b} {c} h f = go (x .0) (relaxed xs ts n h) f
+  where
+    go : (d : Bool) → ((firstOf (xs ++ ((b, n) ∷ ts)) ≡ n → ⊥) → firstOf (xs ++ ((c, n) ∷ ts)) ≡ firstOf (xs ++ ((b, n) ∷ ts)))
+        → (firstOf ((d, x .1) ∷ (xs ++ ((b, n) ∷ ts))) ≡ n → ⊥)
+        → firstOf ((d, x .1) ∷ (xs ++ ((c, n) ∷ ts))) ≡ firstOf ((d, x .1) ∷ (xs ++ ((b, n) ∷ ts)))
+    go true ih f = refl
+    go false ih f = ih f
+
+-- n is not 0, and no test has it
+abbrev differs : Bool → Type 0 → Type 0
+differs true T = ⊥
+differs false T = T
+
+abbrev pub Avoids : ℕ → List (Bool × ℕ) → Type 0
+Avoids n [] = counts n (Unit {0})
+Avoids n (x ∷ xs) = differs (eqb (x .1) n) (Avoids n xs)
+
+avoided : (n : ℕ) (ts : List (Bool × ℕ)) → Avoids n ts → firstOf ts ≡ n → ⊥
+unfolding firstOf
+avoided zero [] a e = a
+avoided (suc n) [] a e = omega arith
+avoided n (x ∷ ts) a e = go (x .0) (eqb (x .1) n) refl a e (avoided n ts)
+  where
+    go : (b q : Bool) → eqb (x .1) n ≡ q → differs q (Avoids n ts) → firstOf ((b, x .1) ∷ ts) ≡ n → (Avoids n ts → firstOf ts ≡ n → ⊥) → ⊥
+    go b true p a e ih = a
+    go true false p a e ih = never (eq-eqb (x .1) n e) p
+    go false false p a e ih = ih a e
+
+-- a refusal whose number one test alone has: no test before that one holds, and it does
+pub only-there : (xs ts : List (Bool × ℕ)) (n : ℕ) {b : Bool} → Numbered xs → Avoids n xs → Avoids n ts → firstOf (xs ++ ((b, n) ∷ ts)) ≡ n
+    → (firstOf xs ≡ 0) × (b ≡ true)
+unfolding firstOf
+only-there xs ts n {b} m a c e = go (firstOf xs) refl b e
+  where
+    go : (k : ℕ) → firstOf xs ≡ k → (b : Bool) → firstOf (xs ++ ((b, n) ∷ ts)) ≡ n → (firstOf xs ≡ 0) × (b ≡ true)
+    go zero p true e = (p, refl)
+    go zero p false e = absurd (avoided n ts c (sym (behind xs ((false, n) ∷ ts) m p) ∙ e))
+    go (suc k) p b e = absurd (avoided n xs a (sym (front xs ((b, n) ∷ ts) (λ z. omega (arith, p, z))) ∙ e))

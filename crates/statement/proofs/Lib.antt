@@ -9,6 +9,7 @@ pub mod Undo
 pub mod Measure
 pub mod Counts
 pub mod Cheapest
+pub mod HalfWords
 pub mod Full
 pub mod Kiosk
 mod Examples

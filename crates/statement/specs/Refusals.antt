@@ -4,7 +4,7 @@
 use mathlib.Core.Path.{_≡_}
 use mathlib.Core.Bool.{Bool, true, false, not, _||_}
 use mathlib.Core.List.{List, [], _∷_}
-use Prim.Native.Nat.{ℕ, _+_, _*_, _/_}
+use Prim.Native.Nat.{ℕ, _+_, _/_}
 use lib.Dec.{eqb, leb, ltb}
 use lib.ListN.{length}
 use Rattle.itemset.specs.Items.{belowb}
@@ -152,14 +152,14 @@ placeRefusal Q m t a s words =
     (absent (familyAt t a) s, 14) ∷
     []))
 
--- C has the costs: 3 stands between the tests of the packages and of the table
+-- C has the costs: 3 stands between the tests of the packages and of the table. The least working words are a + 1 [document 02, No. 10]
 unfoldable pub cheapestRefusal : (Q : Problem) (m : ℕ) (C : List ℕ) (t : List ℕ) (a words : ℕ) (page : List ℕ) → ℕ
 cheapestRefusal Q m C t a words page =
     firstOf (packageTests Q m (
     (unpriced Q C, 3) ∷
     (unsound Q t, 4) ∷
     (unknownAnswer t a, 5) ∷
-    (shortWork (2 * (a + 1)) words, 8) ∷
+    (shortWork (a + 1) words, 8) ∷
     (nothing a, 13) ∷
     (shortPage page (cheapest C (familyAt t a)), 15) ∷
     []))

@@ -292,14 +292,14 @@ impl History {
         assert_eq!(got, self.first_refusal(), "check");
     }
 
-    /// 1 to 8 of a question on answer a, with the least working words.
-    fn question_refusal(&self, a: u32, work: &[u64], least: u64, cost_list: bool, list: Option<&[u16]>) -> u32 {
+    /// 1 to 8 of a question on answer a.
+    fn question_refusal(&self, a: u32, work: &[u64], cost_list: bool, list: Option<&[u16]>) -> u32 {
         let s = Packages::new(self.m, &self.sets);
         match self.first_refusal() {
             0 | 4 if !cost_list => 3,
             0 if a as u64 >= self.nodes() + 2 => 5,
             0 if list.is_some_and(|l| l.iter().any(|&p| p as usize >= s.n()) || l.windows(2).any(|w| !s.before(w[0] as usize, w[1] as usize))) => 6,
-            0 if (work.len() as u64) < least => 8,
+            0 if (work.len() as u64) < a as u64 + 1 => 8,
             r => r,
         }
     }
@@ -309,7 +309,7 @@ impl History {
         let mut work = self.work((a as u64 + 1).min(2000));
         let got = ffi::count(self.m, &self.sets, &self.table, a, &mut work);
         self.told(got.refusal);
-        let expected = match self.question_refusal(a, &work, a as u64 + 1, true, None) {
+        let expected = match self.question_refusal(a, &work, true, None) {
             0 => ffi::Number { refusal: 0, value: self.known[a as usize].len() },
             r => ffi::Number { refusal: r, value: 0 },
         };
@@ -330,7 +330,7 @@ impl History {
         let s = Packages::new(self.m, &self.sets);
         let member = self.known.get(a as usize).and_then(|f| s.listing(f).get(k as usize).copied());
         let list = member.map(|t| s.written(t)).unwrap_or_default();
-        let refusal = match self.question_refusal(a, &work, a as u64 + 1, true, None) {
+        let refusal = match self.question_refusal(a, &work, true, None) {
             0 if k >= count => 12,
             r => r,
         };
@@ -385,7 +385,7 @@ impl History {
         let mut work = self.work((a as u64 + 1).min(2000));
         let got = ffi::place(self.m, &self.sets, &self.table, a, &list, &mut work);
         self.told(got.refusal);
-        let refusal = self.question_refusal(a, &work, a as u64 + 1, true, Some(&list));
+        let refusal = self.question_refusal(a, &work, true, Some(&list));
         let mask = list.iter().fold(0u32, |t, &p| t | 1u32.checked_shl(p as u32).unwrap_or(0));
         let expected = match (refusal, listing.iter().position(|&t| t == mask)) {
             (0, Some(k)) => ffi::Number { refusal: 0, value: k as u64 },
@@ -410,13 +410,12 @@ impl History {
         let least = listing.iter().map(|&t| cost(t)).min();
         let first = listing.iter().copied().find(|&t| Some(cost(t)) == least);
         let list = first.map(|t| s.written(t)).unwrap_or_default();
-        let words = 2 * (a as u64 + 1);
-        let mut work = self.work(words.min(2000));
+        let mut work = self.work((a as u64 + 1).min(2000));
         let mut page = self.page(list.len());
         let before = page.clone();
         let got = ffi::cheapest(self.m, &self.sets, &costs, &self.table, a, &mut work, &mut page);
         self.told(got.refusal);
-        let refusal = match self.question_refusal(a, &work, words, costs.len() == s.n(), None) {
+        let refusal = match self.question_refusal(a, &work, costs.len() == s.n(), None) {
             0 if a == 0 => 13,
             0 if list.len() > before.len() => 15,
             r => r,

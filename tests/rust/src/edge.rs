@@ -1,5 +1,5 @@
-//! Edges that no listing of small sets reaches: 2^64 timetables, by two packages for each of 64 items, and a table of 65534 nodes, whose last number is the one
-//! result that is not remembered.
+//! Edges that no listing of small sets reaches: 2^64 timetables, by two packages for each of 64 items; a timetable of 512 packages at the greatest cost; and a
+//! table of 65534 nodes, whose last number is the one result that is not remembered.
 
 use crate::ffi;
 
@@ -37,6 +37,20 @@ pub fn sixty_four_bits() {
     // union gives the first number back, and the intersection is empty
     assert_eq!(ffi::combine(0, 64, &sets, &mut table, rest, last, &mut work).answer, a);
     assert_eq!(ffi::combine(1, 64, &sets, &mut table, rest, last, &mut work).answer, 0);
+}
+
+pub fn greatest_cost() {
+    let (sets, costs) = (vec![1; 512], vec![65535; 512]);
+    let mut table = vec![512];
+    (0..512).for_each(|i| table.extend([511 - i, 0, i + 1]));
+    let mut work = vec![0; 514];
+    let mut page = vec![9; 512];
+    // one word too few, then just enough
+    let short = ffi::cheapest(1, &sets, &costs, &table, 513, &mut work[..513], &mut page);
+    assert_eq!((short.refusal, page.iter().all(|&p| p == 9)), (8, true));
+    let all = ffi::cheapest(1, &sets, &costs, &table, 513, &mut work, &mut page);
+    assert_eq!((all.refusal, all.packages, all.cost), (0, 512, 33553920));
+    assert!(page.iter().enumerate().all(|(i, &p)| p as usize == i));
 }
 
 pub fn last_number() {

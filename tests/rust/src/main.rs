@@ -17,6 +17,7 @@ fn main() {
     let first = args.next().unwrap_or(1);
     let most = args.next().unwrap_or(120_000);
     edge::sixty_four_bits();
+    edge::greatest_cost();
     edge::last_number();
     let (mut calls, mut files, mut seed) = (0, 0, first);
     let mut outcomes = [0u64; 32];

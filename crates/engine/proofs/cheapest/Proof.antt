@@ -10,9 +10,6 @@ returns c = cheapest-refused (c .before .opened-priced .ensures) (c .if1 .taken)
 add-if2 : tie.Need-add-if2
 add-if2 c = omega (arith, c .wide .ensures)
 
-mul-if2 : tie.Need-mul-if2
-mul-if2 c = omega (arith, c .wide .ensures)
-
 returns-2 : tie.Need-returns-2
 returns-2 c = cheapest-words (c .before .before .before .opened-priced .ensures) (c .before .before .if1 .left) (omega (arith, c .before .wide .ensures, c .if2 .taken))
 
@@ -48,5 +45,5 @@ returns-4 c =
 pub cheapest-spec : {M : Type 1} → statement M
 cheapest-spec =
     tie.close
-    (tie.spec (λ c κs. search needs) returns (λ c κs. search needs) add-if2 mul-if2 returns-2 returns-3 cheapest-requires (λ c κs. search needs)
+    (tie.spec (λ c κs. search needs) returns (λ c κs. search needs) add-if2 returns-2 returns-3 cheapest-requires (λ c κs. search needs)
     (λ c. search needs) (λ c. search needs) returns-4)
