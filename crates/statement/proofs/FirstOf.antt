@@ -61,24 +61,6 @@ behind (x ∷ xs) ts n e = go (x .0) (x .1) n (behind xs ts) e
     go true (suc k) n h e = absurd (omega arith)
     go false (suc k) n h e = h n e
 
--- a test gives way to one that holds less often: where its number was not the refusal, the refusal stays
-pub relaxed : (xs ts : List (Bool × ℕ)) (n : ℕ) {b c : Bool} → (c ≡ true → b ≡ true) → (firstOf (xs ++ ((b, n) ∷ ts)) ≡ n → ⊥)
-    → firstOf (xs ++ ((c, n) ∷ ts)) ≡ firstOf (xs ++ ((b, n) ∷ ts))
-unfolding firstOf
-relaxed [] ts n {b} {c} h f = go b c h f
-  where
-    go : (b c : Bool) → (c ≡ true → b ≡ true) → (firstOf ((b, n) ∷ ts) ≡ n → ⊥) → firstOf ((c, n) ∷ ts) ≡ firstOf ((b, n) ∷ ts)
-    go true c h f = absurd (f refl)
-    go false true h f = absurd (never (h refl) refl)
-    go false false h f = refl
-relaxed (x ∷ xs) ts n {b} {c} h f = go (x .0) (relaxed xs ts n h) f
-  where
-    go : (d : Bool) → ((firstOf (xs ++ ((b, n) ∷ ts)) ≡ n → ⊥) → firstOf (xs ++ ((c, n) ∷ ts)) ≡ firstOf (xs ++ ((b, n) ∷ ts)))
-        → (firstOf ((d, x .1) ∷ (xs ++ ((b, n) ∷ ts))) ≡ n → ⊥)
-        → firstOf ((d, x .1) ∷ (xs ++ ((c, n) ∷ ts))) ≡ firstOf ((d, x .1) ∷ (xs ++ ((b, n) ∷ ts)))
-    go true ih f = refl
-    go false ih f = ih f
-
 -- n is not 0, and no test has it
 abbrev differs : Bool → Type 0 → Type 0
 differs true T = ⊥
