@@ -1,8 +1,10 @@
 -- Worked examples of the definitions at 64-bit numbers, by computation. Assumes nothing.
 use mathlib.Core.Path.{_≡_, refl}
 use mathlib.Core.Bool.{true, false}
+use mathlib.Core.List.{[], _∷_}
 use Prim.Native.Nat.{_+_, _-_, _^_}
 use Rattle.itemset.specs.Items.{holds, insideb, without, belowb, size, lowest}
+use Rattle.itemset.specs.Words.{valueOf, setsOf}
 
 holds-top : holds 63 (2 ^ 63 + 5) ≡ true
 unfolding holds
@@ -48,3 +50,12 @@ lowest-top = refl
 lowest-wide : lowest (2 ^ 191 + 2 ^ 150) ≡ 150
 unfolding lowest
 lowest-wide = refl
+
+value-of-three : valueOf (5 ∷ 0 ∷ 2 ^ 63 ∷ []) ≡ 2 ^ 191 + 5
+unfolding valueOf
+value-of-three = refl
+
+-- seven words are two packages
+rows-of-seven : setsOf (1 ∷ 0 ∷ 0 ∷ 0 ∷ 1 ∷ 0 ∷ 9 ∷ []) ≡ 1 ∷ 2 ^ 64 ∷ []
+unfolding valueOf setsOf
+rows-of-seven = refl

@@ -1,18 +1,18 @@
--- `items::below` meets its contract. Where m is 64 every number of 64 bits is below 2 ^ m. Assumes nothing.
-use mathlib.Core.Path.{sym, subst⁻¹}
-use Prim.Native.Nat.{ℕ, _^_, _<_}
-use Rattle.itemset.proofs.Laws.{lt-below, below-shift}
+-- `itemset::below` meets its contract. Assumes nothing.
+use mathlib.Core.Path.{sym, _∙_}
 use borrow.Author.Needs.{needs}
+use Rattle.itemset.proofs.Lists.{below-words}
+use Rattle.itemset.proofs.Three.{words, known, below-three}
 use Rattle.itemset.proofs.below.Statement.{statement}
 use Rattle.itemset.proofs.below.Tie as tie
 
 returns : tie.Need-returns
 returns c =
-    sym (lt-below (c .before .args .x) (c .before .args .m)
-    (subst⁻¹ (λ (m : ℕ). c .before .args .x < 2 ^ m) (c .if1 .taken) (c .before .fits .x .fits)))
-
-returns-2 : tie.Need-returns-2
-returns-2 c = below-shift (c .before .args .x) (c .before .args .m)
+    let x = c .before .before .before .before .before .args .x in
+    let m = c .before .before .before .before .before .args .m in
+    (cc) ∙ below-three x m ∙ sym (below-words (words x (known x (c .before .before .before .before .before .good .0))) m)
 
 pub below-spec : {M : Type 1} → statement M
-below-spec = tie.close (tie.spec returns (λ c. search needs) returns-2)
+below-spec =
+    tie.close
+    (tie.spec (λ c κs. search needs) (λ c κs. search needs) (λ c κs. search needs) (λ c κs. search needs) (λ c κs. search needs) returns)
