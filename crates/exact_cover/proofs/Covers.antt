@@ -9,6 +9,7 @@ use native.Mathlib.Omega.{arith}
 use lib.Dec.{eqb}
 use borrow.Author.Tests.{eqb-true, eq-eqb}
 use Rattle.itemset.specs.Items.{holds, insideb, without}
+use Rattle.itemset.specs.Words.{width}
 use Rattle.base.proofs.Bools.{by-test, clash, same-test, and-left, and-right}
 use Rattle.itemset.proofs.Laws.{holds-lt, holds-without, inside-holds, holds-inside-all, inside-trans, without-inside, without-apart, without-either}
 use Rattle.exact_cover.specs.Problem.{Problem, row, lead, done}
@@ -91,15 +92,15 @@ module _ (Q : Problem) where
 
   covers-inside : (D : ℕ) (t : List ℕ) → covers Q D t ≡ true → allInside Q D t ≡ true
   unfolding covers
-  covers-inside D t h = and-left (allInside Q D t) (once Q 64 D t) h
+  covers-inside D t h = and-left (allInside Q D t) (once Q width D t) h
 
-  covers-one : (D : ℕ) (t : List ℕ) → covers Q D t ≡ true → (i : ℕ) → i < 64 → holds i D ≡ true → holders Q i t ≡ 1
+  covers-one : (D : ℕ) (t : List ℕ) → covers Q D t ≡ true → (i : ℕ) → i < width → holds i D ≡ true → holders Q i t ≡ 1
   unfolding covers
-  covers-one D t h = once-one 64 D t (and-right (allInside Q D t) (once Q 64 D t) h)
+  covers-one D t h = once-one width D t (and-right (allInside Q D t) (once Q width D t) h)
 
-  to-covers : (D : ℕ) (t : List ℕ) → allInside Q D t ≡ true → ((i : ℕ) → i < 64 → holds i D ≡ true → holders Q i t ≡ 1) → covers Q D t ≡ true
+  to-covers : (D : ℕ) (t : List ℕ) → allInside Q D t ≡ true → ((i : ℕ) → i < width → holds i D ≡ true → holders Q i t ≡ 1) → covers Q D t ≡ true
   unfolding covers
-  to-covers D t a h = ap₂ _&&_ a (one-once 64 D t h)
+  to-covers D t a h = ap₂ _&&_ a (one-once width D t h)
 
   first-inside : (D p : ℕ) (t : List ℕ) → allInside Q D (p ∷ t) ≡ true → (insideb (row Q p) D ≡ true) × (allInside Q D t ≡ true)
   unfolding allInside
@@ -109,7 +110,7 @@ module _ (Q : Problem) where
   unfolding allInside
   inside-first D p t a b = ap₂ _&&_ a b
 
-  covers-split : (D p : ℕ) (t : List ℕ) → D < 2 ^ 64 → covers Q D (p ∷ t) ≡ true → insideb (row Q p) D && covers Q (without D (row Q p)) t ≡ true
+  covers-split : (D p : ℕ) (t : List ℕ) → D < 2 ^ width → covers Q D (p ∷ t) ≡ true → insideb (row Q p) D && covers Q (without D (row Q p)) t ≡ true
   covers-split D p t w h =
       let a = first-inside D p t (covers-inside D (p ∷ t) h) in
       ap₂ _&&_ (a .0)
@@ -117,7 +118,7 @@ module _ (Q : Problem) where
       (inside-down D (row Q p) t
       (λ i y.
       let d : holds i D ≡ true = inside-holds (row Q p) D (a .0) i y in
-      omega (arith, covers-one D (p ∷ t) h i (holds-lt 64 i w d) d, holders-yes i p t y))
+      omega (arith, covers-one D (p ∷ t) h i (holds-lt width i w d) d, holders-yes i p t y))
       (a .1))
       (λ i l d.
       let e : holds i D && not (holds i (row Q p)) ≡ true = sym (holds-without i D (row Q p)) ∙ d in
@@ -139,7 +140,7 @@ module _ (Q : Problem) where
       (without-either i D (row Q p) d))
 
   -- the first package lies inside D, and the others cover what it leaves
-  pub covers-cons : (D p : ℕ) (t : List ℕ) → D < 2 ^ 64 → covers Q D (p ∷ t) ≡ insideb (row Q p) D && covers Q (without D (row Q p)) t
+  pub covers-cons : (D p : ℕ) (t : List ℕ) → D < 2 ^ width → covers Q D (p ∷ t) ≡ insideb (row Q p) D && covers Q (without D (row Q p)) t
   covers-cons D p t w =
       same-test (covers Q D (p ∷ t)) (insideb (row Q p) D && covers Q (without D (row Q p)) t)
       (covers-split D p t w)
@@ -156,7 +157,7 @@ module _ (Q : Problem) where
   covers-nil D e = to-covers D [] (nil-inside D) (λ i l d. clash (holds i D) d (done-none Q D e i))
 
   -- and no more than that
-  pub nil-not : (D : ℕ) → done Q D ≡ false → D < 2 ^ 64 → covers Q D [] ≡ false
+  pub nil-not : (D : ℕ) → done Q D ≡ false → D < 2 ^ width → covers Q D [] ≡ false
   nil-not D o w =
       by-test (covers Q D [])
       (λ h. absurd (omega (arith, covers-one D [] h (lead Q D) (lead-lt Q D o w) (lead-holds Q D o), holders-nil (lead Q D))))

@@ -8,23 +8,24 @@ use borrow.Author.Tests.{not-true}
 use lib.Dec.{lit<, lit≤}
 use lib.ListN.{length, getD}
 use Rattle.itemset.specs.Items.{holds, insideb, without, lowest, size}
+use Rattle.itemset.specs.Words.{width}
 use Rattle.zdd.specs.Table.{order, allSets, sets, filter}
 use Rattle.base.proofs.Bools.{and-left, and-right}
-use Rattle.exact_cover.specs.Problem.{Problem, problemOf, lead, done, Rows}
+use Rattle.exact_cover.specs.Problem.{Problem, lead, done, Rows}
 use Rattle.exact_cover.specs.Cover.{keysFrom, holders, allInside, once, covers, covering, fits, down, candidates, keysOf}
 use Rattle.exact_cover.specs.Recursion.{gather, solve}
 use Rattle.exact_cover.specs.Steps.{each, visit, steps}
 use Rattle.exact_cover.proofs.Solve.{solve-covering}
 
 abbrev five : Problem
-five = problemOf (0b010111 ∷ 0b000011 ∷ 0b101000 ∷ 0b101100 ∷ 0b010100 ∷ [])
+five = record { packages = 0b010111 ∷ 0b000011 ∷ 0b101000 ∷ 0b101100 ∷ 0b010100 ∷ [] }
 
 five-order : order (keysOf five) ≡ 0 ∷ 1 ∷ 3 ∷ 4 ∷ 2 ∷ []
 unfolding keysFrom keysOf order lead lowest
 five-order = refl
 
 five-covering : covering five 0b111111 ≡ (0 ∷ 2 ∷ []) ∷ (1 ∷ 4 ∷ 2 ∷ []) ∷ []
-unfolding keysFrom keysOf order allSets sets holders allInside once covers filter covering lead lowest holds insideb
+unfolding keysFrom keysOf order allSets sets holders allInside once width covers filter covering lead lowest holds insideb
 five-covering = refl
 
 five-candidates : candidates five 0b111100 ≡ 4 ∷ 3 ∷ []
@@ -39,24 +40,27 @@ five-steps-small : steps five 4 0b111111 ≡ 7
 unfolding fits down candidates filter lead lowest holds insideb without size each done visit steps
 five-steps-small = refl
 
+abbrev none : Problem
+none = record { packages = [] }
+
 -- no items and no packages: one set, the empty one
-none-of-none : covering (problemOf []) 0 ≡ [] ∷ []
-unfolding keysFrom keysOf order allSets sets holders allInside once covers filter covering lead lowest holds insideb
+none-of-none : covering none 0 ≡ [] ∷ []
+unfolding keysFrom keysOf order allSets sets holders allInside once width covers filter covering lead lowest holds insideb
 none-of-none = refl
 
 -- one item and no packages
-none-of-one : covering (problemOf []) 1 ≡ []
-unfolding keysFrom keysOf order allSets sets holders allInside once covers filter covering lead lowest holds insideb
+none-of-one : covering none 1 ≡ []
+unfolding keysFrom keysOf order allSets sets holders allInside once width covers filter covering lead lowest holds insideb
 none-of-one = refl
 
 -- two packages of the same item
-two-of-one : covering (problemOf (1 ∷ 1 ∷ [])) 1 ≡ (0 ∷ []) ∷ (1 ∷ []) ∷ []
-unfolding keysFrom keysOf order allSets sets holders allInside once covers filter covering lead lowest holds insideb
+two-of-one : covering (record { packages = 1 ∷ 1 ∷ [] }) 1 ≡ (0 ∷ []) ∷ (1 ∷ []) ∷ []
+unfolding keysFrom keysOf order allSets sets holders allInside once width covers filter covering lead lowest holds insideb
 two-of-one = refl
 
 -- the tilings of a board of 2 by 6 with dominoes: 16 packages, more than `covering` goes through in good time
 abbrev dominoes : Problem
-dominoes = problemOf (3 ∷ 5 ∷ 10 ∷ 12 ∷ 20 ∷ 40 ∷ 48 ∷ 80 ∷ 160 ∷ 192 ∷ 320 ∷ 640 ∷ 768 ∷ 1280 ∷ 2560 ∷ 3072 ∷ [])
+dominoes = record { packages = 3 ∷ 5 ∷ 10 ∷ 12 ∷ 20 ∷ 40 ∷ 48 ∷ 80 ∷ 160 ∷ 192 ∷ 320 ∷ 640 ∷ 768 ∷ 1280 ∷ 2560 ∷ 3072 ∷ [] }
 
 dominoes-solve : length (solve (size 4095) dominoes 4095) ≡ 13
 unfolding fits down candidates filter gather done solve lead lowest holds insideb without size
@@ -79,6 +83,7 @@ dominoes-good = record { some = open-from (dominoes .packages) refl; few = lit�
 
 -- so `covering` has as many, by `solve-covering`
 dominoes-covering : length (covering dominoes 4095) ≡ 13
+unfolding width
 dominoes-covering =
     ap length (sym (solve-covering dominoes dominoes-good 4095 (lit< tt))) ∙ dominoes-solve
 

@@ -6,9 +6,10 @@ use Prim.Native.Nat.{ℕ, _^_, _≤_, _<_}
 use native.Mathlib.Nat.{eq-zero-or-pos}
 use native.Mathlib.Omega.{arith}
 use lib.Dec.{eqb}
-use borrow.Author.Tests.{eqb-true, eqb-false, eq-eqb, ne-eqb}
+use borrow.Author.Tests.{eqb-true, eqb-false, ne-eqb}
 use Rattle.base.proofs.Bools.{by-test}
 use Rattle.itemset.specs.Items.{holds, insideb, size, lowest}
+use Rattle.itemset.specs.Words.{width}
 use Rattle.itemset.proofs.Laws.{holds-none, holds-pos, inside-holds, size-pos, lowest-holds, lowest-le, lowest-lt}
 use Rattle.exact_cover.specs.Problem.{Problem, lead, done}
 
@@ -29,9 +30,6 @@ module _ (Q : Problem) (A : ℕ) where
   pub done-zero : done Q A ≡ true → A ≡ 0
   done-zero e = eqb-true A 0 (sym done-is ∙ e)
 
-  pub zero-done : A ≡ 0 → done Q A ≡ true
-  zero-done z = done-is ∙ eq-eqb A 0 z
-
   pub pos-open : 0 < A → done Q A ≡ false
   pos-open l = done-is ∙ ne-eqb A 0 (λ z. omega arith)
 
@@ -49,8 +47,8 @@ module _ (Q : Problem) (A : ℕ) where
     pub lead-holds : holds (lead Q A) A ≡ true
     lead-holds = rw lead-is (lowest-holds A (open-pos o))
 
-    pub lead-lt : A < 2 ^ 64 → lead Q A < 64
-    lead-lt w = rw lead-is (lowest-lt 64 A (open-pos o) w)
+    pub lead-lt : A < 2 ^ width → lead Q A < width
+    lead-lt w = rw lead-is (lowest-lt width A (open-pos o) w)
 
 -- what has the lead of a set that is not done is not done either, and leads no later
 module _ (Q : Problem) (A : ℕ) (o : done Q A ≡ false) (B : ℕ) (h : holds (lead Q A) B ≡ true) where

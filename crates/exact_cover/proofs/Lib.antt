@@ -9,6 +9,7 @@ pub mod Listing
 pub mod Solve
 pub mod Fuel
 pub mod Walks
+pub mod Roomy
 pub mod Loops
 pub mod Partial
 pub mod Trial

@@ -10,6 +10,7 @@ use lib.Dec.{ltb}
 use lib.ListN.{length}
 use borrow.Author.Tests.{ltb-true}
 use Rattle.itemset.specs.Items.{holds, insideb, without}
+use Rattle.itemset.specs.Words.{width}
 use Rattle.base.proofs.Bools.{by-test, clash, is-false, never}
 use Rattle.itemset.proofs.Laws.{holds-without, without-lt}
 use Rattle.zdd.specs.Table.{insertBy, orderTo, order, allSets, sets, filter}
@@ -32,7 +33,7 @@ found Q B L = filter (covers Q B) (allSets L)
 
 -- ---- one package more
 
-found-in : (Q : Problem) (B q : ℕ) (L : List ℕ) → B < 2 ^ 64 → insideb (row Q q) B ≡ true
+found-in : (Q : Problem) (B q : ℕ) (L : List ℕ) → B < 2 ^ width → insideb (row Q q) B ≡ true
     → found Q B (q ∷ L) ≡ map (with-p q) (found Q (without B (row Q q)) L) ++ found Q B L
 unfolding allSets
 found-in Q B q L w e =
@@ -43,7 +44,7 @@ found-in Q B q L w e =
     (filter-same (λ (t : List ℕ). covers Q B (q ∷ t)) (covers Q (without B (row Q q))) (allSets L)
     (λ t. covers-cons Q B q t w ∙ ap (λ (b : Bool). b && covers Q (without B (row Q q)) t) e)))
 
-found-out : (Q : Problem) (B q : ℕ) (L : List ℕ) → B < 2 ^ 64 → insideb (row Q q) B ≡ false → found Q B (q ∷ L) ≡ found Q B L
+found-out : (Q : Problem) (B q : ℕ) (L : List ℕ) → B < 2 ^ width → insideb (row Q q) B ≡ false → found Q B (q ∷ L) ≡ found Q B L
 unfolding allSets
 found-out Q B q L w e =
     filter-append (covers Q B) (map (with-p q) (allSets L)) (allSets L)
@@ -54,19 +55,19 @@ found-out Q B q L w e =
     (λ t. covers-cons Q B q t w ∙ ap (λ (b : Bool). b && covers Q (without B (row Q q)) t) e)
     ∙ filter-none (allSets L)))
 
-found-nil : (Q : Problem) (B : ℕ) → done Q B ≡ false → B < 2 ^ 64 → found Q B [] ≡ []
+found-nil : (Q : Problem) (B : ℕ) → done Q B ≡ false → B < 2 ^ width → found Q B [] ≡ []
 unfolding allSets
 found-nil Q B o w = filter-not (covers Q B) [] [] (nil-not Q B o w) ∙ filter-nil (covers Q B)
 
 -- the lead of A, which no package from m on has
-none : (Q : Problem) (A B m : ℕ) (L : List ℕ) → done Q A ≡ false → B < 2 ^ 64 → holds (lead Q A) B ≡ true → Ascends Q (length (Q .packages)) m L
+none : (Q : Problem) (A B m : ℕ) (L : List ℕ) → done Q A ≡ false → B < 2 ^ width → holds (lead Q A) B ≡ true → Ascends Q (length (Q .packages)) m L
     → ((p : ℕ) → p < length (Q .packages) → m ≤ rank Q p → holds (lead Q A) (row Q p) ≡ false) → found Q B L ≡ []
 none Q A B m [] o w y h n = found-nil Q B (lead-open Q A o B y) w
 none Q A B m (q ∷ L) o w y h n =
     by-test (insideb (row Q q) B)
     (λ t. found-in Q B q L w t
     ∙ ap₂ (λ (a b : List (List ℕ)). map (with-p q) a ++ b)
-    (none Q A (without B (row Q q)) (suc (rank Q q)) L o (without-lt 64 (row Q q) w)
+    (none Q A (without B (row Q q)) (suc (rank Q q)) L o (without-lt width (row Q q) w)
     (holds-without (lead Q A) B (row Q q) ∙ ap₂ (λ (a b : Bool). a && not b) y (n q (h .0) (h .1)))
     (h .2) (λ p l k. n p l (omega arith)))
     (none Q A B (suc (rank Q q)) L o w y (h .2) (λ p l k. n p l (omega arith))))
@@ -81,7 +82,7 @@ unfit : (Q : Problem) (A q : ℕ) → insideb (row Q q) A ≡ true → fits Q A 
 unfolding fits
 unfit Q A q t f = by-test (holds (lead Q A) (row Q q)) (λ y. clash (fits Q A q) (ap₂ _&&_ y t) f) (λ y. y)
 
-module _ (Q : Problem) (good : Rows Q) (A : ℕ) (w : A < 2 ^ 64) (o : done Q A ≡ false) (whole : List ℕ) where
+module _ (Q : Problem) (good : Rows Q) (A : ℕ) (w : A < 2 ^ width) (o : done Q A ≡ false) (whole : List ℕ) where
   -- L is what is left of the whole from key m on, and the packages before it are no part of what a candidate from m on leaves
   by-candidates : (m : ℕ) (L : List ℕ) → Ascends Q (length (Q .packages)) m L
       → ((p : ℕ) → p < length (Q .packages) → m ≤ rank Q p → fits Q A p ≡ true → found Q (without A (row Q p)) L ≡ found Q (without A (row Q p)) whole)
@@ -90,7 +91,7 @@ module _ (Q : Problem) (good : Rows Q) (A : ℕ) (w : A < 2 ^ 64) (o : done Q A 
   by-candidates m [] h same = found-nil Q A o w ∙ ap (flatMap (begun Q A whole)) (sym (filter-nil (fits Q A)))
   by-candidates m (q ∷ L) h same =
       let drop : (p : ℕ) → p < length (Q .packages) → rank Q q ≤ rank Q p → fits Q A p ≡ true → found Q (without A (row Q p)) L ≡ found Q (without A (row Q p)) (q ∷ L) =
-      λ p l k f. sym (found-out Q (without A (row Q p)) q L (without-lt 64 (row Q p) w) (apart Q good A p q o l (h .0) k f)) in
+      λ p l k f. sym (found-out Q (without A (row Q p)) q L (without-lt width (row Q p) w) (apart Q good A p q o l (h .0) k f)) in
       let rest : found Q A L ≡ flatMap (begun Q A whole) (filter (fits Q A) L) =
       by-candidates (suc (rank Q q)) L (h .2) (λ p l k f. drop p l (omega arith) f ∙ same p l (omega arith) f) in
       by-test (fits Q A q)
@@ -102,7 +103,7 @@ module _ (Q : Problem) (good : Rows Q) (A : ℕ) (w : A < 2 ^ 64) (o : done Q A 
       let n : holds (lead Q A) (row Q q) ≡ false = unfit Q A q t f in
       found-in Q A q L w t
       ∙ ap₂ (λ (a b : List (List ℕ)). map (with-p q) a ++ b)
-      (none Q A (without A (row Q q)) (suc (rank Q q)) L o (without-lt 64 (row Q q) w)
+      (none Q A (without A (row Q q)) (suc (rank Q q)) L o (without-lt width (row Q q) w)
       (holds-without (lead Q A) A (row Q q) ∙ ap₂ (λ (a b : Bool). a && not b) (lead-holds Q A o) n)
       (h .2) (λ p l k. past Q good A q p o (h .0) l t n (omega arith)))
       rest
@@ -167,7 +168,7 @@ module _ (Q : Problem) (few : length (Q .packages) ≤ 512) (A : ℕ) (o : done 
 
 -- ---- the sets that cover what is done
 
-only : (Q : Problem) (A : ℕ) → A < 2 ^ 64 → done Q A ≡ true → Rows Q → (m : ℕ) (L : List ℕ) → Ascends Q (length (Q .packages)) m L → found Q A L ≡ [] ∷ []
+only : (Q : Problem) (A : ℕ) → A < 2 ^ width → done Q A ≡ true → Rows Q → (m : ℕ) (L : List ℕ) → Ascends Q (length (Q .packages)) m L → found Q A L ≡ [] ∷ []
 unfolding allSets
 only Q A w e good m [] h = filter-yes (covers Q A) [] [] (covers-nil Q A e) ∙ ap (λ (x : List (List ℕ)). [] ∷ x) (filter-nil (covers Q A))
 only Q A w e good m (q ∷ L) h =
@@ -192,7 +193,7 @@ module _ (Q : Problem) (good : Rows Q) where
   listed = subst (Ascends Q (length (Q .packages)) 0) (sym (order-is Q)) (order-listed Q (good .few) (length (Q .packages)) (le-refl (length (Q .packages))))
 
   -- THEOREM: of a set that is not done, over the candidates, lowest number first
-  pub covering-step : (A : ℕ) → A < 2 ^ 64 → done Q A ≡ false
+  pub covering-step : (A : ℕ) → A < 2 ^ width → done Q A ≡ false
       → covering Q A ≡ flatMap (λ (p : ℕ). map (λ (t : List ℕ). p ∷ t) (covering Q (without A (row Q p)))) (reverse (candidates Q A))
   unfolding covering sets candidates
   covering-step A w o =
@@ -200,7 +201,7 @@ module _ (Q : Problem) (good : Rows Q) where
       ∙ ap (flatMap (begun Q A (order (keysOf Q)))) (ap (filter (fits Q A)) (order-is Q) ∙ order-down Q (good .few) A o (length (Q .packages)) (le-refl (length (Q .packages))))
 
   -- as a loop over the candidates in their own order, highest number first
-  pub covering-gather : (A : ℕ) → A < 2 ^ 64 → done Q A ≡ false
+  pub covering-gather : (A : ℕ) → A < 2 ^ width → done Q A ≡ false
       → covering Q A ≡ gather (λ (p : ℕ). map (λ (t : List ℕ). p ∷ t) (covering Q (without A (row Q p)))) (candidates Q A) []
   covering-gather A w o =
       covering-step A w o
@@ -209,6 +210,6 @@ module _ (Q : Problem) (good : Rows Q) where
       (flat-nil (λ (p : ℕ). map (λ (t : List ℕ). p ∷ t) (covering Q (without A (row Q p)))))
 
   -- of a set that is done: the empty set of packages
-  pub covering-done : (A : ℕ) → A < 2 ^ 64 → done Q A ≡ true → covering Q A ≡ [] ∷ []
+  pub covering-done : (A : ℕ) → A < 2 ^ width → done Q A ≡ true → covering Q A ≡ [] ∷ []
   unfolding covering sets
   covering-done A w e = only Q A w e good 0 (order (keysOf Q)) listed

@@ -9,6 +9,7 @@ use native.Mathlib.Nat.{lt-of-not-le, le-refl}
 use native.Mathlib.Omega.{arith}
 use lib.ListN.{length}
 use Rattle.itemset.specs.Items.{insideb, without}
+use Rattle.itemset.specs.Words.{width}
 use Rattle.base.proofs.Bools.{and-left, never}
 use Rattle.itemset.proofs.Laws.{without-lt}
 use Rattle.zdd.specs.Table.{Family, fork, key, filter, elem}
@@ -45,7 +46,7 @@ nothing-left : (Q : Problem) (A : ℕ) (acc : Family) → gather (begun Q A) (fi
 unfolding gather filter down
 nothing-left Q A acc = refl
 
-module _ (Q : Problem) (good : Rows Q) (A : ℕ) (w : A < 2 ^ 64) (o : done Q A ≡ false) where
+module _ (Q : Problem) (good : Rows Q) (A : ℕ) (w : A < 2 ^ width) (o : done Q A ≡ false) where
   -- the covers of what a candidate leaves begin after it
   pub left-from : (p : ℕ) → p < length (Q .packages) → fits Q A p ≡ true → From (keysOf Q) (suc (key (keysOf Q) p)) (left Q A p)
   left-from p l f =
@@ -53,7 +54,7 @@ module _ (Q : Problem) (good : Rows Q) (A : ℕ) (w : A < 2 ^ 64) (o : done Q A 
       let m = covering-member Q (without A (row Q p)) (q ∷ t) (good .few) .0 (elem-in (q ∷ t) (left Q A p) e) in
       let i : insideb (row Q q) (without A (row Q p)) ≡ true =
       and-left (insideb (row Q q) (without A (row Q p))) (covers Q (without (without A (row Q p)) (row Q q)) t)
-      (sym (covers-cons Q (without A (row Q p)) q t (without-lt 64 (row Q p) w)) ∙ m .1) in
+      (sym (covers-cons Q (without A (row Q p)) q t (without-lt width (row Q p) w)) ∙ m .1) in
       lt-of-not-le (λ k. never i (apart Q good A p q o l (m .0 .0) k f)))
 
   -- what the trial has begins after the package that it comes to, where that is a candidate

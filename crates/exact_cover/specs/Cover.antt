@@ -8,6 +8,7 @@ use Prim.Native.Nat.{ℕ, zero, suc, _+_, _*_, _<_}
 use lib.Dec.{eqb}
 use lib.ListN.{length, take}
 use Rattle.itemset.specs.Items.{holds, insideb}
+use Rattle.itemset.specs.Words.{width}
 use Rattle.zdd.specs.Table.{Family, filter, sets}
 use Rattle.exact_cover.specs.Problem.{Problem, row, lead}
 
@@ -50,7 +51,7 @@ once Q (suc i) D t = (not (holds i D) || eqb (holders Q i t) 1) && once Q i D t
 
 -- each package of t lies inside D, and each item of D is in just one of them [document 01: covers]
 unfoldable pub covers : Problem → ℕ → List ℕ → Bool
-covers Q D t = allInside Q D t && once Q 64 D t
+covers Q D t = allInside Q D t && once Q width D t
 
 -- the timetables that cover D, in listing order
 unfoldable pub covering : Problem → ℕ → Family

@@ -7,14 +7,15 @@ use Prim.Native.Nat.{ℕ, _≤_, _<_}
 use lib.Dec.{eqb}
 use lib.ListN.{length, getD}
 use Rattle.itemset.specs.Items.{lowest}
+use Rattle.itemset.specs.Words.{setsOf}
 
 pub record Problem : Type 0 where
   -- the item sets of the packages [document 01: packages, N of them]
   pub packages : List ℕ
 
--- the problem of the words that a call is lent: each word is a package
+-- the problem of the words that a call is lent: three words a package, lowest first; N is their number divided by three, rounded down
 abbrev pub problemOf : List ℕ → Problem
-problemOf words = record { packages = words }
+problemOf words = record { packages = setsOf words }
 
 -- the items of package p
 abbrev pub row : Problem → ℕ → ℕ
