@@ -10,8 +10,9 @@ use native.Mathlib.Omega.{arith}
 use lib.Dec.{eqb, ltb}
 use lib.ListN.{length, getD, drop, replicate, length-replicate}
 use lib.Seq.{drop-cons, drop-length}
-use borrow.Author.Tests.{eq-eqb, ne-eqb, lt-ltb, le-ltb, eqb-false, not-false}
+use borrow.Author.Tests.{lt-ltb, le-ltb, eqb-false, not-false}
 use Rattle.itemset.specs.Items.{belowb}
+use Rattle.itemset.specs.Words.{width}
 use Rattle.zdd.specs.Table.{soundb}
 use Rattle.zdd.proofs.Tested.{sound-of}
 use Rattle.exact_cover.specs.Problem.{Problem, row, Rows}
@@ -36,21 +37,22 @@ pub record Passed (m : ℕ) (xs : List ℕ) (k : ℕ) : Type 0 where
 pub passed-start : (m : ℕ) (xs : List ℕ) → Passed m xs 0
 passed-start m xs = record { within = omega arith; rest = refl }
 
-module _ {m : ℕ} {xs : List ℕ} (k : ℕ) (p : Passed m xs k) (l : k < length xs) where
-  here : strayIn m xs ≡ (eqb (getD xs k 0) 0 || not (belowb (getD xs k 0) m)) || strayIn m (drop (suc k) xs)
+-- x is package k: it is looked at
+module _ {m : ℕ} {xs : List ℕ} {x : ℕ} (k : ℕ) (p : Passed m xs k) (l : k < length xs) (r : x ≡ getD xs k 0) where
+  here : strayIn m xs ≡ (eqb x 0 || not (belowb x m)) || strayIn m (drop (suc k) xs)
   unfolding strayIn
-  here = p .rest ∙ ap (strayIn m) (drop-cons xs k 0 l)
+  here = p .rest ∙ rw r (ap (strayIn m) (drop-cons xs k 0 l))
 
-  pub stray-empty : getD xs k 0 ≡ 0 → strayIn m xs ≡ true
-  stray-empty e = here ∙ rw (eq-eqb (getD xs k 0) 0 e)
+  pub stray-empty : eqb x 0 ≡ true → strayIn m xs ≡ true
+  stray-empty e = here ∙ rw e
 
-  pub stray-item : (getD xs k 0 ≡ 0 → ⊥) → belowb (getD xs k 0) m ≡ false → strayIn m xs ≡ true
-  stray-item f e = here ∙ rw (ne-eqb (getD xs k 0) 0 f, e)
+  pub stray-item : eqb x 0 ≡ false → belowb x m ≡ false → strayIn m xs ≡ true
+  stray-item f e = here ∙ rw (f, e)
 
-  pub passed-more : (getD xs k 0 ≡ 0 → ⊥) → belowb (getD xs k 0) m ≡ true → Passed m xs (k + 1)
+  pub passed-more : eqb x 0 ≡ false → belowb x m ≡ true → Passed m xs (k + 1)
   passed-more f e = record {
     within = omega arith;
-    rest = here ∙ rw (ne-eqb (getD xs k 0) 0 f, e) (ap (λ (j : ℕ). strayIn m (drop j xs)) (sym (add-one k)));
+    rest = here ∙ rw (f, e) (ap (λ (j : ℕ). strayIn m (drop j xs)) (sym (add-one k)));
   }
 
 pub passed-all : {m : ℕ} {xs : List ℕ} (k : ℕ) → Passed m xs k → length xs ≤ k → strayIn m xs ≡ false
@@ -61,13 +63,13 @@ passed-all {m} {xs} k p l =
 
 -- ---- refusal 1
 
-pub many-items : (m : ℕ) (Q : Problem) → 64 < m → oversize m Q ≡ true
-unfolding oversize
-many-items m Q h = rw (lt-ltb 64 m h)
+pub many-items : (m : ℕ) (Q : Problem) → 192 < m → oversize m Q ≡ true
+unfolding oversize width
+many-items m Q h = rw (lt-ltb 192 m h)
 
-pub few-items : (m : ℕ) (Q : Problem) → m ≤ 64 → oversize m Q ≡ ltb 512 (length (Q .packages))
-unfolding oversize
-few-items m Q h = rw (le-ltb 64 m h)
+pub few-items : (m : ℕ) (Q : Problem) → m ≤ 192 → oversize m Q ≡ ltb 512 (length (Q .packages))
+unfolding oversize width
+few-items m Q h = rw (le-ltb 192 m h)
 
 -- ---- the packages pass
 

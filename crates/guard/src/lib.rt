@@ -2,20 +2,19 @@
 ghost use mathlib.Core.Path.{_≡_};
 ghost use mathlib.Core.Bool.{not};
 ghost use mathlib.Core.List.{[], _∷_};
-ghost use Prim.Native.Nat.{_≤_};
 ghost use Rattle.exact_cover.specs.Problem.{problemOf, Rows};
 ghost use Rattle.statement.specs.Refusals.{firstOf, oversize, stray, packageTests};
 ghost use Rattle.guard.specs.Admitted.{Blank, Tested, Admitted};
 
 // Whether no package is empty and none has an item of m or above.
 fn clean(m: u32, packages: &[u64]) -> bool
-    requires { ⌜ m ≤ 64 ⌝ }
     ensures { λ r. ⌜ r ≡ not (stray m (problemOf (now (packages .entry)))) ⌝ }
 {
+    let n = exact_cover::number(packages);
     let mut k: usize = 0;
-    while k < packages.len() {
-        let x = packages[k];
-        if x == 0 {
+    while k < n {
+        let x = exact_cover::items(packages, k);
+        if itemset::is_empty(x) {
             return false;
         }
         if !itemset::below(x, m) {
@@ -30,10 +29,10 @@ fn clean(m: u32, packages: &[u64]) -> bool
 fn too_large(m: u32, packages: &[u64]) -> bool
     ensures { λ r. ⌜ r ≡ oversize m (problemOf (now (packages .entry))) ⌝ }
 {
-    if m > 64 {
+    if m > 192 {
         return true;
     }
-    packages.len() > 512
+    exact_cover::number(packages) > 512
 }
 
 // Refusal 1 or 2; 0 for neither.
@@ -56,7 +55,7 @@ fn usable(packages: &[u64], t: &[u32], keys: &mut [u32], index: &mut [u16; 13107
     ensures { λ r. ⌜ Tested (problemOf (now (packages .entry))) (now (t .entry)) (now (keys .exit)) (now (index .exit)) r ⌝ }
 {
     exact_cover::keys(packages, keys);
-    let n = packages.len();
+    let n = exact_cover::number(packages);
     table::check(t, &keys[..n], index)
 }
 

@@ -6,7 +6,8 @@ use Prim.Native.Nat.{ℕ, _≤_}
 use lib.Dec.{ltb}
 use lib.ListN.{length}
 use borrow.Author.Tests.{ltb-false}
-use Rattle.base.proofs.Bools.{never, is-false, or-left, or-right}
+use Rattle.itemset.specs.Words.{width}
+use Rattle.base.proofs.Bools.{never, is-false, or-right}
 use Rattle.exact_cover.specs.Problem.{Problem}
 use Rattle.statement.specs.Refusals.{firstOf, oversize, unsound, packageTests, tableTests, Fit}
 use Rattle.statement.proofs.FirstOf.{pass, passed, front}
@@ -27,7 +28,7 @@ module _ {Q : Problem} {m : ℕ} where
   unfolding oversize
   packages-fit f =
       ltb-false 512 (length (Q .packages))
-      (is-false (ltb 512 (length (Q .packages))) (λ e. never (or-right (ltb 64 m) (ltb 512 (length (Q .packages))) e) (f .sized)))
+      (is-false (ltb 512 (length (Q .packages))) (λ e. never (or-right (ltb width m) (ltb 512 (length (Q .packages))) e) (f .sized)))
 
   -- packages and table pass
   pub table-passes : (t : List ℕ) (ts : List (Bool × ℕ)) → Fit Q m → unsound Q t ≡ false → firstOf (tableTests Q m t ts) ≡ firstOf ts
@@ -36,7 +37,3 @@ module _ {Q : Problem} {m : ℕ} where
 -- a refusal of the packages stands, whatever tests are behind
 pub fit-refused : (Q : Problem) (m : ℕ) (ts : List (Bool × ℕ)) {r : ℕ} → r ≡ firstOf (packageTests Q m []) → (r ≡ 0 → ⊥) → firstOf (packageTests Q m ts) ≡ r
 fit-refused Q m ts e f = front (packageTests Q m []) ts (λ z. f (e ∙ z)) ∙ sym e
-
-pub sized-items : (m : ℕ) (Q : Problem) → oversize m Q ≡ false → m ≤ 64
-unfolding oversize
-sized-items m Q h = ltb-false 64 m (is-false (ltb 64 m) (λ e. never (or-left (ltb 64 m) (ltb 512 (length (Q .packages))) e) h))

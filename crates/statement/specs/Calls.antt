@@ -2,7 +2,8 @@
 -- Q is the problem, m is M, t has the table's words, and `words` is the number of working words. Assumes nothing.
 use mathlib.Core.Bool.{Bool, _||_}
 use mathlib.Core.List.{List, [], _∷_}
-use Prim.Native.Nat.{ℕ, _/_}
+use Prim.Native.Nat.{ℕ}
+use Rattle.itemset.specs.Words.{value}
 use Rattle.zdd.specs.Table.{Family}
 use Rattle.zdd.specs.Operations.{union, inter, differ, including, excluding}
 use Rattle.exact_cover.specs.Problem.{Problem}
@@ -11,7 +12,7 @@ use Rattle.exact_cover.specs.Steps.{steps}
 use Rattle.query.specs.Questions.{familyAt, unknownPackage}
 use Rattle.statement.specs.declared.Call.{Call}
 use Rattle.statement.specs.declared.Call.the-variants.{Cover, Either, Both, Only, With, Without}
-use Rattle.statement.specs.Refusals.{firstOf, tableTests, unknownAnswer, unknownItem, shortWork, spent, full}
+use Rattle.statement.specs.Refusals.{firstOf, tableTests, unknownAnswer, unknownItem, shortWork, places, spent, full}
 
 -- the answers that it reads
 abbrev pub operands : Call → List ℕ
@@ -24,16 +25,16 @@ operands (Without a p) = a ∷ []
 
 -- the family that it makes
 abbrev pub familyOf : (Q : Problem) (t : List ℕ) → Call → Family
-familyOf Q t (Cover d limit) = covering Q d
+familyOf Q t (Cover d limit) = covering Q (value d)
 familyOf Q t (Either a b) = union (keysOf Q) (familyAt t a) (familyAt t b)
 familyOf Q t (Both a b) = inter (keysOf Q) (familyAt t a) (familyAt t b)
 familyOf Q t (Only a b) = differ (keysOf Q) (familyAt t a) (familyAt t b)
 familyOf Q t (With a p) = including (keysOf Q) p (familyAt t a)
 familyOf Q t (Without a p) = excluding (keysOf Q) p (familyAt t a)
 
--- its steps: two working words are one place of the memo
+-- its steps
 abbrev pub stepsOf : Problem → Call → ℕ → ℕ
-stepsOf Q (Cover d limit) words = steps Q (words / 2) d
+stepsOf Q (Cover d limit) words = steps Q (places words) (value d)
 stepsOf Q (Either a b) words = 0
 stepsOf Q (Both a b) words = 0
 stepsOf Q (Only a b) words = 0
@@ -57,18 +58,18 @@ partTests packages t a p F words =
     (full t F, 10) ∷
     []
 
--- of cover
+-- of cover of the item set d
 abbrev pub coverTests : (Q : Problem) (m : ℕ) (t : List ℕ) (d limit words : ℕ) → List (Bool × ℕ)
 coverTests Q m t d limit words =
     (unknownItem m d, 7) ∷
-    (shortWork 2 words, 8) ∷
+    (shortWork 4 words, 8) ∷
     (spent Q d limit words, 9) ∷
     (full t (covering Q d), 10) ∷
     []
 
 -- the call's own tests, behind those of the packages and the table
 abbrev pub callTests : (Q : Problem) (m : ℕ) (t : List ℕ) → Call → ℕ → List (Bool × ℕ)
-callTests Q m t (Cover d limit) words = coverTests Q m t d limit words
+callTests Q m t (Cover d limit) words = coverTests Q m t (value d) limit words
 callTests Q m t (Either a b) words = pairTests t a b (familyOf Q t (Either a b)) words
 callTests Q m t (Both a b) words = pairTests t a b (familyOf Q t (Both a b)) words
 callTests Q m t (Only a b) words = pairTests t a b (familyOf Q t (Only a b)) words
@@ -77,3 +78,7 @@ callTests Q m t (Without a p) words = partTests (Q .packages) t a p (familyOf Q 
 
 unfoldable pub callRefusal : (Q : Problem) (m : ℕ) (t : List ℕ) → Call → ℕ → ℕ
 callRefusal Q m t c words = firstOf (tableTests Q m t (callTests Q m t c words))
+
+-- cover's, of the item set d as a number: `callRefusal` of `Cover` at the number of its set
+abbrev pub coverRefusal : (Q : Problem) (m : ℕ) (t : List ℕ) (d limit words : ℕ) → ℕ
+coverRefusal Q m t d limit words = firstOf (tableTests Q m t (coverTests Q m t d limit words))

@@ -1,23 +1,26 @@
--- Document 01's examples P1 to P8 as one record; `proofs/Examples.antt` proves it by computation. Assumes nothing.
+-- Document 01's examples P1 to P8, and Figure 1 on items of three words, each as one record; `proofs/Examples.antt` proves them by computation.
+-- Assumes nothing.
 use mathlib.Core.Path.{_≡_}
 use mathlib.Core.List.{List, [], _∷_}
-use Prim.Native.Nat.{ℕ, _+_, _-_, _*_, _^_}
+use Prim.Native.Nat.{ℕ, _+_, _-_, _*_, _/_, _%_, _^_}
 use lib.ListN.{replicate}
 use Rattle.zdd.specs.Table.{nodesOf}
 use Rattle.zdd.specs.Branches.{missing}
-use Rattle.exact_cover.specs.Problem.{Problem, problemOf}
+use Rattle.exact_cover.specs.Problem.{Problem}
 use Rattle.exact_cover.specs.Cover.{covering}
 use Rattle.exact_cover.specs.Steps.{steps}
-use Rattle.statement.specs.declared.Call.the-variants.{Cover}
-use Rattle.statement.specs.Calls.{callRefusal}
+use Rattle.statement.specs.Calls.{coverRefusal}
 
 -- all items below m
 abbrev pub allItems : ℕ → ℕ
 allItems m = 2 ^ m - 1
 
+abbrev pub noPackages : Problem
+noPackages = record { packages = [] }
+
 -- Figure 1 of document 000, numbered from 0: {0,1,2,4}, {0,1}, {3,5}, {2,3,5}, {2,4}
 abbrev pub figure1 : Problem
-figure1 = problemOf (0b010111 ∷ 0b000011 ∷ 0b101000 ∷ 0b101100 ∷ 0b010100 ∷ [])
+figure1 = record { packages = 0b010111 ∷ 0b000011 ∷ 0b101000 ∷ 0b101100 ∷ 0b010100 ∷ [] }
 
 -- an empty table that has room for c nodes
 abbrev pub emptyTable : ℕ → List ℕ
@@ -25,21 +28,61 @@ emptyTable c = replicate (1 + 3 * c) 0
 
 pub record PaperExamples : Type 0 where
   -- M 0, N 0: one timetable, empty
-  pub p1 : covering (problemOf []) (allItems 0) ≡ [] ∷ []
+  pub p1 : covering noPackages (allItems 0) ≡ [] ∷ []
   -- M 1, N 0: none
-  pub p2 : covering (problemOf []) (allItems 1) ≡ []
+  pub p2 : covering noPackages (allItems 1) ≡ []
   -- packages {0}, {0}: two timetables, 0 then 1
-  pub p3 : covering (problemOf (1 ∷ 1 ∷ [])) (allItems 1) ≡ (0 ∷ []) ∷ (1 ∷ []) ∷ []
+  pub p3 : covering (record { packages = 1 ∷ 1 ∷ [] }) (allItems 1) ≡ (0 ∷ []) ∷ (1 ∷ []) ∷ []
   -- Figure 1: listing "0 2", "1 4 2"
   pub p4 : covering figure1 (allItems 6) ≡ (0 ∷ 2 ∷ []) ∷ (1 ∷ 4 ∷ 2 ∷ []) ∷ []
   -- the same, P = 64: 6 steps
   pub p5 : steps figure1 64 (allItems 6) ≡ 6
   -- P = 4: 7 steps
   pub p6 : steps figure1 4 (allItems 6) ≡ 7
-  -- the same needs 4 nodes; capacity 4 answers, 3 is full
+  -- the same (16 working words are 4 places) needs 4 nodes; capacity 4 answers, 3 is full
   pub p7-needs : missing (nodesOf (emptyTable 0)) (covering figure1 (allItems 6)) ≡ 4
-  pub p7-answers : callRefusal figure1 6 (emptyTable 4) (Cover (allItems 6) 1000) 8 ≡ 0
-  pub p7-full : callRefusal figure1 6 (emptyTable 3) (Cover (allItems 6) 1000) 8 ≡ 10
-  -- B = 6 with P = 64 answers; B = 5 is spent
-  pub p8-answers : callRefusal figure1 6 (emptyTable 4) (Cover (allItems 6) 6) 128 ≡ 0
-  pub p8-spent : callRefusal figure1 6 (emptyTable 4) (Cover (allItems 6) 5) 128 ≡ 9
+  pub p7-answers : coverRefusal figure1 6 (emptyTable 4) (allItems 6) 1000 16 ≡ 0
+  pub p7-full : coverRefusal figure1 6 (emptyTable 3) (allItems 6) 1000 16 ≡ 10
+  -- B = 6 with P = 64, which is 256 words, answers; B = 5 is spent
+  pub p8-answers : coverRefusal figure1 6 (emptyTable 4) (allItems 6) 6 256 ≡ 0
+  pub p8-spent : coverRefusal figure1 6 (emptyTable 4) (allItems 6) 5 256 ≡ 9
+
+-- Figure 1 with its items at 0, 1, 64, 65, 128 and 129: two in each word of a set. The first package straddles all three [document 02, No. 7]
+abbrev pub wideItem : ℕ → ℕ
+wideItem i = 2 ^ (64 * (i / 2) + i % 2)
+
+abbrev pub wideFigure1 : Problem
+wideFigure1 = record {
+  packages =
+      (wideItem 0 + wideItem 1 + wideItem 2 + wideItem 4)
+      ∷ (wideItem 0 + wideItem 1)
+      ∷ (wideItem 3 + wideItem 5)
+      ∷ (wideItem 2 + wideItem 3 + wideItem 5)
+      ∷ (wideItem 2 + wideItem 4)
+      ∷ [];
+}
+
+abbrev pub wideFigure1Items : ℕ
+wideFigure1Items = wideItem 0 + wideItem 1 + wideItem 2 + wideItem 3 + wideItem 4 + wideItem 5
+
+pub record WideExamples : Type 0 where
+  -- the same timetables
+  pub lists : covering wideFigure1 wideFigure1Items ≡ (0 ∷ 2 ∷ []) ∷ (1 ∷ 4 ∷ 2 ∷ []) ∷ []
+  -- the steps go by all three words of a set
+  pub steps3 : steps wideFigure1 3 wideFigure1Items ≡ 7
+  pub steps4 : steps wideFigure1 4 wideFigure1Items ≡ 7
+  pub steps5 : steps wideFigure1 5 wideFigure1Items ≡ 6
+  pub steps7 : steps wideFigure1 7 wideFigure1Items ≡ 6
+  pub steps64 : steps wideFigure1 64 wideFigure1Items ≡ 7
+  -- M 192 answers, 193 is oversize; with 3 working words 8, with 4 to 7 one place
+  pub most : coverRefusal noPackages 192 (emptyTable 0) 0 1 4 ≡ 0
+  pub oversize : coverRefusal noPackages 193 (emptyTable 0) 0 1 4 ≡ 1
+  pub short : coverRefusal wideFigure1 130 (emptyTable 4) wideFigure1Items 8 3 ≡ 8
+  pub one-place : steps wideFigure1 1 wideFigure1Items ≡ 7
+  pub four-words : coverRefusal wideFigure1 130 (emptyTable 4) wideFigure1Items 7 4 ≡ 0
+  pub seven-words : coverRefusal wideFigure1 130 (emptyTable 4) wideFigure1Items 6 7 ≡ 9
+  -- 15 words are 3 places, 20 are 5
+  pub fifteen-words : coverRefusal wideFigure1 130 (emptyTable 4) wideFigure1Items 6 15 ≡ 9
+  pub twenty-words : coverRefusal wideFigure1 130 (emptyTable 4) wideFigure1Items 6 20 ≡ 0
+  -- an item of M or above in the highest word
+  pub unknown-item : coverRefusal wideFigure1 130 (emptyTable 4) (2 ^ 130) 7 7 ≡ 7

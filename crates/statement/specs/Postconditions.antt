@@ -9,9 +9,10 @@ use lib.ListN.{length, take, drop}
 use Rattle.zdd.specs.Table.{Family, count, nodesOf, soundb}
 use Rattle.zdd.specs.Below.{newBelow}
 use Rattle.exact_cover.specs.Problem.{Problem}
-use Rattle.exact_cover.specs.Cover.{keysOf}
+use Rattle.exact_cover.specs.Cover.{keysOf, covering}
+use Rattle.exact_cover.specs.Steps.{steps}
 use Rattle.statement.specs.declared.Call.{Call}
-use Rattle.statement.specs.declared.Call.the-variants.{Cover, Either, Both, Only, With, Without}
+use Rattle.statement.specs.declared.Call.the-variants.{Either, Both, Only, With, Without}
 use Rattle.statement.specs.declared.Report.{Report}
 use Rattle.statement.specs.declared.Soundness.{Soundness}
 use Rattle.statement.specs.declared.Counted.{Counted}
@@ -21,8 +22,8 @@ use Rattle.statement.specs.declared.Placed.{Placed}
 use Rattle.statement.specs.declared.Priced.{Priced}
 use Rattle.statement.specs.Replies.{refused, gives, reply, outcomeReply, soundnessReply, countReply, pickReply, measureReply, placeReply, cheapestReply}
 use Rattle.query.specs.Questions.{familyAt, nth, position, cost, cheapest}
-use Rattle.statement.specs.Calls.{familyOf, stepsOf, callRefusal}
-use Rattle.statement.specs.Refusals.{checkRefusal, countRefusal, pickRefusal, measureRefusal, placeRefusal, cheapestRefusal}
+use Rattle.statement.specs.Calls.{familyOf, stepsOf, callRefusal, coverRefusal}
+use Rattle.statement.specs.Refusals.{places, checkRefusal, countRefusal, pickRefusal, measureRefusal, placeRefusal, cheapestRefusal}
 
 -- ---- the calls that make an answer: cover, either, both, only, with, without
 
@@ -59,9 +60,9 @@ pub record Makes (K : List ℕ) (n : ℕ) (F : Family) (s : ℕ) (t : List ℕ) 
 abbrev pub AnswerPost : (Q : Problem) (m : ℕ) (t : List ℕ) → Call → ℕ → Report → List ℕ → Type 0
 AnswerPost Q m t c words r t′ = Makes (keysOf Q) (callRefusal Q m t c words) (familyOf Q t c) (stepsOf Q c words) t r t′
 
--- cover d: the timetables covering d, with the step limit `limit` [document 01: B]
+-- cover d: the timetables covering d, an item set as a number, with the step limit `limit` [document 01: B]
 abbrev pub CoverPost : (Q : Problem) (m : ℕ) (t : List ℕ) (d limit words : ℕ) → Report → List ℕ → Type 0
-CoverPost Q m t d limit words = AnswerPost Q m t (Cover d limit) words
+CoverPost Q m t d limit words r t′ = Makes (keysOf Q) (coverRefusal Q m t d limit words) (covering Q d) (steps Q (places words) d) t r t′
 
 -- either: union
 abbrev pub EitherPost : (Q : Problem) (m : ℕ) (t : List ℕ) (a b words : ℕ) → Report → List ℕ → Type 0

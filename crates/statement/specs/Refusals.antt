@@ -8,6 +8,7 @@ use Prim.Native.Nat.{ℕ, _+_, _/_}
 use lib.Dec.{eqb, leb, ltb}
 use lib.ListN.{length}
 use Rattle.itemset.specs.Items.{belowb}
+use Rattle.itemset.specs.Words.{width}
 use Rattle.zdd.specs.Table.{Family, count, elem, soundb}
 use Rattle.zdd.specs.Branches.{noRoom}
 use Rattle.exact_cover.specs.Problem.{Problem}
@@ -21,9 +22,9 @@ firstOf (t ∷ ts) = elim (t .0) [ true ↦ t .1 | false ↦ firstOf ts ]
 
 -- ---- the tests, by their numbers
 
--- 1 oversize: M above 64 or N above 512
+-- 1 oversize: M above 192 or N above 512
 unfoldable pub oversize : ℕ → Problem → Bool
-oversize m Q = ltb 64 m || ltb 512 (length (Q .packages))
+oversize m Q = ltb width m || ltb 512 (length (Q .packages))
 
 -- 2 stray: an empty package, or an item of M or above in one
 unfoldable pub strayIn : ℕ → List ℕ → Bool
@@ -58,9 +59,13 @@ unknownItem m d = not (belowb d m)
 unfoldable pub shortWork : ℕ → ℕ → Bool
 shortWork least words = ltb words least
 
--- 9 spent: steps above B, with a memo of as many places as there are pairs of working words
+-- how many places the memo of cover has: four working words are one, three of a set and one of its answer [document 02, No. 7]
+abbrev pub places : ℕ → ℕ
+places words = words / 4
+
+-- 9 spent: steps above B, with a memo of as many places as the working words are
 unfoldable pub spent : Problem → ℕ → ℕ → ℕ → Bool
-spent Q d limit words = ltb limit (steps Q (words / 2) d)
+spent Q d limit words = ltb limit (steps Q (places words) d)
 
 -- 10 full: the branch nodes of the answer F that are not yet in the table outnumber the free places
 unfoldable pub full : List ℕ → Family → Bool

@@ -4,10 +4,11 @@
 ghost use mathlib.Core.List.{List};
 ghost use Prim.Native.Nat.{ℕ};
 ghost use Rattle.statement.specs.Postconditions.{Declined};
+use itemset::Items;
 
 // A call that makes an answer, with its own arguments. Cover has the item set and the step limit [document 01: D, B]; a and b are answers, p is a package.
 pub enum Call {
-    Cover { d: u64, limit: u32 },
+    Cover { d: Items, limit: u32 },
     Either { a: u32, b: u32 },
     Both { a: u32, b: u32 },
     Only { a: u32, b: u32 },

@@ -1,16 +1,12 @@
 use borrow.Author.Tests.{not-true, not-false}
 use mathlib.Core.Path.{sym, _∙_}
 use Rattle.statement.proofs.FirstOf.{pass, hit, none}
-use Rattle.statement.proofs.Admission.{sized-items}
 use borrow.Author.Needs.{needs}
 use Rattle.guard.proofs.packages_refusal.Statement.{statement}
 use Rattle.guard.proofs.packages_refusal.Tie as tie
 
 returns : tie.Need-returns
 returns c = sym (hit 1 _ (sym (c .before .too-large .ensures) ∙ c .if1 .taken))
-
-clean-requires : tie.Need-clean-requires
-clean-requires c κs = sized-items _ _ (sym (c .before .too-large .ensures) ∙ c .if1 .left)
 
 returns-2 : tie.Need-returns-2
 returns-2 c = sym (pass 1 _ (sym (c .before .before .before .too-large .ensures) ∙ c .before .before .if1 .left) ∙ hit 2 _ (not-false _ (sym (c .before .clean .ensures) ∙ not-true _ (c .if2 .taken))))
@@ -21,4 +17,4 @@ returns-3 c = sym (pass 1 _ (sym (c .before .before .before .too-large .ensures)
 
 pub packages-refusal-spec : {M : Type 1} → statement M
 packages-refusal-spec =
-    tie.close (tie.spec (λ c κs. search needs) returns clean-requires returns-2 returns-3)
+    tie.close (tie.spec (λ c κs. search needs) returns (λ c κs. search needs) returns-2 returns-3)
