@@ -2,11 +2,10 @@
 use mathlib.Core.Path.{_≡_, sym, ap, _∙_}
 use mathlib.Core.Bool.{Bool, false}
 use mathlib.Core.List.{List}
-use Prim.Native.Nat.{ℕ, _+_, _*_, _<_}
+use Prim.Native.Nat.{ℕ, _+_, _<_}
 use native.Mathlib.Omega.{arith}
 use native.Mathlib.Decide.{ℕ-discrete}
-use lib.ListN.{getD, set, length-set}
-use lib.Seq.{getD-set-same, getD-set-other}
+use Rattle.memo.specs.Memo.{keyAt, numberAt, Stored}
 use Rattle.zdd.specs.Table.{count, nodesOf, family}
 use Rattle.exact_cover.specs.Problem.{Problem}
 use Rattle.exact_cover.specs.Cover.{covering}
@@ -14,49 +13,34 @@ use Rattle.table.specs.State.{Grown}
 use Rattle.table.proofs.GrownLaws.{grown-more, grown-family}
 use Rattle.compile.specs.State.{Held}
 
--- ---- the memo
-
 pub held-grown : {Q : Problem} {K t t′ memo : List ℕ} {P : ℕ} {b b′ : Bool} → Grown K t t′ → (b′ ≡ false → b ≡ false) → Held Q P t memo b → Held Q P t′ memo b′
 held-grown {Q} {K} {t} {t′} {memo} {P} g f h = record {
   some = h .some;
   long = h .long;
   values = λ j l. omega (arith, h .values j l, grown-more g);
-  right = λ e j l k. grown-family g (getD memo (2 * j + 1) 0) (h .values j l) ∙ h .right (f e) j l k;
+  right = λ e j l k. grown-family g (numberAt memo j) (h .values j l) ∙ h .right (f e) j l k;
 }
 
-pub held-store : {Q : Problem} {t memo : List ℕ} {P : ℕ} {b : Bool} (A a j : ℕ) → j < P → a < count t + 2 → (b ≡ false → family (nodesOf t) a ≡ covering Q A)
-    → Held Q P t memo b → Held Q P t (set (set memo (2 * j) A) (2 * j + 1) a) b
-held-store {Q} {t} {memo} {P} {b} A a j lt known ex h = record {
+pub held-store : {Q : Problem} {t memo memo′ : List ℕ} {P : ℕ} {b : Bool} (A a j : ℕ) → a < count t + 2 → (b ≡ false → family (nodesOf t) a ≡ covering Q A)
+    → Stored P memo j A a memo′ → Held Q P t memo b → Held Q P t memo′ b
+held-store {Q} {t} {memo} {memo′} {P} {b} A a j known ex s h = record {
   some = h .some;
-  long = omega (arith, length-set (set memo (2 * j) A) (2 * j + 1) a, length-set memo (2 * j) A, h .long);
+  long = omega (arith, s .same, h .long);
   values = λ i l. value i l (ℕ-discrete i j);
   right = λ e i l k. right e i l k (ℕ-discrete i j);
 }
   where
-    new : List ℕ
-    new = set (set memo (2 * j) A) (2 * j + 1) a
+    number-same : (i : ℕ) → i ≡ j → numberAt memo′ i ≡ a
+    number-same i e = ap (numberAt memo′) e ∙ s .number
 
-    value-same : (i : ℕ) → i ≡ j → getD new (2 * i + 1) 0 ≡ a
-    value-same i e =
-        ap (λ (k : ℕ). getD new (2 * k + 1) 0) e
-        ∙ getD-set-same (set memo (2 * j) A) (2 * j + 1) a 0 (omega (arith, length-set memo (2 * j) A, h .long))
+    key-same : (i : ℕ) → i ≡ j → keyAt P memo′ i ≡ A
+    key-same i e = ap (keyAt P memo′) e ∙ s .key
 
-    value-other : (i : ℕ) → (i ≡ j → ⊥) → getD new (2 * i + 1) 0 ≡ getD memo (2 * i + 1) 0
-    value-other i f = getD-set-other (set memo (2 * j) A) (2 * j + 1) (2 * i + 1) a 0 (λ e. f (omega arith)) ∙ getD-set-other memo (2 * j) (2 * i + 1) A 0 (λ e. omega arith)
+    value : (i : ℕ) → i < P → Dec (i ≡ j) → numberAt memo′ i < count t + 2
+    value i l (yes e) = rw (number-same i e) known
+    value i l (no f) = rw (s .other-number i l f) (h .values i l)
 
-    key-same : (i : ℕ) → i ≡ j → getD new (2 * i) 0 ≡ A
-    key-same i e =
-        ap (λ (k : ℕ). getD new (2 * k) 0) e
-        ∙ getD-set-other (set memo (2 * j) A) (2 * j + 1) (2 * j) a 0 (λ z. omega arith)
-        ∙ getD-set-same memo (2 * j) A 0 (omega (arith, h .long))
-
-    key-other : (i : ℕ) → (i ≡ j → ⊥) → getD new (2 * i) 0 ≡ getD memo (2 * i) 0
-    key-other i f = getD-set-other (set memo (2 * j) A) (2 * j + 1) (2 * i) a 0 (λ e. omega arith) ∙ getD-set-other memo (2 * j) (2 * i) A 0 (λ e. f (omega arith))
-
-    value : (i : ℕ) → i < P → Dec (i ≡ j) → getD new (2 * i + 1) 0 < count t + 2
-    value i l (yes e) = omega (arith, value-same i e)
-    value i l (no f) = omega (arith, value-other i f, h .values i l)
-
-    right : b ≡ false → (i : ℕ) → i < P → 0 < getD new (2 * i) 0 → Dec (i ≡ j) → family (nodesOf t) (getD new (2 * i + 1) 0) ≡ covering Q (getD new (2 * i) 0)
-    right z i l k (yes e) = ap (family (nodesOf t)) (value-same i e) ∙ ex z ∙ ap (covering Q) (sym (key-same i e))
-    right z i l k (no f) = ap (family (nodesOf t)) (value-other i f) ∙ h .right z i l (omega (arith, key-other i f)) ∙ ap (covering Q) (sym (key-other i f))
+    right : b ≡ false → (i : ℕ) → i < P → 0 < keyAt P memo′ i → Dec (i ≡ j) → family (nodesOf t) (numberAt memo′ i) ≡ covering Q (keyAt P memo′ i)
+    right z i l k (yes e) = ap (family (nodesOf t)) (number-same i e) ∙ ex z ∙ ap (covering Q) (sym (key-same i e))
+    right z i l k (no f) =
+        ap (family (nodesOf t)) (s .other-number i l f) ∙ h .right z i l (omega (arith, s .other-key i l f)) ∙ ap (covering Q) (sym (s .other-key i l f))

@@ -6,8 +6,13 @@ use Prim.Native.Nat.{ℕ, suc, _+_, _-_, _*_, _%_, _^_, _<_, _≤_}
 use native.Mathlib.Nat.{mod-lt}
 use native.Mathlib.Omega.{arith}
 use lib.Dec.{eqb}
-use lib.ListN.{length, getD, set, length-set}
+use lib.ListN.{length, getD}
 use Rattle.itemset.specs.Items.{insideb, without, holds}
+use Rattle.itemset.specs.Words.{width}
+use Rattle.itemset.proofs.Lists.{width-is}
+use Rattle.itemset.proofs.Laws.{without-back}
+use Rattle.itemset.proofs.Places.{place-falls}
+use Rattle.memo.specs.Memo.{keyAt, numberAt, Stored}
 use Rattle.base.proofs.Bools.{by-test, never, is-false, and-both}
 use Rattle.exact_cover.proofs.Lead.{open-pos, lead-holds, lead-lt, part-lead}
 use Rattle.zdd.specs.Table.{node, Family, fork, key, count, capacity, nodesOf, family}
@@ -52,7 +57,7 @@ pub record Turn (Q : Problem) (P A limit : ℕ) (t₀ memo₀ : List ℕ) (n₀ 
 
 -- ---- search
 
-module _ {Q : Problem} {leads : List ℕ} (ps : Packs Q leads) {P limit : ℕ} {t index memo : List ℕ} {n : ℕ} {b : Bool} (r : Searchable Q P t index memo b) (A : ℕ) where
+module _ {Q : Problem} {P : ℕ} {leads homes : List ℕ} (ps : Packs Q P leads homes) {limit : ℕ} {t index memo : List ℕ} {n : ℕ} {b : Bool} (r : Searchable Q P t index memo b) (A : ℕ) where
   -- the limit is met
   pub search-over : limit ≤ n → (a n′ : ℕ) → Explored (search Q P A) Q P A limit t memo n b t index memo a n′ b true
   search-over h a n′ = record {
@@ -83,19 +88,19 @@ module _ {Q : Problem} {leads : List ℕ} (ps : Packs Q leads) {P limit : ℕ} {
     spent = λ z. absurd (never z refl);
   }
 
-  pub search-empty : (n′ : ℕ) → n < limit → n′ ≡ n + 1 → A < 2 ^ 64 → done Q A ≡ true → Explored (search Q P A) Q P A limit t memo n b t index memo 1 n′ b false
-  search-empty n′ h e w64 z =
-      here 1 n′ h e (omega arith) (λ q. family-one (nodesOf t) ∙ sym (covering-done Q (ps .rows) A w64 z)) (λ w s. known-done Q P A w z)
+  pub search-empty : (n′ : ℕ) → n < limit → n′ ≡ n + 1 → A < 2 ^ width → done Q A ≡ true → Explored (search Q P A) Q P A limit t memo n b t index memo 1 n′ b false
+  search-empty n′ h e small z =
+      here 1 n′ h e (omega arith) (λ q. family-one (nodesOf t) ∙ sym (covering-done Q (ps .rows) A small z)) (λ w s. known-done Q P A w z)
 
-  pub search-hit : (j a n′ : ℕ) → n < limit → n′ ≡ n + 1 → done Q A ≡ false → j ≡ A % P → getD memo (2 * j) 0 ≡ A → a ≡ getD memo (2 * j + 1) 0
+  pub search-hit : (j a n′ : ℕ) → n < limit → n′ ≡ n + 1 → done Q A ≡ false → j ≡ A % P → keyAt P memo j ≡ A → a ≡ numberAt memo j
       → Explored (search Q P A) Q P A limit t memo n b t index memo a n′ b false
   search-hit j a n′ h e p q k z =
       let lt : j < P = omega (arith, mod-lt A (r .held .some)) in
       here a n′ h e (omega (arith, r .held .values j lt)) (λ y. ap (family (nodesOf t)) z ∙ r .held .right y j lt (omega (arith, open-pos Q A p)) ∙ ap (covering Q) k)
-      (λ w s. is-known s (r .held .some) Q A (ap (λ (i : ℕ). getD memo (2 * i) 0) (sym q) ∙ k))
+      (λ w s. is-known s (r .held .some) Q A (ap (keyAt P memo) (sym q) ∙ k))
 
   -- trial's answer is search's
-  pub search-tried : (j n′ : ℕ) {t′ index′ memo′ : List ℕ} {a n″ : ℕ} {b′ over : Bool} → n′ ≡ n + 1 → done Q A ≡ false → j ≡ A % P → (getD memo (2 * j) 0 ≡ A → ⊥)
+  pub search-tried : (j n′ : ℕ) {t′ index′ memo′ : List ℕ} {a n″ : ℕ} {b′ over : Bool} → n′ ≡ n + 1 → done Q A ≡ false → j ≡ A % P → (keyAt P memo j ≡ A → ⊥)
       → Explored (tried Q P A) Q P A limit t memo n′ b t′ index′ memo′ a n″ b′ over → Explored (search Q P A) Q P A limit t memo n b t′ index′ memo′ a n″ b′ over
   search-tried j n′ {t′} {index′} {memo′} {a} {n″} {b′} {over} e p q k d = record {
     grown = d .grown;
@@ -109,11 +114,11 @@ module _ {Q : Problem} {leads : List ℕ} (ps : Packs Q leads) {P limit : ℕ} {
   }
     where
       new : (w : Walk) → Is P w n memo → search Q P A w ≡ tried Q P A (enter w)
-      new w s = search-new Q P A w (is-new s (r .held .some) Q A p (λ y. k (ap (λ (i : ℕ). getD memo (2 * i) 0) q ∙ y)))
+      new w s = search-new Q P A w (is-new s (r .held .some) Q A p (λ y. k (ap (keyAt P memo) q ∙ y)))
 
 -- ---- trial
 
-module _ {Q : Problem} {leads : List ℕ} (ps : Packs Q leads) (A : ℕ) (w64 : A < 2 ^ 64) (some : done Q A ≡ false) where
+module _ {Q : Problem} {P : ℕ} {leads homes : List ℕ} (ps : Packs Q P leads homes) (A : ℕ) (small : A < 2 ^ width) (some : done Q A ≡ false) where
   -- a package with another lead is no candidate
   other : (q k : ℕ) → k ≡ q + 1 → (leadOf Q k ≡ lead Q A → ⊥) → fits Q A q ≡ false
   unfolding leadOf
@@ -133,28 +138,44 @@ module _ {Q : Problem} {leads : List ℕ} (ps : Packs Q leads) (A : ℕ) (w64 : 
   unfit q i = is-false (fits Q A q) (λ e. never (fits-inside Q A q e) i)
 
   head : Last (leadOf Q) 1 (lead Q A) (length (Q .packages) + 1) (getD leads (lead Q A) 0)
-  head = ps .chain .at-head (lead Q A) (omega (arith, lead-lt Q A some w64))
+  head = ps .chain .at-head (lead Q A) (omega (arith, width-is, lead-lt Q A some small))
 
   pub at-first : At Q A (getD leads (lead Q A) 0)
   at-first = record { inside = omega (arith, head .below); own = λ h. head .own h .1 }
 
   module _ (p k : ℕ) (e : p ≡ k + 1) (a : At Q A p) where
-    next-last : Last (leadOf Q) 1 (lead Q A) p (getD leads (k + 66) 0)
+    next-last : Last (leadOf Q) 1 (lead Q A) p (getD leads (k + 194) 0)
     next-last =
-        let z : 65 + p ≡ k + 66 = omega arith in
+        let z : 193 + p ≡ k + 194 = omega arith in
         subst (λ (i : ℕ). Last (leadOf Q) 1 (lead Q A) p (getD leads i 0)) z
-        (subst (λ (h : ℕ). Last (leadOf Q) 1 h p (getD leads (65 + p) 0)) (a .own (omega arith)) (ps .chain .at-next p (omega arith) (omega (arith, a .inside))))
+        (subst (λ (h : ℕ). Last (leadOf Q) 1 h p (getD leads (193 + p) 0)) (a .own (omega arith)) (ps .chain .at-next p (omega arith) (omega (arith, a .inside))))
 
-    pub at-falls : getD leads (k + 66) 0 < p
+    pub at-falls : getD leads (k + 194) 0 < p
     at-falls = next-last .below
 
-    pub at-later : At Q A (getD leads (k + 66) 0)
+    pub at-later : At Q A (getD leads (k + 194) 0)
     at-later = record { inside = omega (arith, at-falls, a .inside); own = λ h. next-last .own h .1 }
 
     pub at-fits : insideb (row Q k) A ≡ true → fits Q A k ≡ true
     at-fits i = fit k p e (omega (arith, a .inside)) (a .own (omega arith)) i
 
-  module _ {P limit : ℕ} {t₀ memo₀ : List ℕ} {n₀ : ℕ} {b₀ : Bool} where
+    -- what package k leaves of A: it is less, and its place is a difference of places
+    module _ (x B : ℕ) (r : x ≡ row Q k) (z : B ≡ without A x) (i : insideb x A ≡ true) where
+      pub rest-is : B ≡ without A (row Q k)
+      rest-is = z ∙ ap (without A) r
+
+      pub rest-inside : insideb (row Q k) A ≡ true
+      rest-inside = rw r at i
+
+      pub rest-less : B < A
+      rest-less = omega (arith, z, without-back A x i, r, open-pos Q (row Q k) (ps .rows .some k (omega (arith, a .inside))))
+
+      pub rest-place : (at home there : ℕ) → 0 < P → at ≡ A % P → home ≡ getD homes k 0 → there ≡ (at + (P - home)) % P → there ≡ B % P
+      rest-place at home there h q y g =
+          g ∙ ap (λ (u : ℕ). (u + (P - home)) % P) q ∙ ap (λ (u : ℕ). (A % P + (P - u)) % P) (y ∙ ps .home k (omega (arith, a .inside)))
+          ∙ place-falls A (row Q k) P h rest-inside ∙ ap (λ (u : ℕ). u % P) (sym rest-is)
+
+  module _ {limit : ℕ} {t₀ memo₀ : List ℕ} {n₀ : ℕ} {b₀ : Bool} where
     module _ {t index memo : List ℕ} {l n : ℕ} {b : Bool} where
       -- the numbers from m to k are no candidates
       turn-skip : (d m k : ℕ) → k ≡ d + m → ((q : ℕ) → m ≤ q → q < k → fits Q A q ≡ false)
@@ -165,20 +186,20 @@ module _ {Q : Problem} {leads : List ℕ} (ps : Packs Q leads) (A : ℕ) (w64 : 
         same = u .same;
         held = u .held;
         within = u .within;
-        trial = trial-skip Q (ps .rows) A w64 some d m k l e f (u .trial);
+        trial = trial-skip Q (ps .rows) A small some d m k l e f (u .trial);
         walk = λ w s. let x = u .walk w s in (x .0, (x .1 .0, x .1 .1 ∙ onward-skip Q P A d m k (x .0) e f));
       }
 
       -- on to the next entry
       pub turn-later : (p k : ℕ) → p ≡ k + 1 → At Q A p → Turn Q P A limit t₀ memo₀ n₀ b₀ t index memo k l n b
-          → Turn Q P A limit t₀ memo₀ n₀ b₀ t index memo (getD leads (k + 66) 0) l n b
+          → Turn Q P A limit t₀ memo₀ n₀ b₀ t index memo (getD leads (k + 194) 0) l n b
       turn-later p k e a u =
-          turn-skip (k - getD leads (k + 66) 0) (getD leads (k + 66) 0) k (omega (arith, at-falls p k e a))
+          turn-skip (k - getD leads (k + 194) 0) (getD leads (k + 194) 0) k (omega (arith, at-falls p k e a))
           (λ q x y. other q (q + 1) refl (λ z. next-last p k e a .gap (q + 1) (omega arith) (omega arith) (omega arith) z)) u
 
       -- k does not lie inside A
       pub turn-pass : (p k : ℕ) → p ≡ k + 1 → At Q A p → insideb (row Q k) A ≡ false
-          → Turn Q P A limit t₀ memo₀ n₀ b₀ t index memo p l n b → Turn Q P A limit t₀ memo₀ n₀ b₀ t index memo (getD leads (k + 66) 0) l n b
+          → Turn Q P A limit t₀ memo₀ n₀ b₀ t index memo p l n b → Turn Q P A limit t₀ memo₀ n₀ b₀ t index memo (getD leads (k + 194) 0) l n b
       turn-pass p k e a i u =
           turn-later p k e a (turn-skip 1 k p (omega arith) (λ q x y. let z : q ≡ k = omega arith in ap (fits Q A) z ∙ unfit k i) u)
 
@@ -234,7 +255,7 @@ module _ {Q : Problem} {leads : List ℕ} (ps : Packs Q leads) (A : ℕ) (w64 : 
           same = d .same ∙ u .same;
           held = d .held o;
           within = d .within o;
-          trial = trial-none Q (ps .rows) A w64 some k l low (at-fits p k e a i) before
+          trial = trial-none Q (ps .rows) A small some k l low (at-fits p k e a i) before
               (subst (λ (j : ℕ). Got (keysOf Q) (capacity t₀) (nodesOf t) b j (nodesOf t′) b′ (left Q A k)) y found);
           walk = walked;
         }
@@ -251,7 +272,7 @@ module _ {Q : Problem} {leads : List ℕ} (ps : Packs Q leads) (A : ℕ) (w64 : 
           held = d .held o;
           within = d .within o;
           trial = subst⁻¹ (λ (c : Bool). Trial Q A (capacity t₀) (nodesOf t₀) b₀ k l (nodesOf t′) c) y
-              (trial-take Q (ps .rows) A w64 some k l h l low (at-fits p k e a i) before
+              (trial-take Q (ps .rows) A small some k l h l low (at-fits p k e a i) before
               (subst (λ (c : Bool). Got (keysOf Q) (capacity t₀) (nodesOf t) b h (nodesOf t′) c (left Q A k)) y found)
               (got-idle (capacity t₀) l (fork k (family (nodesOf t′) h) (family (nodesOf t′) l)) (d .grown .sound .nodes) (omega (arith, still-known, length-nodes t′))));
           walk = walked;
@@ -271,10 +292,10 @@ module _ {Q : Problem} {leads : List ℕ} (ps : Packs Q leads) (A : ℕ) (w64 : 
                   hi-some = pos;
                   lo-after = from-over (d .grown .sound .nodes) l (omega (arith, still-known, length-nodes t′)) (suc (key (keysOf Q) k))
                       (subst⁻¹ (λ (F : Family). From (keysOf Q) (suc (key (keysOf Q) k)) F) lo-is
-                      (partial-from Q (ps .rows) A w64 some k (before .acc) low (at-fits p k e a i) (before .part)));
+                      (partial-from Q (ps .rows) A small some k (before .acc) low (at-fits p k e a i) (before .part)));
                   hi-after = from-over (d .grown .sound .nodes) h (found .known) (suc (key (keysOf Q) k))
                       (subst⁻¹ (λ (F : Family). From (keysOf Q) (suc (key (keysOf Q) k)) F) (found .holds y)
-                      (left-from Q (ps .rows) A w64 some k low (at-fits p k e a i)));
+                      (left-from Q (ps .rows) A small some k low (at-fits p k e a i)));
                 };
               }
 
@@ -292,29 +313,27 @@ module _ {Q : Problem} {leads : List ℕ} (ps : Packs Q leads) (A : ℕ) (w64 : 
                 same = d .same ∙ u .same;
                 held = held-grown (made .grown) (λ q. y) (d .held o);
                 within = d .within o;
-                trial = trial-take Q (ps .rows) A w64 some k l h r low (at-fits p k e a i) before found g;
+                trial = trial-take Q (ps .rows) A small some k l h r low (at-fits p k e a i) before found g;
                 walk = walked;
               }
 
       -- every package is tried, and the answer is stored
-      pub turn-done : (p j : ℕ) {over : Bool} → over ≡ false → p ≡ 0 → j ≡ A % P → Turn Q P A limit t₀ memo₀ n₀ b₀ t index memo p l n b
-          → Explored (tried Q P A) Q P A limit t₀ memo₀ n₀ b₀ t index (set (set memo (2 * j) A) (2 * j + 1) l) l n b over
-      turn-done p j o z q u =
+      pub turn-done : (p j : ℕ) {memo′ : List ℕ} {over : Bool} → over ≡ false → p ≡ 0 → j ≡ A % P → Stored P memo j A l memo′
+          → Turn Q P A limit t₀ memo₀ n₀ b₀ t index memo p l n b → Explored (tried Q P A) Q P A limit t₀ memo₀ n₀ b₀ t index memo′ l n b over
+      turn-done p j {memo′} o z q d u =
           let g : Got (keysOf Q) (capacity t₀) (nodesOf t₀) b₀ l (nodesOf t) b (covering Q A) =
-          trial-end Q (ps .rows) A w64 some l (subst (λ (m : ℕ). Trial Q A (capacity t₀) (nodesOf t₀) b₀ m l (nodesOf t) b) z (u .trial)) in
-          let lt : j < P = omega (arith, mod-lt A (u .held .some)) in
+          trial-end Q (ps .rows) A small some l (subst (λ (m : ℕ). Trial Q A (capacity t₀) (nodesOf t₀) b₀ m l (nodesOf t) b) z (u .trial)) in
           record {
             grown = u .grown;
             indexed = u .indexed;
-            same = length-set (set memo (2 * j) A) (2 * j + 1) l ∙ length-set memo (2 * j) A ∙ u .same;
-            held = λ y. held-store A l j lt (omega (arith, g .known, length-nodes t)) (g .holds) (u .held);
+            same = d .same ∙ u .same;
+            held = λ y. held-store A l j (omega (arith, g .known, length-nodes t)) (g .holds) d (u .held);
             got = λ y. g;
             within = λ y. u .within;
             walk = λ y w s.
                 let x = u .walk w s in
                 let f : onward Q P A (length (Q .packages)) w ≡ x .0 = x .1 .1 ∙ ap (λ (m : ℕ). onward Q P A m (x .0)) z ∙ onward-end Q P A (x .0) in
-                subst⁻¹ (λ (v : Walk). Is P v n (set (set memo (2 * j) A) (2 * j + 1) l)) (onward-all Q P A w ∙ ap (store P A) f)
-                (is-store (x .1 .0) (u .held .some) Q A l j (u .held .long) q);
+                subst⁻¹ (λ (v : Walk). Is P v n memo′) (onward-all Q P A w ∙ ap (store P A) f) (is-store (x .1 .0) (u .held .some) Q A l j q d);
             spent = λ y. absurd (never y o);
           }
 
@@ -330,6 +349,6 @@ module _ {Q : Problem} {leads : List ℕ} (ps : Packs Q leads) (A : ℕ) (w64 : 
           same = refl;
           held = r .held;
           within = h;
-          trial = trial-start Q (ps .rows) A w64 some (r .sound .nodes);
+          trial = trial-start Q (ps .rows) A small some (r .sound .nodes);
           walk = λ w s. (w, (s, refl));
         })

@@ -1,8 +1,8 @@
--- The laws of the walk: its entries grow, a loop passes over what is no candidate, and a memo's words keep its keys. Assumes nothing.
+-- The laws of the walk: its entries grow, a loop passes over what is no candidate, and the memo keeps its keys. Assumes nothing.
 use mathlib.Core.Path.{_≡_, refl, sym, ap, _∙_}
 use mathlib.Core.Bool.{Bool, true, false, _||_}
 use mathlib.Core.List.{List, [], _∷_}
-use Prim.Native.Nat.{ℕ, zero, suc, _+_, _*_, _%_, _<_, _≤_}
+use Prim.Native.Nat.{ℕ, zero, suc, _+_, _%_, _<_, _≤_}
 use native.Mathlib.Nat.{le-refl, mod-lt}
 use native.Mathlib.Omega.{arith}
 use native.Mathlib.Decide.{ℕ-discrete}
@@ -11,6 +11,7 @@ use lib.ListN.{length, getD, set, length-set}
 use lib.Seq.{getD-set-same, getD-set-other}
 use borrow.Author.Tests.{eq-eqb, ne-eqb}
 use Rattle.itemset.specs.Items.{without}
+use Rattle.memo.specs.Memo.{keyAt, Stored}
 use Rattle.base.proofs.Bools.{by-test, or-left, or-right}
 use Rattle.zdd.specs.Table.{filter}
 use Rattle.exact_cover.specs.Problem.{Problem, row, done}
@@ -76,46 +77,38 @@ module _ (Q : Problem) (P A : ℕ) where
   unfolding candidates
   onward-all w = refl
 
--- ---- the memo's words
+-- ---- the memo's keys
 
 module _ {P : ℕ} {w : Walk} {n : ℕ} {memo : List ℕ} (s : Is P w n memo) where
   pub is-enter : (m : ℕ) → m ≡ n + 1 → Is P (enter w) m memo
   is-enter m e = record { entries = omega (arith, s .entries); places = s .places; keys = s .keys }
 
   module _ (pos : 0 < P) (Q : Problem) (A : ℕ) where
-    -- the memo's answer to A, as the word says
-    pub is-known : getD memo (2 * (A % P)) 0 ≡ A → known Q P A w ≡ true
+    -- the memo's answer to A, as its place says
+    pub is-known : keyAt P memo (A % P) ≡ A → known Q P A w ≡ true
     is-known e =
         or-right (done Q A) (eqb (getD (w .memo) (A % P) 0) A) (eq-eqb (getD (w .memo) (A % P) 0) A (s .keys (A % P) (mod-lt A pos) ∙ e))
 
-    pub is-new : done Q A ≡ false → (getD memo (2 * (A % P)) 0 ≡ A → ⊥) → known Q P A w ≡ false
+    pub is-new : done Q A ≡ false → (keyAt P memo (A % P) ≡ A → ⊥) → known Q P A w ≡ false
     is-new h f =
         ap (λ (b : Bool). b || eqb (getD (w .memo) (A % P) 0) A) h
         ∙ ne-eqb (getD (w .memo) (A % P) 0) A (λ e. f (sym (s .keys (A % P) (mod-lt A pos)) ∙ e))
 
-    pub is-store : (a j : ℕ) → 2 * P ≤ length memo → j ≡ A % P → Is P (store P A w) n (set (set memo (2 * j) A) (2 * j + 1) a)
-    is-store a j long e = record {
+    pub is-store : (a j : ℕ) {memo′ : List ℕ} → j ≡ A % P → Stored P memo j A a memo′ → Is P (store P A w) n memo′
+    is-store a j {memo′} e d = record {
       entries = s .entries;
       places = length-set (w .memo) (A % P) A ∙ s .places;
       keys = λ i h. at i h (ℕ-discrete i j);
     }
       where
-        lt : j < P
-        lt = omega (arith, mod-lt A pos)
-
-        at : (i : ℕ) → i < P → Dec (i ≡ j) → getD (set (w .memo) (A % P) A) i 0 ≡ getD (set (set memo (2 * j) A) (2 * j + 1) a) (2 * i) 0
+        at : (i : ℕ) → i < P → Dec (i ≡ j) → getD (set (w .memo) (A % P) A) i 0 ≡ keyAt P memo′ i
         at i h (yes q) =
             let z : i ≡ A % P = q ∙ e in
             ap (λ (k : ℕ). getD (set (w .memo) (A % P) A) k 0) z
             ∙ getD-set-same (w .memo) (A % P) A 0 (omega (arith, s .places))
-            ∙ sym (getD-set-same memo (2 * j) A 0 (omega arith))
-            ∙ sym (getD-set-other (set memo (2 * j) A) (2 * j + 1) (2 * j) a 0 (λ y. omega arith))
-            ∙ ap (λ (k : ℕ). getD (set (set memo (2 * j) A) (2 * j + 1) a) (2 * k) 0) (sym q)
+            ∙ sym (d .key) ∙ ap (keyAt P memo′) (sym q)
         at i h (no f) =
-            getD-set-other (w .memo) (A % P) i A 0 (λ y. f (y ∙ sym e))
-            ∙ s .keys i h
-            ∙ sym (getD-set-other memo (2 * j) (2 * i) A 0 (λ y. f (omega arith)))
-            ∙ sym (getD-set-other (set memo (2 * j) A) (2 * j + 1) (2 * i) a 0 (λ y. omega arith))
+            getD-set-other (w .memo) (A % P) i A 0 (λ y. f (y ∙ sym e)) ∙ s .keys i h ∙ sym (d .other-key i h f)
 
 pub known-done : (Q : Problem) (P A : ℕ) (w : Walk) → done Q A ≡ true → known Q P A w ≡ true
 known-done Q P A w e = or-left (done Q A) (eqb (getD (w .memo) (A % P) 0) A) e

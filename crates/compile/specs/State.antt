@@ -2,10 +2,11 @@
 use mathlib.Core.Path.{_≡_}
 use mathlib.Core.Bool.{Bool, true, false}
 use mathlib.Core.List.{List}
-use Prim.Native.Nat.{ℕ, zero, _+_, _-_, _*_, _<_, _≤_}
+use Prim.Native.Nat.{ℕ, zero, _+_, _-_, _*_, _%_, _<_, _≤_}
 use lib.Dec.{ltb}
 use lib.ListN.{length, getD}
 use Rattle.itemset.specs.Items.{without}
+use Rattle.memo.specs.Memo.{keyAt, numberAt}
 use Rattle.zdd.specs.Table.{count, capacity, nodesOf, family, Sound}
 use Rattle.zdd.specs.Branches.{missing, noRoom}
 use Rattle.zdd.specs.Work.{Got}
@@ -20,19 +21,21 @@ use Rattle.table.specs.State.{Grown, Indexed, Obtained}
 unfoldable pub leadOf : Problem → ℕ → ℕ
 leadOf Q p = lead Q (row Q (p - 1))
 
-pub record Packs (Q : Problem) (leads : List ℕ) : Type 0 where
+-- and their places in a memo of P places
+pub record Packs (Q : Problem) (P : ℕ) (leads homes : List ℕ) : Type 0 where
   pub rows : Rows Q
-  pub long : length leads ≡ 578
-  pub chain : Index (leadOf Q) 1 65 (length (Q .packages) + 1) leads
+  pub long : length leads ≡ 706
+  pub chain : Index (leadOf Q) 1 193 (length (Q .packages) + 1) leads
+  pub home : (p : ℕ) → p < length (Q .packages) → getD homes p 0 ≡ row Q p % P
 
--- ---- the memo: place j has its key in word 2 j (0 where it is empty) and its number in the next
+-- ---- the memo: each place has a key (0 where it is empty) and a number
 
 -- the numbers are known, and while the flag is down each is that of its key's covers
 pub record Held (Q : Problem) (P : ℕ) (t memo : List ℕ) (b : Bool) : Type 0 where
   pub some : 0 < P
-  pub long : 2 * P ≤ length memo
-  pub values : (j : ℕ) → j < P → getD memo (2 * j + 1) 0 < count t + 2
-  pub right : b ≡ false → (j : ℕ) → j < P → 0 < getD memo (2 * j) 0 → family (nodesOf t) (getD memo (2 * j + 1) 0) ≡ covering Q (getD memo (2 * j) 0)
+  pub long : 4 * P ≤ length memo
+  pub values : (j : ℕ) → j < P → numberAt memo j < count t + 2
+  pub right : b ≡ false → (j : ℕ) → j < P → 0 < keyAt P memo j → family (nodesOf t) (numberAt memo j) ≡ covering Q (keyAt P memo j)
 
 -- a table, its index and the memo, as search asks for them
 pub record Searchable (Q : Problem) (P : ℕ) (t index memo : List ℕ) (b : Bool) : Type 0 where
@@ -46,7 +49,7 @@ pub record Searchable (Q : Problem) (P : ℕ) (t index memo : List ℕ) (b : Boo
 pub record Is (P : ℕ) (w : Walk) (n : ℕ) (memo : List ℕ) : Type 0 where
   pub entries : w .entered ≡ n
   pub places : length (w .memo) ≡ P
-  pub keys : (j : ℕ) → j < P → getD (w .memo) j 0 ≡ getD memo (2 * j) 0
+  pub keys : (j : ℕ) → j < P → getD (w .memo) j 0 ≡ keyAt P memo j
 
 -- Search of an A that is not known, once it is entered
 abbrev pub tried : Problem → ℕ → ℕ → Walk → Walk
@@ -75,7 +78,7 @@ Tried Q P A = Explored (tried Q P A) Q P A
 
 -- the package index before the first package joins
 pub record NoPacks (leads : List ℕ) : Type 0 where
-  pub long : length leads ≡ 578
+  pub long : length leads ≡ 706
   pub zero : (h : ℕ) → getD leads h 0 ≡ 0
 
 -- the answer a, after n steps and with m nodes made
@@ -96,4 +99,4 @@ pub record Covered (Q : Problem) (P A limit : ℕ) (t t′ index′ : List ℕ) 
 
 -- no place of the memo has a key
 abbrev pub Unkeyed : ℕ → List ℕ → Type 0
-Unkeyed P memo = (j : ℕ) → j < P → getD memo (2 * j) 0 ≡ 0
+Unkeyed P memo = (j : ℕ) → j < P → keyAt P memo j ≡ 0

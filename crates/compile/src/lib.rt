@@ -2,19 +2,22 @@
 //
 // Search of an item set and trial of its packages call each other: a trial searches a smaller set, and has fewer packages left after it.
 //
-// What the functions are lent: packs, the packages' items; leads, the packages by lowest item, in 65 buckets (entry p is package p - 1, and 0 is none);
-// t, the node table, with its index; memo, with `places` places of two words: an item set (0 where the place is empty) and the
-// number of its covers. limit is document 01's B. Steps depend on the item sets alone, so a search that finds no room in the table goes on, makes
+// What the functions are lent: packs, the packages' items; leads, the packages by lowest item, in 193 buckets (entry p is package p - 1, and 0 is none);
+// homes, the packages' places in the memo; t, the node table, with its index; memo, with `places` places: an item set (none where the place is empty)
+// and the number of its covers. A set's place is carried along: what a package leaves of the set has its place by one subtraction, so that no step
+// divides. limit is document 01's B. Steps depend on the item sets alone, so a search that finds no room in the table goes on, makes
 // nothing more, and its count of steps stays right: spent is told before full.
 ghost use mathlib.Core.Path.{_≡_};
 ghost use mathlib.Core.Bool.{true, false};
 ghost use Prim.Native.Nat.{ℕ, suc, _+_, _-_, _*_, _/_, _%_, _<_, _≤_};
 ghost use lib.ListN.{length, getD, set};
 ghost use Rattle.compile.specs.State.{Packs, Searchable, Searched, Tried, NoPacks, Unkeyed, Covered};
+ghost use Rattle.itemset.specs.Words.{value};
 ghost use Rattle.zdd.specs.Table.{Sound};
 ghost use Rattle.exact_cover.specs.Problem.{problemOf, done, Rows};
 ghost use Rattle.exact_cover.specs.Cover.{keysOf};
 ghost use Rattle.table.specs.State.{Indexed};
+use itemset::Items;
 
 // A search's state: the number of the answer so far, the entries so far, whether the table had no room, whether the limit was met.
 pub struct Run {
@@ -24,30 +27,25 @@ pub struct Run {
     pub over: bool,
 }
 
-// The place of a set in a memo of that many places.
-fn place(items: u64, places: usize) -> usize
-    requires { ⌜ 0 < places ⌝ }
-    ensures { λ r. ⌜ r ≡ items % places ⌝ }
-{
-    (items % (places as u64)) as usize
-}
-
-// The covers of the items. Each call is one entry, and counts, unless the limit is met.
+// The covers of the items, whose place is `at`. Each call is one entry, and counts, unless the limit is met.
 fn search(
     packs: &[u64],
-    leads: &[u16; 578],
+    leads: &[u16; 706],
+    homes: &[u64; 512],
     t: &mut [u32],
     index: &mut [u16; 131072],
     memo: &mut [u64],
     places: usize,
-    items: u64,
+    at: usize,
+    items: Items,
     limit: u64,
     start: Run,
 ) -> Run
-    requires { ⌜ Packs (problemOf (now packs)) (now leads) ⌝ }
+    requires { ⌜ Packs (problemOf (now packs)) places (now leads) (now homes) ⌝ }
     requires { ⌜ Searchable (problemOf (now packs)) places (now t) (now index) (now memo) (start .full) ⌝ }
     requires { ⌜ start .steps ≤ limit ⌝ }
-    ensures { λ r. ⌜ Searched (problemOf (now (packs .entry))) places items limit (now (t .entry)) (now (memo .entry)) (start .steps) (start .full)
+    requires { ⌜ at ≡ value items % places ⌝ }
+    ensures { λ r. ⌜ Searched (problemOf (now (packs .entry))) places (value items) limit (now (t .entry)) (now (memo .entry)) (start .steps) (start .full)
         (now (t .exit)) (now (index .exit)) (now (memo .exit)) (r .answer) (r .steps) (r .full) (r .over) ⌝ }
 {
     let steps = start.steps;
@@ -61,7 +59,7 @@ fn search(
         };
     }
     let entered = steps + 1;
-    if items == 0 {
+    if itemset::is_empty(items) {
         return Run {
             answer: 1,
             steps: entered,
@@ -69,10 +67,9 @@ fn search(
             over: false,
         };
     }
-    let at = place(items, places);
-    if memo[2 * at] == items {
+    if memo::is_key(memo, places, at, items) {
         return Run {
-            answer: memo[2 * at + 1] as u32,
+            answer: memo::number(memo, places, at),
             steps: entered,
             full: full,
             over: false,
@@ -81,6 +78,7 @@ fn search(
     trial(
         packs,
         leads,
+        homes,
         t,
         index,
         memo,
@@ -101,21 +99,22 @@ fn search(
 // the answer goes into the memo, at the items' place.
 fn trial(
     packs: &[u64],
-    leads: &[u16; 578],
+    leads: &[u16; 706],
+    homes: &[u64; 512],
     t: &mut [u32],
     index: &mut [u16; 131072],
     memo: &mut [u64],
     places: usize,
     at: usize,
-    items: u64,
+    items: Items,
     limit: u64,
     start: Run,
 ) -> Run
-    requires { ⌜ Packs (problemOf (now packs)) (now leads) ⌝ }
+    requires { ⌜ Packs (problemOf (now packs)) places (now leads) (now homes) ⌝ }
     requires { ⌜ Searchable (problemOf (now packs)) places (now t) (now index) (now memo) (start .full) ⌝ }
     requires { ⌜ start .steps ≤ limit ⌝ }
-    requires { ⌜ (done (problemOf (now packs)) items ≡ false) × (at ≡ items % places) ⌝ }
-    ensures { λ r. ⌜ Tried (problemOf (now (packs .entry))) places items limit (now (t .entry)) (now (memo .entry)) (start .steps) (start .full)
+    requires { ⌜ (done (problemOf (now packs)) (value items) ≡ false) × (at ≡ value items % places) ⌝ }
+    ensures { λ r. ⌜ Tried (problemOf (now (packs .entry))) places (value items) limit (now (t .entry)) (now (memo .entry)) (start .steps) (start .full)
         (now (t .exit)) (now (index .exit)) (now (memo .exit)) (r .answer) (r .steps) (r .full) (r .over) ⌝ }
 {
     let low = base::wide(itemset::lowest(items));
@@ -129,14 +128,28 @@ fn trial(
     while p != 0 {
         let label = (p - 1) as u32;
         let k = base::wide(label);
-        let pack = packs[k];
-        let later = leads[k + 66];
+        let pack = exact_cover::items(packs, k);
+        let home = homes[k] as usize;
+        let later = leads[k + 194];
         if !itemset::inside(pack, items) {
             p = later;
             continue;
         }
         let rest = itemset::without(items, pack);
-        let r = search(packs, leads, t, index, memo, places, rest, limit, run);
+        let there = itemset::place_without(at, home, places);
+        let r = search(
+            packs,
+            leads,
+            homes,
+            t,
+            index,
+            memo,
+            places,
+            there,
+            rest,
+            limit,
+            run,
+        );
         if r.over {
             return r;
         }
@@ -154,21 +167,25 @@ fn trial(
         run.answer = z;
         run.full = z == 0;
     }
-    memo[2 * at] = items;
-    memo[2 * at + 1] = run.answer as u64;
+    memo::store(memo, places, at, items, run.answer);
     run
 }
 
-// Every package goes into the index by lowest item.
-fn enlist(packs: &[u64], leads: &mut [u16; 578])
+// Every package goes into the index by lowest item, and its place is computed.
+fn enlist(packs: &[u64], places: usize, leads: &mut [u16; 706], homes: &mut [u64; 512])
     requires { ⌜ Rows (problemOf (now packs)) ⌝ }
+    requires { ⌜ 0 < places ⌝ }
     requires { ⌜ NoPacks (now leads) ⌝ }
-    ensures { λ _. ⌜ Packs (problemOf (now (packs .entry))) (now (leads .exit)) ⌝ }
+    requires { ⌜ length (now homes) ≡ 512 ⌝ }
+    ensures { λ _. ⌜ Packs (problemOf (now (packs .entry))) places (now (leads .exit)) (now (homes .exit)) ⌝ }
 {
+    let n = exact_cover::number(packs);
     let mut k: usize = 0;
-    while k < packs.len() {
-        let low = base::wide(itemset::lowest(packs[k]));
-        buckets::insert(leads, 65, low, (k + 1) as u16);
+    while k < n {
+        let x = exact_cover::items(packs, k);
+        let low = base::wide(itemset::lowest(x));
+        buckets::insert(leads, 193, low, (k + 1) as u16);
+        homes[k] = itemset::place(x, places) as u64;
         k += 1;
     }
 }
@@ -176,18 +193,19 @@ fn enlist(packs: &[u64], leads: &mut [u16; 578])
 // The covers of the items: search with a memo that holds nothing. (It calls trial, so that search has one caller and is compiled into it.)
 fn begin(
     packs: &[u64],
-    leads: &[u16; 578],
+    leads: &[u16; 706],
+    homes: &[u64; 512],
     t: &mut [u32],
     index: &mut [u16; 131072],
     memo: &mut [u64],
     places: usize,
-    items: u64,
+    items: Items,
     limit: u64,
 ) -> Run
-    requires { ⌜ Packs (problemOf (now packs)) (now leads) ⌝ }
+    requires { ⌜ Packs (problemOf (now packs)) places (now leads) (now homes) ⌝ }
     requires { ⌜ Searchable (problemOf (now packs)) places (now t) (now index) (now memo) false ⌝ }
     requires { ⌜ Unkeyed places (now memo) ⌝ }
-    ensures { λ r. ⌜ Searched (problemOf (now (packs .entry))) places items limit (now (t .entry)) (now (memo .entry)) 0 false
+    ensures { λ r. ⌜ Searched (problemOf (now (packs .entry))) places (value items) limit (now (t .entry)) (now (memo .entry)) 0 false
         (now (t .exit)) (now (index .exit)) (now (memo .exit)) (r .answer) (r .steps) (r .full) (r .over) ⌝ }
 {
     if limit == 0 {
@@ -198,7 +216,7 @@ fn begin(
             over: true,
         };
     }
-    if items == 0 {
+    if itemset::is_empty(items) {
         return Run {
             answer: 1,
             steps: 1,
@@ -206,10 +224,11 @@ fn begin(
             over: false,
         };
     }
-    let at = place(items, places);
+    let at = itemset::place(items, places);
     trial(
         packs,
         leads,
+        homes,
         t,
         index,
         memo,
@@ -242,22 +261,23 @@ pub fn cover(
     t: &mut [u32],
     index: &mut [u16; 131072],
     memo: &mut [u64],
-    items: u64,
+    items: Items,
     limit: u64,
 ) -> Answer
     requires { ⌜ Rows (problemOf (now packs)) ⌝ }
     requires { ⌜ Sound (keysOf (problemOf (now packs))) (now t) ⌝ }
     requires { ⌜ Indexed (now t) (now index) ⌝ }
-    requires { ⌜ 2 ≤ length (now memo) ⌝ }
-    ensures { λ r. ⌜ Covered (problemOf (now (packs .entry))) (length (now (memo .entry)) / 2) items limit (now (t .entry))
+    requires { ⌜ 4 ≤ length (now memo) ⌝ }
+    ensures { λ r. ⌜ Covered (problemOf (now (packs .entry))) (length (now (memo .entry)) / 4) (value items) limit (now (t .entry))
         (now (t .exit)) (now (index .exit)) (r .answer) (r .steps) (r .made) (r .full) (r .over) ⌝ }
 {
-    let places = memo.len() / 2;
-    let mut leads = [0u16; 578];
-    enlist(packs, &mut leads);
-    base::clear(memo);
+    let places = memo.len() / 4;
+    let mut leads = [0u16; 706];
+    let mut homes = [0u64; 512];
+    enlist(packs, places, &mut leads, &mut homes);
+    memo::clear(memo, places);
     let n = t[0];
-    let r = begin(packs, &leads, t, index, memo, places, items, limit);
+    let r = begin(packs, &leads, &homes, t, index, memo, places, items, limit);
     if r.over {
         table::rollback(t, n);
         return Answer {

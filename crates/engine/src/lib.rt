@@ -1,10 +1,11 @@
 // The public calls of documents 01 and 02. None has a `requires`: each refuses what it cannot take, in the order of the table of refusals, and its one
 // `ensures` (a record of `statement`'s specs/Postconditions) fixes the result, the table and the page.
 //
-// m is M, packages the N item sets, t the table's words; work are the working words, whose contents before a call do not matter.
+// m is M, packages the N item sets, three words each, t the table's words; work are the working words, whose contents before a call do not matter.
 ghost use mathlib.Core.Path.{_≡_};
 ghost use Prim.Native.Nat.{_≤_, _<_};
 ghost use lib.ListN.{length};
+ghost use Rattle.itemset.specs.Words.{value};
 ghost use Rattle.zdd.specs.Table.{count as nodes};
 ghost use Rattle.exact_cover.specs.Problem.{problemOf};
 ghost use Rattle.statement.specs.Replies.{countReply, pickReply, placeReply, cheapestReply};
@@ -14,6 +15,7 @@ ghost use Rattle.statement.specs.Postconditions.{AnswerPost, CoverPost, EitherP
 ghost use Rattle.engine.specs.Answers.{tallyReply, endRefusal, writtenReply, placedReply, cheapReply};
 ghost use Rattle.engine.specs.Opened.{Opened, OpenedAt, OpenedPriced};
 ghost use Rattle.engine.specs.Reports.{Reported, pairCall, partCall};
+use itemset::Items;
 use query::Cheap;
 use query::Spot;
 use query::Tally;
@@ -193,7 +195,7 @@ pub fn place(
     if r != 0 {
         return Placed::Refused(r);
     }
-    let n = packages.len();
+    let n = exact_cover::number(packages);
     let listed = query::in_precedence(list, &keys[..n]);
     let a = base::wide(answer);
     let words = work.len();
@@ -224,7 +226,7 @@ fn opened_priced(
     if r != 0 {
         return r;
     }
-    if costs.len() != packages.len() {
+    if costs.len() != exact_cover::number(packages) {
         return 3;
     }
     opened(m, packages, t, answer, keys)
@@ -283,16 +285,16 @@ fn report(t: &[u32], before: u32, k: u32) -> Report
     statement::declined(10)
 }
 
-// The timetables covering d, with the step limit `limit` [document 01: B]: two working words are one place of the memo.
+// The timetables covering d, with the step limit `limit` [document 01: B]: four working words are one place of the memo.
 pub fn cover(
     m: u32,
     packages: &[u64],
     t: &mut [u32],
-    d: u64,
+    d: Items,
     limit: u32,
     work: &mut [u64],
 ) -> Report
-    ensures { λ r. ⌜ CoverPost (problemOf (now (packages .entry))) m (now (t .entry)) d limit (length (now (work .entry))) r (now (t .exit)) ⌝ }
+    ensures { λ r. ⌜ CoverPost (problemOf (now (packages .entry))) m (now (t .entry)) (value d) limit (length (now (work .entry))) r (now (t .exit)) ⌝ }
 {
     let mut keys = [0u32; 512];
     let mut index = [0u16; 131072];
@@ -303,7 +305,7 @@ pub fn cover(
     if !itemset::below(d, m) {
         return statement::declined(7);
     }
-    if work.len() / 2 == 0 {
+    if work.len() < 4 {
         return statement::declined(8);
     }
     let found = compile::cover(packages, t, &mut index, work, d, limit as u64);
@@ -348,7 +350,7 @@ fn answer_pair(
     if work.len() < 2 {
         return statement::declined(8);
     }
-    let last = packages.len();
+    let last = exact_cover::number(packages);
     let k = family::combination(t, &keys[..last], &mut index, work, op, a, b);
     report(t, n, k)
 }
@@ -375,13 +377,13 @@ fn answer_part(
     if n + 2 <= a {
         return statement::declined(5);
     }
-    if packages.len() <= base::wide(p) {
+    if exact_cover::number(packages) <= base::wide(p) {
         return statement::declined(6);
     }
     if work.len() < 2 {
         return statement::declined(8);
     }
-    let last = packages.len();
+    let last = exact_cover::number(packages);
     let k = family::restriction(t, &keys[..last], &mut index, p, holding, a);
     report(t, n, k)
 }

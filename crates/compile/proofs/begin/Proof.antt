@@ -1,35 +1,38 @@
-use mathlib.Core.Path.{refl}
+use Rattle.compile.proofs.TurnLaws.{search-over, search-empty, search-tried}
+use Rattle.exact_cover.proofs.Lead.{open-pos, done-is}
+use Rattle.itemset.proofs.Three.{known, items-lt}
+use Rattle.itemset.specs.Words.{value}
 use native.Mathlib.Omega.{arith}
 use native.Mathlib.Nat.{mod-lt}
-use Rattle.exact_cover.proofs.Lead.{pos-open, zero-done}
-use Rattle.compile.proofs.TurnLaws.{search-over, search-empty, search-tried}
+use mathlib.Core.Path.{refl, sym, _∙_}
+use borrow.Author.Needs.{needs}
 use Rattle.compile.proofs.begin.Statement.{statement}
 use Rattle.compile.proofs.begin.Tie as tie
 
 returns : tie.Need-returns
-returns c = search-over (c .before .before .before .before .pre .0) (c .before .before .before .before .pre .1 .0) (c .before .before .before .before .args .items) (omega (arith, c .if1 .taken)) _ _
+returns c =
+    let pre = c .before .before .before .before .pre in
+    let given = c .before .before .before .before .args in
+    search-over (pre .0) (pre .1 .0) (value (given .items)) (omega (arith, c .if1 .taken)) _ _
 
 returns-2 : tie.Need-returns-2
 returns-2 c =
-    let pre = c .before .before .before .before .before .pre in
-    search-empty (pre .0) (pre .1 .0) (c .before .before .before .before .before .args .items) _ (omega (arith, c .before .if1 .left)) refl
-    (c .before .before .before .before .before .fits .items .fits) (zero-done _ _ (c .if2 .taken))
+    let s = c .before .before .before .before .before .before in
+    let x = s .args .items in
+    search-empty (s .pre .0) (s .pre .1 .0) (value x) _ (omega (arith, c .before .before .if1 .left)) refl (items-lt x (known x (s .good .1 .1 .1 .1 .1 .1 .1 .0)))
+    (done-is _ _ ∙ sym (c .before .is-empty .ensures) ∙ c .if2 .taken)
 
 place-requires : tie.Need-place-requires
-place-requires c κs = c .before .before .before .before .before .pre .1 .0 .held .some
+place-requires c κs = c .before .before .before .before .before .before .pre .1 .0 .held .some
 
 trial-requires : tie.Need-trial-requires
 trial-requires c κs =
-    let pre = c .before .before .before .before .before .before .before .before .before .pre in (
-      pre .0,
-      (
-        pre .1 .0,
-        (
-          omega (arith, c .before .before .before .before .before .if1 .left),
-          (pos-open _ _ (omega (arith, c .before .before .before .before .if2 .left)), c .before .before .before .place .ensures),
-        ),
-      ),
-    )
+    let place′ = c .before .before .before .place in
+    let if2 = c .before .before .before .before .if2 in
+    let is-empty = c .before .before .before .before .before .is-empty in
+    let if1 = c .before .before .before .before .before .before .if1 in
+    let pre = c .before .before .before .before .before .before .before .before .before .before .pre in
+    (pre .0, (pre .1 .0, (omega (arith, if1 .left), (done-is _ _ ∙ sym (is-empty .ensures) ∙ if2 .left, place′ .ensures))))
 
 same-length : tie.Need-same-length
 same-length c = c .before .before .before .before .trial .ensures .grown .long
@@ -39,13 +42,18 @@ same-length-2 c = c .before .before .before .before .trial .ensures .same
 
 returns-3 : tie.Need-returns-3
 returns-3 c =
-    let here = c .before .before .before .before .before .before .before .before in let place = here .place in let if2 = here .before .if2 in
-    let args = here .before .before .before .before .before .before .args in let pre = here .before .before .before .before .before .before .pre in
-    search-tried (pre .0) (pre .1 .0) (args .items) (place .result) _ refl (pos-open _ _ (omega (arith, if2 .left))) (place .ensures)
-    (λ e. omega (arith, e, if2 .left, pre .1 .1 (place .result) (omega (arith, place .ensures, mod-lt (args .items) (pre .1 .0 .held .some)))))
-    (c .before .before .before .before .trial .ensures)
+    let trial = c .before .before .before .before .trial in
+    let place′ = c .before .before .before .before .before .before .before .before .place in
+    let if2 = c .before .before .before .before .before .before .before .before .before .if2 in
+    let is-empty = c .before .before .before .before .before .before .before .before .before .before .is-empty in
+    let s = c .before .before .before .before .before .before .before .before .before .before .before .before .before .before .before in
+    let A = value (s .args .items) in
+    let o = done-is _ _ ∙ sym (is-empty .ensures) ∙ if2 .left in
+    search-tried (s .pre .0) (s .pre .1 .0) A (place′ .result) _ refl o (place′ .ensures)
+    (λ e. omega (arith, e, open-pos _ A o, s .pre .1 .1 (place′ .result) (omega (arith, place′ .ensures, mod-lt A (s .pre .1 .0 .held .some)))))
+    (trial .ensures)
 
 pub begin-spec : {M : Type 1} → statement M
 begin-spec =
     tie.close
-    (tie.spec returns returns-2 place-requires trial-requires same-length same-length-2 returns-3)
+    (tie.spec returns (λ c κs. search needs) returns-2 place-requires trial-requires same-length same-length-2 returns-3)

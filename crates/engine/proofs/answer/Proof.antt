@@ -1,10 +1,13 @@
 use Rattle.engine.proofs.Combining.{same-call}
+use Rattle.engine.proofs.Covering.{cover-call}
 use borrow.Author.Needs.{needs}
 use Rattle.engine.proofs.answer.Statement.{statement}
 use Rattle.engine.proofs.answer.Tie as tie
 
 returns : tie.Need-returns
-returns c = same-call _ _ _ _ (c .before .before .before .before .before .before .before .before .c .given .1) (c .before .before .before .before .cover .ensures)
+returns c =
+    same-call _ _ _ _ (c .before .before .before .before .before .before .before .before .c .given .1)
+    (cover-call _ _ _ _ _ _ (c .before .before .before .before .cover .ensures))
 
 returns-2 : tie.Need-returns-2
 returns-2 c = same-call _ _ _ _ (c .before .before .before .before .before .before .before .before .c2 .given .1) (c .before .before .before .before .answer-pair .ensures)
