@@ -1,9 +1,12 @@
 -- What a struct at the border says is what the engine's answer says. Assumes nothing.
-use mathlib.Core.Path.{_≡_, refl, sym, ap, _∙_}
+use mathlib.Core.Path.{_≡_, refl, sym, ap, _∙_, subst}
 use mathlib.Core.List.{List}
 use Prim.Native.Nat.{ℕ, zero, suc, _+_}
 use native.Mathlib.Omega.{arith}
-use lib.ListN.{length}
+use lib.ListN.{length, take, drop}
+use lib.Seq.{take-all, sets, length-sets}
+use Rattle.itemset.specs.Words.{valueOf}
+use Rattle.itemset.proofs.Stored.{sets-read}
 use Rattle.zdd.specs.Table.{Family, count}
 use Rattle.statement.specs.declared.Report.{Report as EngineReport}
 use Rattle.exact_cover.specs.Problem.{Problem}
@@ -96,3 +99,13 @@ shows-read {b} {p} {p′} {c} r h q = record {
   items = q .items;
   costs = q .costs;
 }
+
+-- ---- a set in an array of three words
+
+pub whole-set : (ds : List ℕ) → length ds ≡ 3 → valueOf (take 3 (drop 0 ds)) ≡ valueOf ds
+whole-set ds l = ap valueOf (take-all 3 ds (omega arith))
+
+pub written-set : (vs ds : List ℕ) → length vs ≡ 3 → length ds ≡ 3 → valueOf (sets ds 0 vs) ≡ valueOf vs
+written-set vs ds k l =
+    sym (whole-set (sets ds 0 vs) (length-sets ds 0 vs ∙ l))
+    ∙ ap valueOf (subst (λ (n : ℕ). take n (drop 0 (sets ds 0 vs)) ≡ vs) k (sets-read vs ds 0 (omega arith)))

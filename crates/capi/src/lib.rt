@@ -1,9 +1,13 @@
 // The public calls for C, as exported functions on numbers, slices and structs by value: include/mogedorn.h describes them. Each has the contract of the
 // engine's call, of the answer that its struct stands for (specs/Structs), and none has a `requires`, since nothing checks a C caller.
+ghost use mathlib.Core.Path.{_≡_};
+ghost use Prim.Native.Nat.{min};
 ghost use lib.ListN.{length};
+ghost use Rattle.itemset.specs.Words.{width, valueOf};
 ghost use Rattle.exact_cover.specs.Problem.{problemOf};
 ghost use Rattle.statement.specs.Replies.{soundnessReply, countReply, measureReply, pickReply, placeReply, cheapestReply};
 ghost use Rattle.statement.specs.Postconditions.{CheckPost, CountPost, MeasurePost, PickPost, PlacePost, CheapestPost, CoverPost, EitherPost, BothPost, OnlyPost, WithPost, WithoutPost};
+ghost use Rattle.statement.specs.Examples.{allItems};
 ghost use Rattle.bids.specs.Contract.{readReply, ReadPost};
 ghost use Rattle.capi.specs.Structs.{soundnessOf, engineReport, reportOf, countedOf, measuredOf, pickedOf, placedOf, pricedOf, readingOf, BlankReport};
 ghost use Rattle.capi.specs.Structs.{BlankNumber, BlankPick, BlankTimetable, BlankBids, Says, Shows};
@@ -291,14 +295,15 @@ pub extern "C" fn mogedorn_cover(
     m: u32,
     packages: &[u64],
     t: &mut [u32],
-    d: u64,
+    d: &[u64; 3],
     limit: u32,
     work: &mut [u64],
 ) -> Report
-    ensures { λ r. ⌜ CoverPost (problemOf (now (packages .entry))) m (now (t .entry)) d limit (length (now (work .entry))) (reportOf r) (now (t .exit)) ⌝ }
+    ensures { λ r. ⌜ CoverPost (problemOf (now (packages .entry))) m (now (t .entry)) (valueOf (now (d .entry))) limit (length (now (work .entry))) (reportOf r) (now (t .exit)) ⌝ }
     ensures { λ r. ⌜ BlankReport r ⌝ }
 {
-    let r = engine::cover(m, packages, t, d, limit, work);
+    let items = itemset::read(d, 0);
+    let r = engine::cover(m, packages, t, items, limit, work);
     shown(r)
 }
 
@@ -382,7 +387,16 @@ pub extern "C" fn mogedorn_without(
     shown(r)
 }
 
-// Reads a bids file: the packages' item sets and costs to the start of the buffers.
+// The set of all items below m, to three words; above 192 it is that of 192.
+#[no_mangle]
+pub extern "C" fn mogedorn_all_items(m: u32, d: &mut [u64; 3])
+    ensures { λ _. ⌜ valueOf (now (d .exit)) ≡ allItems (min m width) ⌝ }
+{
+    let items = itemset::all_below(m);
+    itemset::write(d, 0, items);
+}
+
+// Reads a bids file: the packages' item sets, three words each, and costs to the start of the buffers.
 #[no_mangle]
 pub extern "C" fn mogedorn_read_bids(file: &[u8], packages: &mut [u64], costs: &mut [u16]) -> Bids
     ensures { λ r. ⌜ ReadPost (now (file .entry)) (readingOf r) (now (packages .entry)) (now (packages .exit)) (now (costs .entry)) (now (costs .exit)) ⌝ }

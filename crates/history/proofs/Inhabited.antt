@@ -8,6 +8,8 @@ use Prim.Native.Nat.{ℕ, zero, suc, _<_}
 use native.Mathlib.Nat.{not-suc-le-zero}
 use native.Mathlib.Omega.{arith}
 use lib.ListN.{length, getD, take}
+use Rattle.itemset.specs.Words.{width, valueOf}
+use Rattle.itemset.specs.declared.Items.{Items}
 use Rattle.itemset.specs.Items.{holds, insideb, without, belowb, size, lowest}
 use Rattle.zdd.specs.Table.{nodesOf, capacity, families, family, order, allSets, sets, filter, soundb, eqSet, elem, has, _∈_}
 use Rattle.zdd.specs.Operations.{combine, including, excluding}
@@ -20,7 +22,7 @@ use Rattle.statement.specs.declared.Outcome.the-variants.{Answer, Refused}
 use Rattle.statement.specs.declared.Picked.the-variants.{Packages}
 use Rattle.statement.specs.declared.Measured.the-variants.{Packages as MeasuredPackages}
 use Rattle.statement.specs.Refusals.{firstOf, oversize, strayIn, stray, unsound, unknownAnswer, unknownItem, shortWork, spent, full, uncountable, pastEnd, shortPage, pickRefusal, measureRefusal}
-use Rattle.statement.specs.Calls.{callRefusal}
+use Rattle.statement.specs.Calls.{callRefusal, coverRefusal}
 use Rattle.statement.specs.declared.Call.the-variants.{Cover, Only, With, Without}
 use Rattle.exact_cover.specs.Problem.{lead, done}
 use Rattle.query.specs.Questions.{unknownPackage}
@@ -43,28 +45,28 @@ final = 5 ∷ 2 ∷ 0 ∷ 1 ∷ 4 ∷ 0 ∷ 2 ∷ 1 ∷ 0 ∷ 3 ∷ 0 ∷ 4 ∷ 
 abbrev report : ℕ → ℕ → ℕ → Report
 report a s c = record { outcome = Answer a; steps = s; made = c }
 
-first-cover : CoverPost figure1 6 (emptyTable 6) 63 6 128 (report 5 6 4) covered
+first-cover : CoverPost figure1 6 (emptyTable 6) 63 6 256 (report 5 6 4) covered
 unfolding holds insideb without belowb size lowest lead done nodesOf capacity families family order allSets sets filter soundb eqSet elem starting
     others weight branchesTo branches eqFamily amongb fresh missing newBelow keysFrom keysOf holders allInside once covers covering fits down candidates each
-    visit steps firstOf oversize strayIn stray unsound unknownItem shortWork spent full callRefusal
+    visit steps firstOf oversize strayIn stray unsound unknownItem shortWork spent full callRefusal width valueOf
 first-cover = record {
   declined = λ l. absurd (not-suc-le-zero l);
   answered = λ e. record { number = 5; outcome = refl; known = omega arith; holds = refl; steps = refl; long = refl; sound = refl; old = refl; grown = refl; made = refl };
 }
 
 -- B is 5
-second-cover : CoverPost figure1 6 covered 63 5 128 (record { outcome = Refused 9; steps = 0; made = 0 }) covered
+second-cover : CoverPost figure1 6 covered 63 5 256 (record { outcome = Refused 9; steps = 0; made = 0 }) covered
 unfolding holds insideb without belowb size lowest lead done nodesOf capacity order allSets sets filter soundb eqSet keysFrom keysOf fits down
-    candidates each visit steps firstOf oversize strayIn stray unsound unknownItem shortWork spent callRefusal
+    candidates each visit steps firstOf oversize strayIn stray unsound unknownItem shortWork spent callRefusal width valueOf
 second-cover = record {
   declined = λ l. record { outcome = refl; steps = refl; made = refl; table = refl };
-  answered = λ (e : callRefusal figure1 6 covered (Cover 63 5) 128 ≡ 0). absurd (omega arith);
+  answered = λ (e : coverRefusal figure1 6 covered 63 5 256 ≡ 0). absurd (omega arith);
 }
 
 with-0 : WithPost figure1 6 covered 5 0 2 (report 6 0 1) final
 unfolding holds insideb without belowb size lowest lead done nodesOf capacity families family order allSets sets filter soundb eqSet elem has starting
     others weight branchesTo branches eqFamily amongb fresh missing newBelow keysFrom keysOf firstOf oversize strayIn stray unsound unknownAnswer
-    unknownPackage shortWork full including callRefusal
+    unknownPackage shortWork full including callRefusal width valueOf
 with-0 = record {
   declined = λ l. absurd (not-suc-le-zero l);
   answered = λ e. record { number = 6; outcome = refl; known = omega arith; holds = refl; steps = refl; long = refl; sound = refl; old = refl; grown = refl; made = refl };
@@ -74,7 +76,7 @@ with-0 = record {
 only-other : OnlyPost figure1 6 final 5 6 2 (report 4 0 0) final
 unfolding holds insideb without belowb size lowest lead done nodesOf capacity families family order allSets sets filter soundb eqSet elem has combine
     starting others weight branchesTo branches eqFamily amongb fresh missing newBelow keysFrom keysOf firstOf oversize strayIn stray unsound unknownAnswer
-    shortWork full callRefusal
+    shortWork full callRefusal width valueOf
 only-other = record {
   declined = λ l. absurd (not-suc-le-zero l);
   answered = λ e. record { number = 4; outcome = refl; known = omega arith; holds = refl; steps = refl; long = refl; sound = refl; old = refl; grown = refl; made = refl };
@@ -84,41 +86,46 @@ only-other = record {
 without-0 : WithoutPost figure1 6 final 5 0 2 (report 4 0 0) final
 unfolding holds insideb without belowb size lowest lead done nodesOf capacity families family order allSets sets filter soundb eqSet elem has starting
     others weight branchesTo branches eqFamily amongb fresh missing newBelow keysFrom keysOf firstOf oversize strayIn stray unsound unknownAnswer
-    unknownPackage shortWork full excluding callRefusal
+    unknownPackage shortWork full excluding callRefusal width valueOf
 without-0 = record {
   declined = λ l. absurd (not-suc-le-zero l);
   answered = λ e. record { number = 4; outcome = refl; known = omega arith; holds = refl; steps = refl; long = refl; sound = refl; old = refl; grown = refl; made = refl };
 }
 
 -- the first cover again: the same steps, and no node made
-third-cover : CoverPost figure1 6 final 63 6 128 (report 5 6 0) final
+third-cover : CoverPost figure1 6 final 63 6 256 (report 5 6 0) final
 unfolding holds insideb without belowb size lowest lead done nodesOf capacity families family order allSets sets filter soundb eqSet elem starting
     others weight branchesTo branches eqFamily amongb fresh missing newBelow keysFrom keysOf holders allInside once covers covering fits down candidates each
-    visit steps firstOf oversize strayIn stray unsound unknownItem shortWork spent full callRefusal
+    visit steps firstOf oversize strayIn stray unsound unknownItem shortWork spent full callRefusal width valueOf
 third-cover = record {
   declined = λ l. absurd (not-suc-le-zero l);
   answered = λ e. record { number = 5; outcome = refl; known = omega arith; holds = refl; steps = refl; long = refl; sound = refl; old = refl; grown = refl; made = refl };
 }
 
+-- the items 0 to 5
+abbrev d63 : Items
+d63 = record { w0 = 63; w1 = 0; w2 = 0 }
+
 abbrev calls : Calls
 calls =
-    (entry 6 (Cover 63 6) 128, report 5 6 0)
+    (entry 6 (Cover d63 6) 256, report 5 6 0)
     ∷ (entry 6 (Without 5 0) 2, report 4 0 0)
     ∷ (entry 6 (Only 5 6) 2, report 4 0 0)
     ∷ (entry 6 (With 5 0) 2, report 6 0 1)
-    ∷ (entry 6 (Cover 63 5) 128, record { outcome = Refused 9; steps = 0; made = 0 })
-    ∷ (entry 6 (Cover 63 6) 128, report 5 6 4)
+    ∷ (entry 6 (Cover d63 5) 256, record { outcome = Refused 9; steps = 0; made = 0 })
+    ∷ (entry 6 (Cover d63 6) 256, report 5 6 4)
     ∷ []
 
 history : History figure1 calls final
+unfolding callRefusal valueOf
 history =
     next (next (next (next (next (next (start 19)
-    (entry 6 (Cover 63 6) 128) (report 5 6 4) covered (λ x m. absurd (List·Memᴰ·not-nil m)) first-cover)
-    (entry 6 (Cover 63 5) 128) (record { outcome = Refused 9; steps = 0; made = 0 }) covered tt second-cover)
+    (entry 6 (Cover d63 6) 256) (report 5 6 4) covered (λ x m. absurd (List·Memᴰ·not-nil m)) first-cover)
+    (entry 6 (Cover d63 5) 256) (record { outcome = Refused 9; steps = 0; made = 0 }) covered tt second-cover)
     (entry 6 (With 5 0) 2) (report 6 0 1) final (λ x m. one x (List·Memᴰ·cases-cons m)) with-0)
     (entry 6 (Only 5 6) 2) (report 4 0 0) final (λ x m. two x (List·Memᴰ·cases-cons m)) only-other)
     (entry 6 (Without 5 0) 2) (report 4 0 0) final (λ x m. five x (List·Memᴰ·cases-cons m)) without-0)
-    (entry 6 (Cover 63 6) 128) (report 5 6 0) final (λ x m. absurd (List·Memᴰ·not-nil m)) third-cover
+    (entry 6 (Cover d63 6) 256) (report 5 6 0) final (λ x m. absurd (List·Memᴰ·not-nil m)) third-cover
   where
     one : (x : ℕ) → (x ≡ 5) ⊎ (x ∈ []) → x ∈ 5 ∷ 0 ∷ 1 ∷ []
     one x (inl e) = List·Memᴰ·head e
@@ -167,12 +174,12 @@ two-sets e = let z : _≡_ {A = ℕ} 5 4 = demanded .numbers (posting 0) (postin
 -- the second timetable of 5, on a page of four
 picked : PickPost figure1 6 final 5 1 6 (7 ∷ 7 ∷ 7 ∷ 7 ∷ []) (Packages 3) (1 ∷ 4 ∷ 2 ∷ 7 ∷ [])
 unfolding holds insideb belowb lowest lead done nodesOf capacity families family soundb keysFrom keysOf firstOf oversize strayIn stray unsound
-    unknownAnswer shortWork uncountable pastEnd shortPage pickRefusal
+    unknownAnswer shortWork uncountable pastEnd shortPage pickRefusal width valueOf
 picked = record { result = refl; pages = refl }
 
 -- it is what the demand says
 second-of-five : Returns (1 ∷ 4 ∷ 2 ∷ []) (7 ∷ 7 ∷ 7 ∷ 7 ∷ []) (Packages 3) (1 ∷ 4 ∷ 2 ∷ 7 ∷ [])
-unfolding holds insideb belowb size lowest lead done order allSets sets filter keysFrom keysOf holders allInside once covers
+unfolding holds insideb belowb size lowest lead done order allSets sets filter keysFrom keysOf holders allInside once covers width valueOf
 second-of-five =
     demanded .picks (posting 0) (posted 0 (omega arith)) (omega arith) 6 (List·Memᴰ·head refl) 6 (omega arith) 1
     (7 ∷ 7 ∷ 7 ∷ 7 ∷ []) (Packages 3) (1 ∷ 4 ∷ 2 ∷ 7 ∷ []) picked .0 (omega arith) (omega arith)
@@ -180,11 +187,11 @@ second-of-five =
 -- measured, with no page
 measured : MeasurePost figure1 6 final 5 1 6 (MeasuredPackages 3)
 unfolding holds insideb belowb lowest lead done nodesOf capacity families family soundb keysFrom keysOf firstOf oversize strayIn stray unsound
-    unknownAnswer shortWork uncountable pastEnd measureRefusal
+    unknownAnswer shortWork uncountable pastEnd measureRefusal width valueOf
 measured = record { result = refl }
 
 three-packages : measureReply (MeasuredPackages 3) ≡ gives (length {A = ℕ} (1 ∷ 4 ∷ 2 ∷ []))
-unfolding holds insideb belowb size lowest lead done order allSets sets filter keysFrom keysOf holders allInside once covers
+unfolding holds insideb belowb size lowest lead done order allSets sets filter keysFrom keysOf holders allInside once covers width valueOf
 three-packages =
     demanded .measures (posting 0) (posted 0 (omega arith)) (omega arith) 6 (List·Memᴰ·head refl) 6 (omega arith) 1
     (MeasuredPackages 3) measured .0 (omega arith)
@@ -217,14 +224,14 @@ spare = 6 ∷ 2 ∷ 0 ∷ 1 ∷ 4 ∷ 0 ∷ 2 ∷ 1 ∷ 0 ∷ 3 ∷ 0 ∷ 4 ∷ 
 -- it is sound, the old nodes stand first, and 5 still holds the covers of all items
 spare-sound : (soundb (keysOf figure1) spare ≡ true) × (take 5 (nodesOf spare) ≡ nodesOf final) × (family (nodesOf spare) 5 ≡ covering figure1 63)
 unfolding holds insideb belowb size lowest lead done nodesOf capacity families family order allSets sets filter soundb keysFrom keysOf holders allInside
-    once covers covering
+    once covers covering width valueOf
 spare-sound = (refl, refl, refl)
 
 -- but a cover that makes that node, fewer than the four branch nodes of its answer, does not meet its contract
-no-spare : CoverPost figure1 6 final 63 6 128 (report 5 6 1) spare → ⊥
+no-spare : CoverPost figure1 6 final 63 6 256 (report 5 6 1) spare → ⊥
 unfolding holds insideb without belowb size lowest lead done nodesOf capacity families family order allSets sets filter soundb eqSet elem starting
     others weight branchesTo branches eqFamily amongb fresh missing newBelow keysFrom keysOf holders allInside once covers covering fits down candidates
-    each visit steps firstOf oversize strayIn stray unsound unknownItem shortWork spent full callRefusal
+    each visit steps firstOf oversize strayIn stray unsound unknownItem shortWork spent full callRefusal width valueOf
 no-spare C =
     let A = C .answered refl in
     let five : A .number ≡ 5 = gives-one (gives 5) (A .number) 5 (A .outcome) refl in

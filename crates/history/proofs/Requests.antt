@@ -9,6 +9,7 @@ use lib.Dec.{eqb, leb, ltb}
 use lib.ListN.{length}
 use borrow.Author.Tests.{ltb-true, leb-true, eqb-true, le-leb, lt-leb, eq-eqb, ne-eqb}
 use Rattle.base.proofs.Bools.{and-left, and-right, or-left, or-cases}
+use Rattle.itemset.specs.declared.Items.{Items}
 use Rattle.zdd.specs.Table.{_∈_}
 use Rattle.statement.specs.declared.Report.{Report}
 use Rattle.history.specs.declared.Request.{Request}
@@ -30,9 +31,9 @@ goes b e q = q ∙ sym (ap (λ (x : Bool). x && b) e)
 pub or-skip : {a : Bool} (b : Bool) → a ≡ false → b ≡ (a || b)
 or-skip b e = sym (ap (λ (x : Bool). x || b) e)
 
--- ---- the call of five words
+-- ---- the call of seven words
 
-pub call-last : (kind x y : ℕ) → (kind ≡ 0 → ⊥) → (kind ≡ 1 → ⊥) → (kind ≡ 2 → ⊥) → (kind ≡ 3 → ⊥) → (kind ≡ 4 → ⊥) → callOf kind x y ≡ Without x y
+pub call-last : (kind : ℕ) (x : Items) (y : ℕ) → (kind ≡ 0 → ⊥) → (kind ≡ 1 → ⊥) → (kind ≡ 2 → ⊥) → (kind ≡ 3 → ⊥) → (kind ≡ 4 → ⊥) → callOf kind x y ≡ Without (x .w0) y
 call-last zero x y n0 n1 n2 n3 n4 = absurd (n0 refl)
 call-last (suc zero) x y n0 n1 n2 n3 n4 = absurd (n1 refl)
 call-last (suc (suc zero)) x y n0 n1 n2 n3 n4 = absurd (n2 refl)
@@ -45,7 +46,7 @@ pub record Fitting (room : ℕ) (q : Request) : Type 0 where
   pub items : q .m < 4294967296
   pub second : q .y < 4294967296
   pub room-for : q .words ≤ room
-  pub first : 0 < q .kind → q .x < 4294967296
+  pub first : 0 < q .kind → q .x .w0 < 4294967296
 
 pub fitting : (room : ℕ) (q : Request) → possible room q ≡ true → Fitting room q
 unfolding possible
@@ -59,8 +60,8 @@ fitting room q e =
       room-for = leb-true (q .words) room (and-left (leb (q .words) room) _ e2);
       first = λ h. ⊎-elim
           (λ (z : eqb (q .kind) 0 ≡ true). absurd (omega (arith, eqb-true (q .kind) 0 z)))
-          (λ (l : narrow (q .x) ≡ true). ltb-true (q .x) 4294967296 l)
-          (or-cases (eqb (q .kind) 0) (narrow (q .x)) e3);
+          (λ (l : narrow (q .x .w0) ≡ true). ltb-true (q .x .w0) 4294967296 l)
+          (or-cases (eqb (q .kind) 0) (narrow (q .x .w0)) e3);
     }
 
 -- the call that a request asks is made of its words, and of as many working words as it says
@@ -77,16 +78,16 @@ and-true true = refl
 and-true false = refl
 
 -- the operands' test, by the kind
-pub every-operand : (P : ℕ → Bool) (kind x y : ℕ)
-    → every P (operands (callOf kind x y)) ≡ cond (eqb kind 0) true (P x && (leb 4 kind || P y))
+pub every-operand : (P : ℕ → Bool) (kind : ℕ) (x : Items) (y : ℕ)
+    → every P (operands (callOf kind x y)) ≡ cond (eqb kind 0) true (P (x .w0) && (leb 4 kind || P y))
 unfolding every
 every-operand P zero x y = refl
-every-operand P (suc zero) x y = ap (λ (b : Bool). P x && b) (and-true (P y))
-every-operand P (suc (suc zero)) x y = ap (λ (b : Bool). P x && b) (and-true (P y))
-every-operand P (suc (suc (suc zero))) x y = ap (λ (b : Bool). P x && b) (and-true (P y))
+every-operand P (suc zero) x y = ap (λ (b : Bool). P (x .w0) && b) (and-true (P y))
+every-operand P (suc (suc zero)) x y = ap (λ (b : Bool). P (x .w0) && b) (and-true (P y))
+every-operand P (suc (suc (suc zero))) x y = ap (λ (b : Bool). P (x .w0) && b) (and-true (P y))
 every-operand P (suc (suc (suc (suc zero)))) x y = refl
 every-operand P (suc (suc (suc (suc (suc k))))) x y =
-    sym (ap₂ (λ (a b : Bool). cond a true (P x && (b || P y)))
+    sym (ap₂ (λ (a b : Bool). cond a true (P (x .w0) && (b || P y)))
     (ne-eqb (suc (suc (suc (suc (suc k))))) 0 (λ z. omega arith))
     (le-leb 4 (suc (suc (suc (suc (suc k))))) (omega arith)))
 
@@ -107,30 +108,30 @@ every-at P (y ∷ l) e x i = go (List·Memᴰ·cases-cons i) (every-at P l (and-
 -- the same by the branches of the code
 
 module _ (P : ℕ → Bool) (q : Request) where
-  by-kind : every P (operands (requestEntry q .call)) ≡ cond (eqb (q .kind) 0) true (P (q .x) && (leb 4 (q .kind) || P (q .y)))
+  by-kind : every P (operands (requestEntry q .call)) ≡ cond (eqb (q .kind) 0) true (P (q .x .w0) && (leb 4 (q .kind) || P (q .y)))
   by-kind = every-operand P (q .kind) (q .x) (q .y)
 
   pub no-operand : q .kind ≡ 0 → true ≡ every P (operands (requestEntry q .call))
-  no-operand e = sym (by-kind ∙ ap (λ (b : Bool). cond b true (P (q .x) && (leb 4 (q .kind) || P (q .y)))) (eq-eqb (q .kind) 0 e))
+  no-operand e = sym (by-kind ∙ ap (λ (b : Bool). cond b true (P (q .x .w0) && (leb 4 (q .kind) || P (q .y)))) (eq-eqb (q .kind) 0 e))
 
   module _ (some : q .kind ≡ 0 → ⊥) where
-    by-first : every P (operands (requestEntry q .call)) ≡ (P (q .x) && (leb 4 (q .kind) || P (q .y)))
-    by-first = by-kind ∙ ap (λ (b : Bool). cond b true (P (q .x) && (leb 4 (q .kind) || P (q .y)))) (ne-eqb (q .kind) 0 some)
+    by-first : every P (operands (requestEntry q .call)) ≡ (P (q .x .w0) && (leb 4 (q .kind) || P (q .y)))
+    by-first = by-kind ∙ ap (λ (b : Bool). cond b true (P (q .x .w0) && (leb 4 (q .kind) || P (q .y)))) (ne-eqb (q .kind) 0 some)
 
-    pub first-fails : P (q .x) ≡ false → false ≡ every P (operands (requestEntry q .call))
+    pub first-fails : P (q .x .w0) ≡ false → false ≡ every P (operands (requestEntry q .call))
     first-fails f = stop _ f ∙ sym by-first
 
-    pub first-only : P (q .x) ≡ true → 4 ≤ q .kind → true ≡ every P (operands (requestEntry q .call))
+    pub first-only : P (q .x .w0) ≡ true → 4 ≤ q .kind → true ≡ every P (operands (requestEntry q .call))
     first-only f h = goes _ f (sym (or-left (leb 4 (q .kind)) (P (q .y)) (le-leb 4 (q .kind) h))) ∙ sym by-first
 
-    pub then-second : P (q .x) ≡ true → q .kind < 4 → P (q .y) ≡ every P (operands (requestEntry q .call))
+    pub then-second : P (q .x .w0) ≡ true → q .kind < 4 → P (q .y) ≡ every P (operands (requestEntry q .call))
     then-second f h = goes _ f (or-skip (P (q .y)) (lt-leb 4 (q .kind) h)) ∙ sym by-first
 
 -- ---- the test of the next call
 
 -- what a call that may be run has
 pub record Runs (script : List ℕ) (places room i : ℕ) (P : ℕ → Bool) : Type 0 where
-  pub there : i < length script / 5
+  pub there : i < length script / 7
   pub placed : i < places
   pub fit : possible room (requestAt script i) ≡ true
   pub pass : every P (operands (callAt script i .call)) ≡ true
@@ -138,10 +139,10 @@ pub record Runs (script : List ℕ) (places room i : ℕ) (P : ℕ → Bool) : T
 pub may-run : (script : List ℕ) (places room i : ℕ) (P : ℕ → Bool) → runs script places room i P ≡ true → Runs script places room i P
 unfolding runs
 may-run script places room i P e =
-    let e1 = and-right (ltb i (length script / 5)) _ e in
+    let e1 = and-right (ltb i (length script / 7)) _ e in
     let e2 = and-right (ltb i places) _ e1 in
     record {
-      there = ltb-true i (length script / 5) (and-left (ltb i (length script / 5)) _ e);
+      there = ltb-true i (length script / 7) (and-left (ltb i (length script / 7)) _ e);
       placed = ltb-true i places (and-left (ltb i places) _ e1);
       fit = and-left (possible room (requestAt script i)) _ e2;
       pass = and-right (possible room (requestAt script i)) _ e2;
@@ -150,5 +151,5 @@ may-run script places room i P e =
 pub runs-same : (script : List ℕ) (places room i : ℕ) (P R : ℕ → Bool) → ((x : ℕ) → P x ≡ R x) → runs script places room i P ≡ runs script places room i R
 unfolding runs
 runs-same script places room i P R h =
-    ap (λ (b : Bool). ltb i (length script / 5) && (ltb i places && (possible room (requestAt script i) && b)))
+    ap (λ (b : Bool). ltb i (length script / 7) && (ltb i places && (possible room (requestAt script i) && b)))
     (every-same P R (operands (callAt script i .call)) h)

@@ -39,7 +39,7 @@ pub record Running (Q : Problem) (script : List ℕ) (room : ℕ) (t₀ out₀ :
   pub long : length t ≡ length t₀
   pub wide : length out ≡ length out₀
   pub rest : drop (3 * i) out ≡ drop (3 * i) out₀
-  pub asked : i ≤ length script / 5
+  pub asked : i ≤ length script / 7
   pub placed : i ≤ length out₀ / 3
   pub ready : (j : ℕ) → j < i → Runnable Q script (length out₀ / 3) room j (calls script out j)
 

@@ -7,6 +7,7 @@ use mathlib.Core.List.{List, [], _∷_, _++_}
 use Prim.Native.Nat.{ℕ, _+_, _≤_, _<_}
 use lib.Dec.{eqb}
 use lib.ListN.{length, drop, replicate}
+use Rattle.itemset.specs.Words.{value}
 use Rattle.zdd.specs.Table.{Family, count, nodesOf, sets, elem, filter, has, _∈_}
 use Rattle.zdd.specs.Below.{Below}
 use Rattle.exact_cover.specs.Problem.{Problem}
@@ -86,7 +87,7 @@ emptyTimetable (p ∷ s) = false
 
 -- the set that a call's line makes, from D by the definition of covering, or from p and the sets `of x` of its operands
 abbrev pub makes : Problem → (ℕ → Chosen) → Call → Chosen
-makes Q of (Cover d limit) s = covers Q d s
+makes Q of (Cover d limit) s = covers Q (value d) s
 makes Q of (Either a b) s = of a s || of b s
 makes Q of (Both a b) s = of a s && of b s
 makes Q of (Only a b) s = of a s && not (of b s)

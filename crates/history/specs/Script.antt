@@ -6,6 +6,7 @@ use mathlib.Core.List.{List, [], _∷_}
 use Prim.Native.Nat.{ℕ, zero, suc, _+_, _-_, _*_, _/_, _≤_, _<_}
 use lib.Dec.{eqb, leb, ltb}
 use lib.ListN.{length, getD, drop}
+use Rattle.itemset.specs.declared.Items.{Items}
 use Rattle.zdd.specs.Table.{count, has}
 use Rattle.exact_cover.specs.Problem.{Problem}
 use Rattle.statement.specs.declared.Call.{Call}
@@ -17,30 +18,31 @@ use Rattle.statement.specs.declared.Outcome.the-variants.{Answer, Refused}
 use Rattle.history.specs.declared.Request.{Request}
 use Rattle.history.specs.Histories.{Entry, entry, Calls, given, History, Demanded, Needed}
 
--- ---- a script: five words a call
+-- ---- a script: seven words a call
 
--- its kind, M, two arguments, and the number of working words. Kind 0 is cover of D = x with the step limit y [document 01: B]; 1, 2 and 3 are either,
--- both and only of the answers x and y; 4 is with, and 5 and above without, of the answer x and the package y
-abbrev pub callOf : (kind x y : ℕ) → Call
+-- its kind, M, two arguments, the first of three words, and the number of working words. Kind 0 is cover of D = x with the step limit y
+-- [document 01: B]; 1, 2 and 3 are either, both and only of the answers x and y; 4 is with, and 5 and above without, of the answer x and the package y.
+-- An answer x is the lowest of its three words, and the others mean nothing
+abbrev pub callOf : (kind : ℕ) (x : Items) (y : ℕ) → Call
 callOf zero x y = Cover x y
-callOf (suc zero) x y = Either x y
-callOf (suc (suc zero)) x y = Both x y
-callOf (suc (suc (suc zero))) x y = Only x y
-callOf (suc (suc (suc (suc zero)))) x y = With x y
-callOf (suc (suc (suc (suc (suc k))))) x y = Without x y
+callOf (suc zero) x y = Either (x .w0) y
+callOf (suc (suc zero)) x y = Both (x .w0) y
+callOf (suc (suc (suc zero))) x y = Only (x .w0) y
+callOf (suc (suc (suc (suc zero)))) x y = With (x .w0) y
+callOf (suc (suc (suc (suc (suc k))))) x y = Without (x .w0) y
 
 -- the call that a request of the code asks
 abbrev pub requestEntry : Request → Entry
 requestEntry q = entry (q .m) (callOf (q .kind) (q .x) (q .y)) (q .words)
 
--- call i of the script, from 0: its five words, and the call
+-- call i of the script, from 0: its seven words, and the call
 abbrev pub requestAt : List ℕ → ℕ → Request
 requestAt script i = record {
-  kind = getD script (5 * i) 0;
-  m = getD script (5 * i + 1) 0;
-  x = getD script (5 * i + 2) 0;
-  y = getD script (5 * i + 3) 0;
-  words = getD script (5 * i + 4) 0;
+  kind = getD script (7 * i) 0;
+  m = getD script (7 * i + 1) 0;
+  x = record { w0 = getD script (7 * i + 2) 0; w1 = getD script (7 * i + 3) 0; w2 = getD script (7 * i + 4) 0 };
+  y = getD script (7 * i + 5) 0;
+  words = getD script (7 * i + 6) 0;
 }
 
 abbrev pub callAt : List ℕ → ℕ → Entry
@@ -69,7 +71,7 @@ narrow x = ltb x 4294967296
 
 -- the call can be made at all: each of its numbers but D has 32 bits, and as many working words are lent as it asks
 unfoldable pub possible : ℕ → Request → Bool
-possible room q = narrow (q .m) && (narrow (q .y) && (leb (q .words) room && (eqb (q .kind) 0 || narrow (q .x))))
+possible room q = narrow (q .m) && (narrow (q .y) && (leb (q .words) room && (eqb (q .kind) 0 || narrow (q .x .w0))))
 
 -- x is unknown to a table of n nodes: n + 2 or more
 abbrev pub beyond : ℕ → ℕ → Bool
@@ -89,7 +91,7 @@ every P (x ∷ xs) = P x && every P xs
 unfoldable pub runs : (script : List ℕ) (places room i : ℕ) → (ℕ → Bool) → Bool
 unfolding possible every
 runs script places room i P =
-    ltb i (length script / 5)
+    ltb i (length script / 7)
     && (ltb i places
     && (possible room (requestAt script i)
     && every P (operands (callAt script i .call))))
@@ -112,7 +114,7 @@ pub record Ran (Q : Problem) (script : List ℕ) (room : ℕ) (t out : List ℕ)
   pub wide : length out′ ≡ length out
   pub rest : drop (3 * n) out′ ≡ drop (3 * n) out
   -- the script has these calls, and there was a place for each report
-  pub asked : n ≤ length script / 5
+  pub asked : n ≤ length script / 7
   pub placed : n ≤ length out / 3
   -- each of these calls could be run, on whatever table the calls before it left; the next one may not be run, or there is none
   pub ready : (i : ℕ) → i < n → (u : List ℕ) → History Q (calls script out′ i) u → runnable script out′ room u i ≡ true

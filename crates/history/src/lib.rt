@@ -11,6 +11,7 @@ ghost use Rattle.statement.specs.Calls.{operands};
 ghost use Rattle.history.specs.Histories.{Step};
 ghost use Rattle.history.specs.Script.{callOf, requestEntry, requestAt, callAt, outcomeOf, possible, every, runs, Ran};
 ghost use Rattle.history.specs.Parts.{marked, noted, Stored};
+use itemset::Items;
 use statement::Call;
 use statement::Outcome;
 use statement::Report;
@@ -19,7 +20,7 @@ use statement::Report;
 pub struct Request {
     pub kind: u64,
     pub m: u64,
-    pub x: u64,
+    pub x: Items,
     pub y: u64,
     pub words: u64,
 }
@@ -47,16 +48,20 @@ fn nodes(t: &[u32]) -> u32
 
 // Call i of the script.
 fn asked(script: &[u64], i: usize) -> Request
-    requires { ⌜ i < length (now script) / 5 ⌝ }
+    requires { ⌜ i < length (now script) / 7 ⌝ }
     ensures { λ r. ⌜ r ≡ requestAt (now (script .entry)) i ⌝ }
 {
-    let at = 5 * i;
+    let at = 7 * i;
     Request {
         kind: script[at],
         m: script[at + 1],
-        x: script[at + 2],
-        y: script[at + 3],
-        words: script[at + 4],
+        x: Items {
+            w0: script[at + 2],
+            w1: script[at + 3],
+            w2: script[at + 4],
+        },
+        y: script[at + 5],
+        words: script[at + 6],
     }
 }
 
@@ -76,7 +81,7 @@ fn fits(q: Request, room: usize) -> bool
     if q.kind == 0 {
         return true;
     }
-    q.x < 4294967296
+    q.x.w0 < 4294967296
 }
 
 // Whether x may be an operand: it was given, or it is unknown to a table of n nodes.
@@ -99,7 +104,7 @@ fn operands_pass(q: Request, given: &[u8; 65536], n: u32) -> bool
     if q.kind == 0 {
         return true;
     }
-    if !passes(given, n, q.x) {
+    if !passes(given, n, q.x.w0) {
         return false;
     }
     if q.kind >= 4 {
@@ -119,7 +124,7 @@ fn ready(
 ) -> bool
     ensures { λ r. ⌜ r ≡ runs (now (script .entry)) places room i (marked (now (given .entry)) (count (now (t .entry)))) ⌝ }
 {
-    if i >= script.len() / 5 {
+    if i >= script.len() / 7 {
         return false;
     }
     if i >= places {
@@ -134,14 +139,14 @@ fn ready(
 }
 
 // The call that a request's words ask: see `callOf`.
-fn call_of(kind: u64, x: u64, y: u32) -> Call
-    requires { ⌜ (0 < kind → x < 4294967296) ⌝ }
+fn call_of(kind: u64, x: Items, y: u32) -> Call
+    requires { ⌜ (0 < kind → x .w0 < 4294967296) ⌝ }
     ensures { λ r. ⌜ r ≡ callOf kind x y ⌝ }
 {
     if kind == 0 {
         return Call::Cover { d: x, limit: y };
     }
-    let a = x as u32;
+    let a = x.w0 as u32;
     if kind == 1 {
         return Call::Either { a: a, b: y };
     }
@@ -159,7 +164,7 @@ fn call_of(kind: u64, x: u64, y: u32) -> Call
 
 // Call i of the script, on as many working words as it asks.
 fn call(packages: &[u64], t: &mut [u32], work: &mut [u64], script: &[u64], i: usize) -> Report
-    requires { ⌜ i < length (now script) / 5 ⌝ }
+    requires { ⌜ i < length (now script) / 7 ⌝ }
     requires { ⌜ possible (length (now work)) (requestAt (now script) i) ≡ true ⌝ }
     ensures { λ r. ⌜ Step (problemOf (now (packages .entry))) (now (t .entry)) (callAt (now (script .entry)) i) r (now (t .exit)) ⌝ }
 {

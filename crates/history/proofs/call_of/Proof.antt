@@ -8,7 +8,7 @@ returns : tie.Need-returns
 returns c = rw (c .if1 .taken)
 
 cast-a : tie.Need-cast-a
-cast-a c = record { fits = c .before .pre (omega (arith, c .if1 .left)) }
+cast-a c = record { fits = c .before .before .pre (omega (arith, c .before .if1 .left)) }
 
 returns-2 : tie.Need-returns-2
 returns-2 c = rw (c .if2 .taken)
@@ -23,7 +23,7 @@ returns-5 : tie.Need-returns-5
 returns-5 c = rw (c .if5 .taken)
 
 returns-6 : tie.Need-returns-6
-returns-6 c = sym (call-last _ _ _ (c .before .before .before .before .if1 .left) (c .before .before .before .if2 .left) (c .before .before .if3 .left) (c .before .if4 .left) (c .if5 .left))
+returns-6 c = sym (call-last _ _ _ (c .before .before .before .before .before .if1 .left) (c .before .before .before .if2 .left) (c .before .before .if3 .left) (c .before .if4 .left) (c .if5 .left))
 
 pub call-of-spec : {M : Type 1} → statement M
 call-of-spec =
