@@ -2,11 +2,12 @@
 use mathlib.Core.Path.{_≡_, refl, sym, ap, _∙_}
 use mathlib.Core.Bool.{not}
 use mathlib.Core.List.{List, []}
-use Prim.Native.Nat.{ℕ, zero, suc, _≤_, _<_}
+use Prim.Native.Nat.{ℕ, zero, suc, _*_, _≤_, _<_}
 use native.Mathlib.Omega.{arith}
 use borrow.Author.Tests.{lt-ltb, le-ltb, eq-eqb, ne-eqb}
 use lib.Dec.{ltb}
 use lib.ListN.{length}
+use Rattle.itemset.specs.Words.{spread}
 use Rattle.statement.specs.Postconditions.{written}
 use Rattle.statement.proofs.FirstOf.{pass, hit, none}
 use Rattle.statement.proofs.TestLaws.{reply-refused}
@@ -15,7 +16,7 @@ use Rattle.bids.specs.Ranges.{listed}
 use Rattle.bids.specs.Format.{schools, slots, packages, itemsOf, costOf, refusal, packagesOf, costsOf}
 use Rattle.bids.specs.Contract.{readRefusal, ReadPost}
 use Rattle.bids.specs.declared.Reading.the-variants.{Refused}
-use Rattle.bids.proofs.Laws.{over, over-room, length-listed}
+use Rattle.bids.proofs.Laws.{over, over-room}
 
 -- ---- the refusal
 
@@ -25,17 +26,17 @@ module _ (b : List ℕ) (p c : ℕ) where
   by-file e f = hit (refusal b) _ (ap not (ne-eqb (refusal b) 0 (λ z. f (e ∙ z)))) ∙ sym e
 
   module _ (z : refusal b ≡ 0) where
-    pub few-places : p < packages b → readRefusal b p c ≡ 15
+    pub few-words : p < 3 * packages b → readRefusal b p c ≡ 15
     unfolding readRefusal
-    few-places h = pass (refusal b) _ (ap not (eq-eqb (refusal b) 0 z)) ∙ hit 15 [] (or-left (ltb p (packages b)) (ltb c (packages b)) (lt-ltb p (packages b) h))
+    few-words h = pass (refusal b) _ (ap not (eq-eqb (refusal b) 0 z)) ∙ hit 15 [] (or-left (ltb p (3 * packages b)) (ltb c (packages b)) (lt-ltb p (3 * packages b) h))
 
     pub few-costs : c < packages b → readRefusal b p c ≡ 15
     unfolding readRefusal
-    few-costs h = pass (refusal b) _ (ap not (eq-eqb (refusal b) 0 z)) ∙ hit 15 [] (or-right (ltb p (packages b)) (ltb c (packages b)) (lt-ltb c (packages b) h))
+    few-costs h = pass (refusal b) _ (ap not (eq-eqb (refusal b) 0 z)) ∙ hit 15 [] (or-right (ltb p (3 * packages b)) (ltb c (packages b)) (lt-ltb c (packages b) h))
 
-    pub accepted : packages b ≤ p → packages b ≤ c → readRefusal b p c ≡ 0
+    pub accepted : 3 * packages b ≤ p → packages b ≤ c → readRefusal b p c ≡ 0
     unfolding readRefusal
-    accepted h k = pass (refusal b) _ (ap not (eq-eqb (refusal b) 0 z)) ∙ pass 15 [] (rw (le-ltb p (packages b) h) (le-ltb c (packages b) k)) ∙ none
+    accepted h k = pass (refusal b) _ (ap not (eq-eqb (refusal b) 0 z)) ∙ pass 15 [] (rw (le-ltb p (3 * packages b) h) (le-ltb c (packages b) k)) ∙ none
 
 -- ---- the buffers
 
@@ -47,16 +48,16 @@ unwritten (suc n) vs l e f = sym (ap (λ (i : ℕ). written i vs l) e)
 pub read-refused : {b p c : List ℕ} {r : ℕ} → readRefusal b (length p) (length c) ≡ r → (r ≡ 0 → ⊥) → ReadPost b (Refused r) p p c c
 read-refused {b} {p} {c} {r} e f = record {
   answer = reply-refused r (schools b, (slots b, packages b)) e f;
-  items = unwritten r (packagesOf b) p e f;
+  items = unwritten r (spread 3 (packagesOf b)) p e f;
   costs = unwritten r (costsOf b) c e f;
 }
 
--- all of the list was stored, one after the other
-pub stored : (f : ℕ → ℕ) (l : List ℕ) {m : List ℕ} (n : ℕ) → m ≡ over (listed f n) l → n ≤ length l → m ≡ written 0 (listed f n) l
-stored f l n e p = e ∙ over-room (listed f n) l (omega (arith, length-listed f n))
+-- all n of the list were stored, one after the other
+pub stored : (vs l : List ℕ) {m : List ℕ} {n : ℕ} → length vs ≡ n → m ≡ over vs l → n ≤ length l → m ≡ written 0 vs l
+stored vs l h e p = e ∙ over-room vs l (omega arith)
 
 module _ (b l : List ℕ) {m : List ℕ} {s n r : ℕ} (z : r ≡ 0) (e : s ≡ schools b) (f : n ≡ packages b) where
-  pub items-stored : m ≡ written 0 (listed (itemsOf b s) n) l → m ≡ written r (packagesOf b) l
+  pub items-stored : m ≡ written 0 (spread 3 (listed (itemsOf b s) n)) l → m ≡ written r (spread 3 (packagesOf b)) l
   unfolding packagesOf
   items-stored h = rw z (rw (e, f) at h)
 

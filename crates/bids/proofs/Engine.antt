@@ -1,6 +1,6 @@
 -- THEOREM: what the engine says to a file's packages, by the contract of `engine::check` alone. It says 1 or 2, on whatever table, exactly where the file
 -- is unfit (28), and that no accepted file is. Assumes nothing.
-use mathlib.Core.Path.{_≡_, refl}
+use mathlib.Core.Path.{_≡_, refl, ap, _∙_}
 use mathlib.Core.Logic.{_⊎_, inl, inr, ⊎-elim, _↔_}
 use mathlib.Core.Bool.{Bool, true, false, _||_}
 use mathlib.Core.List.{List, [], _∷_}
@@ -9,6 +9,7 @@ use native.Mathlib.Omega.{arith}
 use contract.Lifetimes.{Lfts}
 use denote.Triple.Clauses.{AtExit}
 use borrow.Fn.Kinds.{Dens, resT, endedOf}
+use Rattle.itemset.specs.Words.{setsOf, spread}
 use Rattle.exact_cover.specs.Problem.{problemOf}
 use Rattle.statement.specs.Refusals.{firstOf, oversize, stray, unsound, checkRefusal}
 use Rattle.statement.specs.Replies.{Reply, refused, reply, soundnessReply}
@@ -16,8 +17,9 @@ use Rattle.statement.specs.Postconditions.{CheckPost}
 use Rattle.engine.proofs.check.Kinds as check
 use Rattle.engine.proofs.check.Reads as check-reads
 use Rattle.base.proofs.Bools.{never}
-use Rattle.bids.specs.Format.{schools, slots, unfit, refusal, packagesOf}
+use Rattle.bids.specs.Format.{schools, slots, unfit, refusal, packagesOf, problemIn}
 use Rattle.bids.proofs.Fit.{fit}
+use Rattle.bids.proofs.Packed.{packed-sets}
 use Rattle.bids.proofs.Refused.{accepted-sized, accepted-listed}
 
 -- what `engine::check` ensures is `CheckPost` of M, the packages and the table that it is lent
@@ -41,14 +43,15 @@ one-or-two false false false x q = (λ z. absurd (never z refl), λ z. absurd (�
     given n y = let z : _≡_ {A = ℕ} 0 1 = cc in omega arith
 
 module _ (b : List ℕ) (κs : Lfts 2) (a : Dens κs check.ps) (r : resT check.r κs .Denot) (e : AtExit (endedOf 2 check.ps check.r) κs) (said : check-reads.Learnt κs a r e)
-    (items : a .0 ≡ schools b + slots b) (lent : a .1 .0 .now ≡ packagesOf b) where
-  -- THEOREM
-  pub unfit-is-one-or-two : (unfit b ≡ true) ↔ ((soundnessReply r ≡ refused 1) ⊎ (soundnessReply r ≡ refused 2))
+    (items : a .0 ≡ schools b + slots b) where
+  -- THEOREM: lent words whose sets are the file's packages
+  pub unfit-is-one-or-two : setsOf (a .1 .0 .now) ≡ packagesOf b → (unfit b ≡ true) ↔ ((soundnessReply r ≡ refused 1) ⊎ (soundnessReply r ≡ refused 2))
   unfolding unfit checkRefusal
-  unfit-is-one-or-two = one-or-two (oversize (schools b + slots b) (problemOf (packagesOf b))) (stray (schools b + slots b) (problemOf (packagesOf b)))
-      (unsound (problemOf (packagesOf b)) (a .1 .1 .0 .now)) (soundnessReply r)
+  unfit-is-one-or-two lent = one-or-two (oversize (schools b + slots b) (problemIn b)) (stray (schools b + slots b) (problemIn b))
+      (unsound (problemIn b) (a .1 .1 .0 .now)) (soundnessReply r)
       (rw (items, lent) at (check-ensures κs a r e said .result))
 
-  -- THEOREM
-  pub accepted-is-neither : refusal b ≡ 0 → (soundnessReply r ≡ refused 1) ⊎ (soundnessReply r ≡ refused 2) → ⊥
-  accepted-is-neither z y = never (unfit-is-one-or-two .1 y) (fit b (accepted-listed b z) (accepted-sized b z refl refl refl))
+  -- THEOREM: lent the words that the reader writes
+  pub accepted-is-neither : refusal b ≡ 0 → a .1 .0 .now ≡ spread 3 (packagesOf b) → (soundnessReply r ≡ refused 1) ⊎ (soundnessReply r ≡ refused 2) → ⊥
+  accepted-is-neither z lent y =
+      never (unfit-is-one-or-two (ap setsOf lent ∙ packed-sets b z) .1 y) (fit b (accepted-listed b z) (accepted-sized b z refl refl refl))

@@ -5,6 +5,7 @@ use mathlib.Core.List.{List, [], _∷_, _++_, map}
 use Prim.Native.Nat.{ℕ}
 use lib.ListN.{take}
 use Rattle.itemset.specs.Items.{belowb}
+use Rattle.itemset.specs.Words.{width, wordsIn, spread}
 use Rattle.statement.specs.Refusals.{firstOf}
 use Rattle.statement.specs.Refusals as engine
 use Rattle.bids.specs.Bytes.{word16At, word32At, word64At, fnvFrom, fnv}
@@ -61,7 +62,7 @@ files =
     []
 
 refusals : map refusal files ≡ (0 ∷ 20 ∷ 21 ∷ 22 ∷ 24 ∷ 20 ∷ 20 ∷ 23 ∷ 25 ∷ 26 ∷ 26 ∷ 27 ∷ 0 ∷ 0 ∷ 0 ∷ [])
-unfolding belowb firstOf engine.oversize engine.strayIn engine.stray word16At word32At word64At fnvFrom fnv first some listed
+unfolding width belowb firstOf engine.oversize engine.strayIn engine.stray word16At word32At word64At fnvFrom fnv first some listed
     markb sameSchool samePackage schoolIn packageIn schoolOf slotsOf costOf itemsOf packagesOf costsOf
     cut unmarked otherVersion oversize wrongLength wrongCheck schoolTwice strayb stray packageTwice unfit refusal
 refusals = refl
@@ -69,3 +70,8 @@ refusals = refl
 example-read : (packagesOf example ≡ (5 ∷ 9 ∷ 10 ∷ 6 ∷ 13 ∷ 2 ∷ [])) × (costsOf example ≡ (3 ∷ 1 ∷ 2 ∷ 5 ∷ 2 ∷ 9 ∷ []))
 unfolding word16At word32At word64At first listed sameSchool schoolIn schoolOf slotsOf costOf itemsOf packagesOf costsOf
 example-read = (refl, refl)
+
+-- three words a package, lowest first
+example-words : spread 3 (take 2 (packagesOf example)) ≡ (5 ∷ 0 ∷ 0 ∷ 9 ∷ 0 ∷ 0 ∷ [])
+unfolding word16At word32At word64At first listed sameSchool schoolIn schoolOf slotsOf itemsOf packagesOf wordsIn spread
+example-words = refl

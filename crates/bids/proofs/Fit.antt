@@ -13,7 +13,9 @@ use lib.Pow.{pow-pos, pow-add, pow-lt, pow-mono}
 use lib.ListN.{length, getD, List·getD-append}
 use lib.Seq.{getD-at}
 use Rattle.itemset.specs.Items.{belowb}
+use Rattle.itemset.specs.Words.{width}
 use Rattle.itemset.proofs.Laws.{below-lt}
+use Rattle.itemset.proofs.Lists.{width-is}
 use Rattle.statement.specs.Refusals as engine
 use Rattle.bids.specs.Ranges.{listed}
 use Rattle.bids.specs.Format.{schools, slots, packages, strayb, stray, schoolOf, slotsOf, itemsOf, unfit, refusal, packagesOf}
@@ -63,7 +65,7 @@ module _ (b : List ℕ) (listed-all : stray b (schools b) (slots b) (packages b)
   unfolding itemsOf
   some-item k q = omega (arith, pow-pos (schoolOf b (schools b) k))
 
-  package-fits : (k : ℕ) → k < length (packagesOf b) → (0 < getD (packagesOf b) k 0) × (getD (packagesOf b) k 0 < 2 ^ (schools b + slots b))
+  pub package-fits : (k : ℕ) → k < length (packagesOf b) → (0 < getD (packagesOf b) k 0) × (getD (packagesOf b) k 0 < 2 ^ (schools b + slots b))
   unfolding packagesOf
   package-fits k q =
       let q′ : k < packages b = omega (arith, length-listed (itemsOf b (schools b)) (packages b)) in
@@ -75,7 +77,7 @@ module _ (b : List ℕ) (listed-all : stray b (schools b) (slots b) (packages b)
   fit p =
       let l = length-listed (itemsOf b (schools b)) (packages b) in
       rw (
-        le-ltb 64 (schools b + slots b) (omega (arith, p .items, p .counts .0, p .counts .1 .0)),
+        le-ltb width (schools b + slots b) (omega (arith, width-is, p .items, p .counts .0, p .counts .1 .0)),
         le-ltb 512 (length (packagesOf b)) (omega (arith, p .few, p .counts .1 .1)),
         all-fit (schools b + slots b) (packagesOf b) package-fits,
       )

@@ -1,5 +1,5 @@
 -- The laws of the definitions that the loops go by. Assumes nothing.
-use mathlib.Core.Path.{_≡_, refl, ap, _∙_}
+use mathlib.Core.Path.{_≡_, refl, sym, ap, _∙_}
 use mathlib.Core.Bool.{Bool, true, false}
 use mathlib.Core.List.{List, [], _∷_, _++_}
 use Prim.Native.Nat.{ℕ, zero, suc, _+_, _*_, _%_, _^_, _<_, _≤_}
@@ -13,6 +13,8 @@ use lib.ListN.{length, getD, take, drop, set, length-append}
 use lib.Seq.{take-suc, sets, sets-eq, length-sets}
 use native.Mathlib.Nat.{add-zero, zero-add}
 use Rattle.base.proofs.Bools.{by-test}
+use Rattle.itemset.specs.Words.{spread}
+use Rattle.itemset.proofs.Stored.{length-spread, spread-more, words-one}
 use Rattle.bids.specs.Bytes.{fnvFrom, fnv}
 use Rattle.bids.specs.Ranges.{first, some, listed}
 
@@ -119,9 +121,9 @@ module _ (g : ℕ → ℕ) {at place r i : ℕ} (e : at ≡ place) (f : r ≡ g 
 unfoldable pub over : List ℕ → List ℕ → List ℕ
 over vs l = sets l 0 vs
 
-sets-more : (vs l : List ℕ) (i v : ℕ) → sets l i (vs ++ (v ∷ [])) ≡ set (sets l i vs) (i + length vs) v
-sets-more [] l i v = rw add-zero
-sets-more (w ∷ vs) l i v = sets-more vs (set l i w) (suc i) v ∙ ap (λ (k : ℕ). set (sets (set l i w) (suc i) vs) k v) (omega arith)
+sets-more : (vs ws l : List ℕ) (i : ℕ) → sets l i (vs ++ ws) ≡ sets (sets l i vs) (i + length vs) ws
+sets-more [] ws l i = rw add-zero
+sets-more (v ∷ vs) ws l i = sets-more vs ws (set l i v) (suc i) ∙ ap (λ (k : ℕ). sets (sets (set l i v) (suc i) vs) k ws) (omega arith)
 
 pub over-long : (vs l : List ℕ) {m : List ℕ} → m ≡ over vs l → length m ≡ length l
 unfolding over
@@ -130,6 +132,11 @@ over-long vs l e = ap length e ∙ length-sets l 0 vs
 pub over-room : (vs l : List ℕ) → length vs ≤ length l → over vs l ≡ vs ++ drop (length vs) l
 unfolding over
 over-room vs l p = sets-eq vs l 0 (omega arith) ∙ rw zero-add
+
+-- ws stored behind the n of vs
+over-behind : (vs ws l : List ℕ) (n : ℕ) → length vs ≡ n → sets (over vs l) n ws ≡ over (vs ++ ws) l
+unfolding over
+over-behind vs ws l n e = sym (sets-more vs ws l 0 ∙ ap (λ (k : ℕ). sets (sets l 0 vs) k ws) (omega arith))
 
 module _ (f : ℕ → ℕ) where
   pub length-listed : (n : ℕ) → length (listed f n) ≡ n
@@ -143,6 +150,21 @@ module _ (f : ℕ → ℕ) where
 
   -- one store more
   pub over-more : (l : List ℕ) (n v : ℕ) → v ≡ f n → set (over (listed f n) l) n v ≡ over (listed f (n + 1)) l
-  unfolding over listed
-  over-more l n v e =
-      rw (add-one, e, sets-more (listed f n) l 0 (f n)) (ap (λ (k : ℕ). set (sets l 0 (listed f n)) k (f n)) (omega (arith, length-listed n)))
+  unfolding listed
+  over-more l n v e = rw (add-one, e) (over-behind (listed f n) (f n ∷ []) l n (length-listed n))
+
+  -- ---- the same of sets, three words each
+
+  pub length-packed : (n : ℕ) → length (spread 3 (listed f n)) ≡ 3 * n
+  length-packed n = rw (length-spread, length-listed n)
+
+  pub packed-zero : (l : List ℕ) → l ≡ over (spread 3 (listed f 0)) l
+  unfolding over listed spread
+  packed-zero l = refl
+
+  -- one set more, which has one word: m before it is written, m′ after
+  pub packed-more : (l : List ℕ) (n : ℕ) {v : ℕ} {m m′ : List ℕ} → v ≡ f n → f n < 2 ^ 64
+      → m ≡ over (spread 3 (listed f n)) l → m′ ≡ sets m (3 * n) (v ∷ 0 ∷ 0 ∷ []) → m′ ≡ over (spread 3 (listed f (n + 1))) l
+  unfolding listed
+  packed-more l n e h p q =
+      q ∙ rw (p, add-one, e, spread-more, words-one) (over-behind (spread 3 (listed f n)) (f n ∷ 0 ∷ 0 ∷ []) l (3 * n) (length-packed n))

@@ -5,6 +5,7 @@ use mathlib.Core.List.{List, [], _∷_}
 use Prim.Native.Nat.{ℕ, _+_, _*_, _^_, _<_, _≤_}
 use lib.Dec.{eqb, ltb}
 use lib.ListN.{length}
+use Rattle.itemset.specs.Words.{spread}
 use Rattle.statement.specs.Refusals.{firstOf}
 use Rattle.statement.specs.Replies.{Reply, refused, gives, reply}
 use Rattle.statement.specs.Postconditions.{written}
@@ -72,17 +73,18 @@ abbrev pub readReply : Reading → Reply (ℕ × (ℕ × ℕ))
 readReply (Accepted s t n) = gives (s, (t, n))
 readReply (Refused n) = refused n
 
--- its refusal of the file b with buffers of p and c places: the file's own, and last 15 [document 01: short page] where a buffer has fewer than N
+-- its refusal of the file b with p words for the packages, three each, and c places for the costs: the file's own, and last 15 [document 01: short page]
+-- where there is no room for N packages or for N costs
 unfoldable pub readRefusal : List ℕ → ℕ → ℕ → ℕ
 readRefusal b p c =
     firstOf (
     (not (eqb (refusal b) 0), refusal b) ∷
-    (ltb p (F.packages b) || ltb c (F.packages b), 15) ∷
+    (ltb p (3 * F.packages b) || ltb c (F.packages b), 15) ∷
     [])
 
--- its answer r to the file b; p and c are the buffers before, p′ and c′ after: the item sets and the costs stand at their start and the rest is
--- unchanged, as all is after a refusal
+-- its answer r to the file b; p and c are the buffers before, p′ and c′ after: the words of the item sets and the costs stand at their start and the
+-- rest is unchanged, as all is after a refusal. The sets of these words are the item sets again (proofs/Packed)
 pub record ReadPost (b : List ℕ) (r : Reading) (p p′ c c′ : List ℕ) : Type 0 where
   pub answer : readReply r ≡ reply (readRefusal b (length p) (length c)) (F.schools b, (F.slots b, F.packages b))
-  pub items : p′ ≡ written (readRefusal b (length p) (length c)) (packagesOf b) p
+  pub items : p′ ≡ written (readRefusal b (length p) (length c)) (spread 3 (packagesOf b)) p
   pub costs : c′ ≡ written (readRefusal b (length p) (length c)) (costsOf b) c

@@ -1,6 +1,6 @@
 -- The bids file (document 01): PSB in ASCII, version (16 bits, 1), S schools (8 bits), T slots (8 bits), N (16 bits); S records of site and number
 -- (8 bits each); N records of site, number, slot set (64 bits), cost (16 bits); a 32-bit check. b is the list of the file's bytes. Assumes nothing.
-use Rattle.exact_cover.specs.Problem.{problemOf}
+use Rattle.exact_cover.specs.Problem.{Problem}
 use mathlib.Core.Bool.{Bool, not, _&&_, _||_}
 use mathlib.Core.List.{List, [], _∷_, _++_}
 use Prim.Native.Nat.{ℕ, _+_, _-_, _*_, _^_}
@@ -78,6 +78,10 @@ packagesOf b = listed (itemsOf b (schools b)) (packages b)
 unfoldable pub costsOf : List ℕ → List ℕ
 costsOf b = listed (costOf b (schools b)) (packages b)
 
+-- the problem that the file states: its packages' item sets
+abbrev pub problemIn : List ℕ → Problem
+problemIn b = record { packages = packagesOf b }
+
 -- ---- refusals
 
 -- 20 cut: under 13 bytes
@@ -121,7 +125,7 @@ packageTwice b s n = some (λ k. ltb (packageIn b s k (packageAt s k)) k) n
 
 -- 28 unfit: the engine says 1 or 2, with M = S + T. These are its own two tests; proofs/Engine: `engine::check` says 1 or 2 exactly where they hold
 unfoldable pub unfit : List ℕ → Bool
-unfit b = engine.oversize (schools b + slots b) (problemOf (packagesOf b)) || engine.stray (schools b + slots b) (problemOf (packagesOf b))
+unfit b = engine.oversize (schools b + slots b) (problemIn b) || engine.stray (schools b + slots b) (problemIn b)
 
 -- the tests of the header
 abbrev pub headerTests : List ℕ → List (Bool × ℕ)

@@ -5,6 +5,7 @@ ghost use mathlib.Core.Bool.{_&&_};
 ghost use Prim.Native.Nat.{_+_, _*_, _%_, _^_, _<_, _≤_};
 ghost use lib.Dec.{eqb};
 ghost use lib.ListN.{length, take};
+ghost use Rattle.itemset.specs.Words.{spread};
 ghost use Rattle.statement.specs.Refusals.{firstOf};
 ghost use Rattle.statement.specs.Postconditions.{written};
 ghost use Rattle.bids.specs.Bytes.{byteAt, word16At, word32At, word64At, fnv};
@@ -12,6 +13,7 @@ ghost use Rattle.bids.specs.Ranges.{listed};
 ghost use Rattle.bids.specs.Format.{headerTests, recordTests, schoolIn, packageIn, schoolTwice, packageTwice, itemsOf, costOf};
 ghost use Rattle.bids.specs.Format as F;
 ghost use Rattle.bids.specs.Contract.{FieldPost, SchoolPost, PackagePost, HeaderPost, Sized, Fillable, ReadPost};
+use itemset::Items;
 
 // The reader's place in the file.
 pub struct Cursor {
@@ -318,7 +320,7 @@ fn stray(file: &[u8], s: usize, t: u32, n: usize) -> bool
             return true;
         }
         let record = c.package_record(file);
-        if !itemset::below(record.slots, t) {
+        if !itemset::below_word(record.slots, t) {
             return true;
         }
         c = record.next;
@@ -413,7 +415,7 @@ fn refusal(file: &[u8]) -> u8
     )
 }
 
-// The items of a package of school j among s, with its slots above them.
+// The items of a package of school j among s, with its slots above them: one word, since S + T is at most 64.
 fn items_of(j: usize, slots: u64, s: usize) -> u64
     requires { ⌜ (j < s) × (s ≤ 64) ⌝ }
     requires { ⌜ 2 ^ j + slots * 2 ^ s < 2 ^ 64 ⌝ }
@@ -426,11 +428,11 @@ fn items_of(j: usize, slots: u64, s: usize) -> u64
     school + (slots << s)
 }
 
-// Writes the n packages' items and costs to the start of the buffers.
+// Writes the n packages' items, three words a package, and their costs to the start of the buffers.
 fn fill(file: &[u8], s: usize, n: usize, packages: &mut [u64], costs: &mut [u16])
     requires { ⌜ Fillable (now file) s n ⌝ }
-    requires { ⌜ (n ≤ length (now packages)) × (n ≤ length (now costs)) ⌝ }
-    ensures { λ _. ⌜ now (packages .exit) ≡ written 0 (listed (itemsOf (now (file .entry)) s) n) (now (packages .entry)) ⌝ }
+    requires { ⌜ (3 * n ≤ length (now packages)) × (n ≤ length (now costs)) ⌝ }
+    ensures { λ _. ⌜ now (packages .exit) ≡ written 0 (spread 3 (listed (itemsOf (now (file .entry)) s) n)) (now (packages .entry)) ⌝ }
     ensures { λ _. ⌜ now (costs .exit) ≡ written 0 (listed (costOf (now (file .entry)) s) n) (now (costs .entry)) ⌝ }
 {
     let mut c = Cursor { at: 9 + 2 * s };
@@ -438,15 +440,23 @@ fn fill(file: &[u8], s: usize, n: usize, packages: &mut [u64], costs: &mut [u16]
     while k < n {
         let j = school_index(file, s, c);
         let record = c.package_record(file);
-        packages[k] = items_of(j, record.slots, s);
+        itemset::write(
+            packages,
+            3 * k,
+            Items {
+                w0: items_of(j, record.slots, s),
+                w1: 0,
+                w2: 0,
+            },
+        );
         costs[k] = record.cost as u16;
         c = record.next;
         k += 1;
     }
 }
 
-// Reads a file. Of an accepted one the packages' item sets and costs stand at the start of the buffers. A refusal changes nothing; a buffer with fewer
-// than N places is refused as a short page is, after all that the file itself is refused for.
+// Reads a file. Of an accepted one the packages' item sets, three words a package, and costs stand at the start of the buffers. A refusal changes
+// nothing; a buffer without room for N is refused as a short page is, after all that the file itself is refused for.
 pub fn read(file: &[u8], packages: &mut [u64], costs: &mut [u16]) -> Reading
     ensures { λ r. ⌜ ReadPost (now (file .entry)) r (now (packages .entry)) (now (packages .exit)) (now (costs .entry)) (now (costs .exit)) ⌝ }
 {
@@ -458,7 +468,7 @@ pub fn read(file: &[u8], packages: &mut [u64], costs: &mut [u16]) -> Reading
     let s = h.schools as u32;
     let t = h.slots as u32;
     let n = h.packages as usize;
-    if packages.len() < n {
+    if packages.len() < 3 * n {
         return Reading::Refused(15);
     }
     if costs.len() < n {

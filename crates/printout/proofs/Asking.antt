@@ -10,7 +10,9 @@ use lib.ListN.{length, take, drop}
 use lib.Seq.{take-at}
 use Rattle.base.proofs.Bools.{and-left, and-right}
 use Rattle.itemset.specs.Items.{insideb, without, size}
+use Rattle.itemset.specs.Words.{width}
 use Rattle.itemset.proofs.Laws.{falls, size-le, without-lt}
+use Rattle.itemset.proofs.Lists.{width-is}
 use Rattle.zdd.specs.Table.{Family, nodesOf, sets, elem}
 use Rattle.zdd.proofs.Grow.{family-zero}
 use Rattle.zdd.proofs.Tested.{sound-of}
@@ -29,8 +31,7 @@ use Rattle.statement.specs.declared.Report.{Report}
 use Rattle.statement.specs.Examples.{allItems}
 use Rattle.statement.specs.Replies.{Reply, gives, refused, reply, outcomeReply, pickReply, placeReply, cheapestReply}
 use Rattle.exact_cover.specs.Problem.{Problem, row, Rows}
-use Rattle.statement.specs.declared.Call.the-variants.{Cover}
-use Rattle.statement.specs.Calls.{callRefusal}
+use Rattle.statement.specs.Calls.{coverRefusal}
 use Rattle.statement.specs.Refusals.{Fit, firstOf, unsound, uncountable, countRefusal, cheapestRefusal}
 use Rattle.statement.proofs.Admission.{fit-of, fit-passes, table-passes}
 use Rattle.statement.specs.Postconditions.{Makes, Answered, PickPost, PlacePost, CheapestPost, written}
@@ -45,21 +46,27 @@ use Rattle.printout.specs.Program.{Askable, Listable}
 
 -- ---- a timetable has at most as many packages as there are items
 
-covers-short : (Q : Problem) → ((p : ℕ) → p < length (Q .packages) → 0 < row Q p) → (m D : ℕ) (t : List ℕ) → D < 2 ^ 64 → Ascends Q (length (Q .packages)) m t → covers Q D t ≡ true → length t ≤ size D
+covers-short : (Q : Problem) → ((p : ℕ) → p < length (Q .packages) → 0 < row Q p) → (m D : ℕ) (t : List ℕ) → D < 2 ^ width
+    → Ascends Q (length (Q .packages)) m t → covers Q D t ≡ true → length t ≤ size D
 covers-short Q some m D [] w a c = omega arith
 covers-short Q some m D (p ∷ t) w a c =
     let e : insideb (row Q p) D && covers Q (without D (row Q p)) t ≡ true = sym (covers-cons Q D p t w) ∙ c in
     let i : insideb (row Q p) D ≡ true = and-left (insideb (row Q p) D) (covers Q (without D (row Q p)) t) e in
-    let r = covers-short Q some (suc (rank Q p)) (without D (row Q p)) t (without-lt 64 (row Q p) w) (a .2) (and-right (insideb (row Q p) D) (covers Q (without D (row Q p)) t) e) in
+    let r = covers-short Q some (suc (rank Q p)) (without D (row Q p)) t (without-lt width (row Q p) w) (a .2) (and-right (insideb (row Q p) D) (covers Q (without D (row Q p)) t) e) in
     omega (arith, r, falls D (row Q p) (some p (a .0)) i)
 
-pub covering-short : (Q : Problem) → Rows Q → (D : ℕ) → D < 2 ^ 64 → (s : List ℕ) → elem s (covering Q D) ≡ true → length s ≤ 64
+covering-short : (Q : Problem) → Rows Q → (D : ℕ) → D < 2 ^ 64 → (s : List ℕ) → elem s (covering Q D) ≡ true → length s ≤ 64
 unfolding covering
 covering-short Q R D w s e =
     let f : covers Q D s && elem s (sets (keysOf Q)) ≡ true = sym (elem-filter (covers Q D) s (sets (keysOf Q))) ∙ e in
     let a : Ascends Q (length (Q .packages)) 0 s = sets-member Q s (R .few) .0 (elem-in s (sets (keysOf Q)) (and-right (covers Q D s) (elem s (sets (keysOf Q))) f)) in
-    let l = covers-short Q (λ p l. open-pos Q (row Q p) (R .some p l)) 0 D s w a (and-left (covers Q D s) (elem s (sets (keysOf Q))) f) in
+    let v : D < 2 ^ width = lt-of-lt-of-le w (pow-mono {i = 64} (omega (arith, width-is))) in
+    let l = covers-short Q (λ p l. open-pos Q (row Q p) (R .some p l)) 0 D s v a (and-left (covers Q D s) (elem s (sets (keysOf Q))) f) in
     omega (arith, l, size-le 64 D w)
+
+-- of all items, where there are at most 64: a page of 64 holds it
+pub all-short : (Q : Problem) (m : ℕ) → Fit Q m → m ≤ 64 → (s : List ℕ) → elem s (covering Q (allItems m)) ≡ true → length s ≤ 64
+all-short Q m f h = covering-short Q (rows f) (allItems m) (lt-of-lt-of-le (omega (arith, pow-pos m)) (pow-mono h))
 
 -- ---- replies
 
@@ -148,22 +155,20 @@ cover-answered zero a M e = (refl, M .answered refl)
 cover-answered (suc n) a M e = no-refusal (sym (M .declined (omega arith) .outcome) ∙ e)
 
 pub askable : (Q : Problem) (m limit words : ℕ) {b : List ℕ} {st : ℕ} {r : Report} {t : List ℕ} (a : ℕ) → length b ≡ 5401 → words ≡ 3604 → m ≤ 64
-    → callRefusal Q m b (Cover (allItems m) limit) words ≡ 0 → Answered (keysOf Q) (covering Q (allItems m)) st b r t → outcomeReply (r .outcome) ≡ gives a
+    → coverRefusal Q m b (allItems m) limit words ≡ 0 → Answered (keysOf Q) (covering Q (allItems m)) st b r t → outcomeReply (r .outcome) ≡ gives a
     → Askable Q m t a words × (familyAt t a ≡ covering Q (allItems m))
-unfolding callRefusal unsound
+unfolding unsound
 askable Q m limit words {t = t} a l v h z A o =
     let f0 : Fit Q m = fit-of _ z .0 in
-    let R : Rows Q = rows f0 in
     let n : A .number ≡ a = gives-same (sym (A .outcome) ∙ o) in
     let c = within-capacity (sound-of (keysOf Q) t (A .sound)) in
-    let d : allItems m < 2 ^ 64 = lt-of-lt-of-le (omega (arith, pow-pos m)) (pow-mono h) in
     let f : familyAt t a ≡ covering Q (allItems m) = ap (familyAt t) (sym n) ∙ A .holds in (
       record {
         fit = f0;
         sound = ap not (A .sound);
         known = answer-known t a (omega (arith, n, A .known));
         room = omega (arith, n, A .known, c, A .long, l, v);
-        short = subst⁻¹ (λ (G : Family). (s : List ℕ) → elem s G ≡ true → length s ≤ 64) f (covering-short Q R (allItems m) d);
+        short = subst⁻¹ (λ (G : Family). (s : List ℕ) → elem s G ≡ true → length s ≤ 64) f (all-short Q m f0 h);
       },
       f,
     )

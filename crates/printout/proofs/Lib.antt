@@ -3,3 +3,4 @@ pub mod Asking
 pub mod Sheets
 pub mod Room
 pub mod Prefix
+pub mod Places

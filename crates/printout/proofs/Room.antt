@@ -3,10 +3,8 @@ use mathlib.Core.Path.{_≡_, refl}
 use mathlib.Core.Bool.{Bool, true, false}
 use mathlib.Core.List.{List, [], _∷_, _++_}
 use Prim.Native.Nat.{ℕ, zero, suc, _+_, _*_, _/_, _%_, _≤_, min}
-use native.Mathlib.Nat.{lt-of-lt-of-le}
 use native.Mathlib.Omega.{arith}
 use lib.Dec.{ltb, eqb}
-use lib.Pow.{pow-pos, pow-mono}
 use lib.ListN.{length, length-append}
 use Rattle.zdd.specs.Table.{Family, elem, nodesOf}
 use Rattle.zdd.specs.Branches.{missing}
@@ -15,18 +13,17 @@ use Rattle.exact_cover.specs.Cover.{covering}
 use Rattle.exact_cover.specs.Steps.{steps}
 use Rattle.query.specs.Questions.{nth, position, cheapest, cost}
 use Rattle.statement.specs.Examples.{allItems}
-use Rattle.exact_cover.specs.Problem.{Problem, problemOf}
-use Rattle.statement.specs.declared.Call.the-variants.{Cover}
-use Rattle.statement.specs.Calls.{callRefusal}
-use Rattle.statement.specs.Refusals.{Fit, firstOf, uncountable}
-use Rattle.statement.proofs.Admission.{fit-of, sized-items}
-use Rattle.guard.proofs.GuardLaws.{rows}
-use Rattle.bids.specs.Format.{schools, slots, packagesOf, costsOf, refusal}
+use Rattle.exact_cover.specs.Problem.{Problem}
+use Rattle.statement.specs.Calls.{coverRefusal}
+use Rattle.statement.specs.Refusals.{firstOf, uncountable}
+use Rattle.statement.proofs.Admission.{fit-of}
+use Rattle.bids.specs.Format.{schools, slots, costsOf, problemIn, refusal}
+use Rattle.bids.proofs.Refused.{accepted-sized}
 use Rattle.printout.specs.Text.{decimalIn, decimal, field, head, packagesText, timetableLine, cheapestLine, noneLine, refusedLine, slotsWord}
 use Rattle.printout.specs.Text.{schoolsWord, packagesWord, nodesWord, stepsWord, timetablesWord, costWord, cheapestWord, refusedWord, newline}
 use Rattle.printout.specs.Written.{Holds, Whole}
 use Rattle.printout.specs.Program.{unless, timetableLines, lastLine, sheet, answerText, blank, solved, printed}
-use Rattle.printout.proofs.Asking.{covering-short}
+use Rattle.printout.proofs.Asking.{all-short}
 
 digits-short : (d x : ℕ) → length (decimalIn d x) ≤ d
 unfolding decimalIn
@@ -104,25 +101,19 @@ sheet-short s t n C F made st f =
     let b = both (head s t n made st (length F)) (timetableLines C F (min (length F) 10) ++ lastLine C F) (head-short s t n made st (length F)) a in
     omega (arith, b)
 
-members-short : (Q : Problem) (m : ℕ) (b : List ℕ) (limit words : ℕ) → callRefusal Q m b (Cover (allItems m) limit) words ≡ 0
-    → (u : List ℕ) → elem u (covering Q (allItems m)) ≡ true → length u ≤ 64
-unfolding callRefusal
-members-short Q m b limit words z =
-    let f : Fit Q m = fit-of _ z .0 in
-    let h : m ≤ 64 = sized-items m Q (f .sized) in
-    covering-short Q (rows f) (allItems m) (lt-of-lt-of-le (omega (arith, pow-pos m)) (pow-mono h))
-
-solved-short : (s t : ℕ) (Q : Problem) (C : List ℕ) → length (solved s t Q C) ≤ 16384
+solved-short : (s t : ℕ) (Q : Problem) (C : List ℕ) → s + t ≤ 64 → length (solved s t Q C) ≤ 16384
 unfolding solved answerText
-solved-short s t Q C = unless-short (callRefusal Q (s + t) blank (Cover (allItems (s + t)) 1000000) 3604) _ (λ z.
+solved-short s t Q C h = unless-short (coverRefusal Q (s + t) blank (allItems (s + t)) 1000000 3604) _ (λ z.
     unless-short (firstOf ((uncountable (covering Q (allItems (s + t))), 11) ∷ [])) _ (λ _.
-    sheet-short s t (length (Q .packages)) C (covering Q (allItems (s + t))) (missing (nodesOf blank) (covering Q (allItems (s + t)))) (steps Q 1802 (allItems (s + t)))
-    (members-short Q (s + t) blank 1000000 3604 z)))
+    sheet-short s t (length (Q .packages)) C (covering Q (allItems (s + t))) (missing (nodesOf blank) (covering Q (allItems (s + t)))) (steps Q 901 (allItems (s + t)))
+    (all-short Q (s + t) (fit-of _ z .0) h)))
 
 -- THEOREM
 pub text-fits : (b : List ℕ) → length (printed b) ≤ 16384
 unfolding printed
-text-fits b = unless-short (refusal b) (solved (schools b) (slots b) (problemOf (packagesOf b)) (costsOf b)) (λ z. solved-short (schools b) (slots b) (problemOf (packagesOf b)) (costsOf b))
+text-fits b =
+    unless-short (refusal b) (solved (schools b) (slots b) (problemIn b) (costsOf b)) (λ z.
+    solved-short (schools b) (slots b) (problemIn b) (costsOf b) (accepted-sized b z refl refl refl .items))
 
 -- so such a buffer holds just the text
 pub whole : (b : List ℕ) {out : List ℕ} {r : ℕ} → length out ≡ 16384 → Holds out r (printed b) → Whole 16384 out r (printed b)

@@ -2,17 +2,18 @@
 use mathlib.Core.Path.{_≡_, refl, sym, ap, _∙_, subst}
 use mathlib.Core.List.{List, [], _∷_, _++_}
 use mathlib.Core.Logic.{⊎-elim}
-use Prim.Native.Nat.{ℕ, zero, suc, _+_, _≤_, _<_, min}
-use native.Mathlib.Nat.{eq-zero-or-pos}
+use Prim.Native.Nat.{ℕ, zero, suc, _+_, _-_, _*_, _^_, _≤_, _<_, min}
+use native.Mathlib.Nat.{eq-zero-or-pos, min-eq-left}
 use native.Mathlib.Numerals.{add-one}
 use native.Mathlib.Omega.{arith}
 use borrow.Author.Tests.{eq-eqb, ne-eqb, ltb-false}
 use lib.ListN.{length, take, replicate, length-replicate}
+use Rattle.itemset.specs.Words.{width, spread}
+use Rattle.itemset.proofs.Lists.{width-is}
 use Rattle.zdd.specs.Table.{Family}
 use Rattle.query.specs.Questions.{familyAt, nth, position, cheapest}
 use Rattle.exact_cover.specs.Problem.{Problem, problemOf}
-use Rattle.statement.specs.declared.Call.the-variants.{Cover}
-use Rattle.statement.specs.Calls.{callRefusal}
+use Rattle.statement.specs.Calls.{coverRefusal}
 use Rattle.statement.specs.Refusals.{firstOf, uncountable}
 use Rattle.statement.specs.Postconditions.{CoverPost}
 use Rattle.statement.specs.Examples.{allItems}
@@ -21,13 +22,14 @@ use Rattle.statement.specs.declared.Report.{Report}
 use Rattle.statement.proofs.FirstOf.{passed}
 use Rattle.statement.proofs.Made.{made-missing}
 use Rattle.statement.proofs.TestLaws.{was-given, was-refused}
-use Rattle.bids.specs.Format.{schools, slots, packages, refusal, packagesOf, costsOf, itemsOf, costOf}
+use Rattle.bids.specs.Format.{schools, slots, packages, refusal, packagesOf, costsOf, problemIn, itemsOf, costOf}
 use Rattle.bids.specs.Contract.{readRefusal, ReadPost, readReply}
 use Rattle.bids.specs.declared.Reading.{Reading}
 use Rattle.bids.specs.declared.Reading.the-variants.{Accepted, Refused}
 use Rattle.bids.proofs.Answers.{by-file, accepted}
 use Rattle.bids.proofs.Refused.{accepted-sized}
 use Rattle.bids.proofs.Laws.{length-listed}
+use Rattle.bids.proofs.Packed.{packed-long, packed-problem}
 use Rattle.printout.specs.Text.{head, timetableLine, cheapestLine, noneLine, refusedLine}
 use Rattle.printout.specs.Written.{Holds, Puts}
 use Rattle.printout.specs.Program.{unless, timetableLines, lastLine, sheet, answerText, blank, solved, printed, Askable}
@@ -66,10 +68,10 @@ module _ (C : List ℕ) (F : Family) where
   lines-more k = sym (ap (timetableLines C F) (add-one k))
 
   -- the lines of an answer that holds count timetables
-  pub sheet-parts : (s t n made steps count : ℕ) → count ≡ length F
-      → head s t n made steps count ++ (timetableLines C F (min count 10) ++ lastLine C F) ≡ sheet s t n C F made steps
+  pub sheet-parts : (s t n made steps : ℕ) {k count : ℕ} → k ≡ n → count ≡ length F
+      → head s t k made steps count ++ (timetableLines C F (min count 10) ++ lastLine C F) ≡ sheet s t n C F made steps
   unfolding sheet
-  sheet-parts s t n made steps count e = rw e
+  sheet-parts s t n made steps d e = rw (d, e)
 
   pub last-none : 0 ≡ length F → noneLine ≡ lastLine C F
   unfolding lastLine
@@ -85,6 +87,10 @@ pub is-blank : replicate 5401 0 ≡ blank
 unfolding blank
 is-blank = refl
 
+-- what it is asked to cover
+pub all-items : (m : ℕ) {d : ℕ} → m ≤ 64 → d ≡ 2 ^ min m width - 1 → d ≡ allItems m
+all-items m h e = e ∙ ap (λ (k : ℕ). 2 ^ k - 1) (min-eq-left (omega (arith, width-is)))
+
 module _ (s t : ℕ) (Q : Problem) (C : List ℕ) {b : List ℕ} {w d : ℕ} {r : Report} {t′ : List ℕ}
     (eb : b ≡ blank) (ew : w ≡ 3604) (ed : d ≡ allItems (s + t)) (M : CoverPost Q (s + t) b d 1000000 w r t′) where
   M0 : CoverPost Q (s + t) blank (allItems (s + t)) 1000000 3604 r t′
@@ -92,53 +98,53 @@ module _ (s t : ℕ) (Q : Problem) (C : List ℕ) {b : List ℕ} {w d : ℕ} {r 
 
   pub cover-said : (x : ℕ) → outcomeReply (r .outcome) ≡ refused x → refusedLine x ≡ solved s t Q C
   unfolding solved
-  cover-said x o = let q = cover-refused (callRefusal Q (s + t) blank (Cover (allItems (s + t)) 1000000) 3604) x M0 o in said x _ (q .0) (q .1)
+  cover-said x o = let q = cover-refused (coverRefusal Q (s + t) blank (allItems (s + t)) 1000000 3604) x M0 o in said x _ (q .0) (q .1)
 
   pub cover-gave : (a : ℕ) → s + t ≤ 64 → outcomeReply (r .outcome) ≡ gives a
       → ((n : ℕ) → n ≡ 3604 → Askable Q (s + t) t′ a n) × (answerText s t (length (Q .packages)) C (familyAt t′ a) (r .made) (r .steps) ≡ solved s t Q C)
   unfolding solved blank
   cover-gave a small o =
-      let q = cover-answered (callRefusal Q (s + t) blank (Cover (allItems (s + t)) 1000000) 3604) a M0 o in
+      let q = cover-answered (coverRefusal Q (s + t) blank (allItems (s + t)) 1000000 3604) a M0 o in
       let g = askable Q (s + t) 1000000 3604 a (length-replicate {A = ℕ} 5401 0) refl small (q .0) (q .1) o in
       (λ n e. rw e (g .0), rw (g .1, made-missing (q .1), q .1 .steps) (unsaid _ (q .0)))
 
 -- ---- the file
 
--- buffers of 512 are never short
-read-refusal : (b : List ℕ) → readRefusal b 512 512 ≡ refusal b
+-- buffers for 512 packages are never short
+read-refusal : (b : List ℕ) → readRefusal b 1536 512 ≡ refusal b
 read-refusal b =
     ⊎-elim
-    (λ (z : refusal b ≡ 0). let p = accepted-sized b z refl refl refl in accepted b 512 512 z (p .few) (p .few) ∙ sym z)
-    (λ (l : 0 < refusal b). by-file b 512 512 refl (λ z. omega arith))
+    (λ (z : refusal b ≡ 0). let p = accepted-sized b z refl refl refl in accepted b 1536 512 z (omega (arith, p .few)) (p .few) ∙ sym z)
+    (λ (l : 0 < refusal b). by-file b 1536 512 refl (λ z. omega arith))
     (eq-zero-or-pos (refusal b))
 
 -- what an accepted file leaves
 pub record Read (b : List ℕ) (s t n : ℕ) (p c : List ℕ) : Type 0 where
   pub few : n ≤ 512
   pub small : s + t ≤ 64
-  pub items : take n p ≡ packagesOf b
+  pub problem : problemOf (take (3 * n) p) ≡ problemIn b
   pub costs : take n c ≡ costsOf b
   pub same-long : length (costsOf b) ≡ length (packagesOf b)
-  pub text : solved s t (problemOf (packagesOf b)) (costsOf b) ≡ printed b
+  pub text : solved s t (problemIn b) (costsOf b) ≡ printed b
 
 -- the buffers before
-abbrev zeros : List ℕ
-zeros = replicate 512 0
+abbrev zeros : ℕ → List ℕ
+zeros k = replicate k 0
 
-module _ {b : List ℕ} {r : Reading} {p c : List ℕ} (R : ReadPost b r zeros p zeros c) where
-  number : readRefusal b (length zeros) (length zeros) ≡ refusal b
-  number = let l : length zeros ≡ 512 = length-replicate {A = ℕ} 512 0 in rw l (read-refusal b)
+module _ {b : List ℕ} {r : Reading} {p c : List ℕ} (R : ReadPost b r (zeros 1536) p (zeros 512) c) where
+  number : readRefusal b (length (zeros 1536)) (length (zeros 512)) ≡ refusal b
+  number = rw (length-replicate {A = ℕ} 1536 0, length-replicate {A = ℕ} 512 0) (read-refusal b)
 
   pub read-said : {n : ℕ} → r ≡ Refused n → refusedLine n ≡ printed b
   unfolding printed
   read-said {n} e =
-      let q = was-refused n (readRefusal b (length zeros) (length zeros)) _ (sym (ap readReply e) ∙ R .answer) in
+      let q = was-refused n (readRefusal b (length (zeros 1536)) (length (zeros 512))) _ (sym (ap readReply e) ∙ R .answer) in
       said n _ (sym number ∙ q .0) (q .1)
 
   pub read-gave : {s t n : ℕ} → r ≡ Accepted s t n → Read b s t n p c
   unfolding printed packagesOf costsOf
   read-gave {s} {t} {n} e =
-      let q = was-given (s, (t, n)) (readRefusal b (length zeros) (length zeros)) (schools b, (slots b, packages b)) (sym (ap readReply e) ∙ R .answer) in
+      let q = was-given (s, (t, n)) (readRefusal b (length (zeros 1536)) (length (zeros 512))) (schools b, (slots b, packages b)) (sym (ap readReply e) ∙ R .answer) in
       let z : refusal b ≡ 0 = sym number ∙ q .0 in
       let es : s ≡ schools b = ap (λ (v : ℕ × (ℕ × ℕ)). v .0) (q .1) in
       let et : t ≡ slots b = ap (λ (v : ℕ × (ℕ × ℕ)). v .1 .0) (q .1) in
@@ -146,11 +152,12 @@ module _ {b : List ℕ} {r : Reading} {p c : List ℕ} (R : ReadPost b r zeros p
       let k = accepted-sized b z refl refl refl in
       let li = length-listed (itemsOf b (schools b)) (packages b) in
       let lk = length-listed (costOf b (schools b)) (packages b) in
+      let l3 : 3 * n ≡ length (spread 3 (packagesOf b)) = omega (arith, en, packed-long b) in
       record {
         few = omega (arith, en, k .few);
         small = omega (arith, es, et, k .items);
-        items = page-left (packagesOf b) zeros (en ∙ sym li) (q .0) (R .items);
-        costs = page-left (costsOf b) zeros (en ∙ sym lk) (q .0) (R .costs);
+        problem = ap problemOf (page-left (spread 3 (packagesOf b)) (zeros 1536) l3 (q .0) (R .items)) ∙ packed-problem b z;
+        costs = page-left (costsOf b) (zeros 512) (en ∙ sym lk) (q .0) (R .costs);
         same-long = lk ∙ sym li;
         text = rw (es, et) (unsaid _ z);
       }

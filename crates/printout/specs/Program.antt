@@ -1,5 +1,5 @@
 -- What the program prints (document 01, "Program"): it reads a bids file, with a table of 5401 words, 3604 working words, a page of 64 and B = 1000000,
--- and covers all items. Assumes nothing.
+-- and covers all items. 3604 working words are 901 places of cover's memo, four words each [document 02, No. 7]. Assumes nothing.
 use mathlib.Core.Path.{_≡_}
 use mathlib.Core.Bool.{true, false}
 use mathlib.Core.List.{List, [], _∷_, _++_}
@@ -12,11 +12,10 @@ use Rattle.exact_cover.specs.Cover.{covering}
 use Rattle.exact_cover.specs.Steps.{steps}
 use Rattle.query.specs.Questions.{familyAt, nth, position, cheapest}
 use Rattle.statement.specs.Examples.{allItems}
-use Rattle.exact_cover.specs.Problem.{Problem, problemOf}
-use Rattle.statement.specs.declared.Call.the-variants.{Cover}
-use Rattle.statement.specs.Calls.{callRefusal}
+use Rattle.exact_cover.specs.Problem.{Problem}
+use Rattle.statement.specs.Calls.{coverRefusal}
 use Rattle.statement.specs.Refusals.{Fit, firstOf, unsound, unknownAnswer, uncountable}
-use Rattle.bids.specs.Format.{schools, slots, packagesOf, costsOf, refusal}
+use Rattle.bids.specs.Format.{schools, slots, costsOf, problemIn, refusal}
 use Rattle.printout.specs.Text.{head, timetableLine, cheapestLine, noneLine, refusedLine}
 
 -- the line of the refusal n, or the text where there is none
@@ -48,12 +47,12 @@ blank = replicate 5401 0
 -- the text for s schools and t slots, the problem Q and the costs C
 unfoldable pub solved : (s t : ℕ) (Q : Problem) (C : List ℕ) → List ℕ
 solved s t Q C =
-    unless (callRefusal Q (s + t) blank (Cover (allItems (s + t)) 1000000) 3604)
-    (answerText s t (length (Q .packages)) C (covering Q (allItems (s + t))) (missing (nodesOf blank) (covering Q (allItems (s + t)))) (steps Q 1802 (allItems (s + t))))
+    unless (coverRefusal Q (s + t) blank (allItems (s + t)) 1000000 3604)
+    (answerText s t (length (Q .packages)) C (covering Q (allItems (s + t))) (missing (nodesOf blank) (covering Q (allItems (s + t)))) (steps Q 901 (allItems (s + t))))
 
 -- the text for the file b
 unfoldable pub printed : List ℕ → List ℕ
-printed b = unless (refusal b) (solved (schools b) (slots b) (problemOf (packagesOf b)) (costsOf b))
+printed b = unless (refusal b) (solved (schools b) (slots b) (problemIn b) (costsOf b))
 
 -- what a program may print that has read n bytes of a file into its buffer, as many as the file has and no more than the buffer holds: the text for
 -- every file that begins so

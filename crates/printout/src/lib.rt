@@ -9,7 +9,6 @@ ghost use Rattle.query.specs.Questions.{familyAt, nth, cost};
 ghost use Rattle.printout.specs.Text.{decimalIn, decimal, field, head, packagesText, timetableLine, refusedLine};
 ghost use Rattle.printout.specs.Written.{Puts, Holds, Whole};
 ghost use Rattle.printout.specs.Program.{timetableLines, lastLine, sheet, answerText, solved, printed, Askable, Listable};
-ghost use Rattle.statement.specs.Examples.{allItems};
 ghost use Rattle.statement.specs.Replies.{gives, pickReply, placeReply, cheapestReply};
 use bids::Reading;
 use statement::Counted;
@@ -149,17 +148,6 @@ fn put_refused(out: &mut [u8], at: usize, number: u8) -> usize
     put_text(out, to, b"\n")
 }
 
-// All items below m.
-fn all_items(m: u32) -> u64
-    requires { ⌜ m ≤ 64 ⌝ }
-    ensures { λ r. ⌜ r ≡ allItems m ⌝ }
-{
-    if m == 64 {
-        return 18446744073709551615;
-    }
-    (1u64 << m) - 1
-}
-
 // How many packages pick wrote; 0 for a refusal, which the caller rules out.
 fn picked(p: Picked) -> usize
     ensures { λ r. ⌜ ((n : ℕ) → pickReply p ≡ gives n → r ≡ n) ⌝ }
@@ -250,7 +238,7 @@ fn put_last(
     at: usize,
 ) -> usize
     requires { ⌜ Listable (problemOf (now packages)) m (now t) a (length (now work)) ⌝ }
-    requires { ⌜ length (now costs) ≡ length (now packages) ⌝ }
+    requires { ⌜ length (now costs) ≡ length (problemOf (now packages) .packages) ⌝ }
     requires { ⌜ count ≡ length (familyAt (now t) a) ⌝ }
     ensures { λ r. ⌜ Puts (now (out .entry)) at (now (out .exit)) r (lastLine (now (costs .entry)) (familyAt (now (t .entry)) a)) ⌝ }
 {
@@ -292,14 +280,15 @@ fn put_sheet(
     out: &mut [u8],
 ) -> usize
     requires { ⌜ Listable (problemOf (now packages)) (c .s + c .t) (now table) (c .answer) (length (now work)) ⌝ }
-    requires { ⌜ length (now costs) ≡ length (now packages) ⌝ }
+    requires { ⌜ length (now costs) ≡ length (problemOf (now packages) .packages) ⌝ }
     requires { ⌜ count ≡ length (familyAt (now table) (c .answer)) ⌝ }
     requires { ⌜ c .s + c .t ≤ 64 ⌝ }
-    ensures { λ r. ⌜ Holds (now (out .exit)) r (sheet (c .s) (c .t) (length (now (packages .entry))) (now (costs .entry)) (familyAt (now (table .entry)) (c .answer)) (c .made) (c .steps)) ⌝ }
+    ensures { λ r. ⌜ Holds (now (out .exit)) r (sheet (c .s) (c .t) (length (problemOf (now (packages .entry)) .packages)) (now (costs .entry))
+        (familyAt (now (table .entry)) (c .answer)) (c .made) (c .steps)) ⌝ }
 {
     let m = c.s + c.t;
     let a = c.answer;
-    let n = packages.len() as u64;
+    let n = exact_cover::number(packages) as u64;
     let mut at = put_head(
         out,
         0,
@@ -325,9 +314,10 @@ fn put_answer(
     out: &mut [u8],
 ) -> usize
     requires { ⌜ Askable (problemOf (now packages)) (c .s + c .t) (now table) (c .answer) (length (now work)) ⌝ }
-    requires { ⌜ length (now costs) ≡ length (now packages) ⌝ }
+    requires { ⌜ length (now costs) ≡ length (problemOf (now packages) .packages) ⌝ }
     requires { ⌜ c .s + c .t ≤ 64 ⌝ }
-    ensures { λ r. ⌜ Holds (now (out .exit)) r (answerText (c .s) (c .t) (length (now (packages .entry))) (now (costs .entry)) (familyAt (now (table .entry)) (c .answer)) (c .made) (c .steps)) ⌝ }
+    ensures { λ r. ⌜ Holds (now (out .exit)) r (answerText (c .s) (c .t) (length (problemOf (now (packages .entry)) .packages)) (now (costs .entry))
+        (familyAt (now (table .entry)) (c .answer)) (c .made) (c .steps)) ⌝ }
 {
     let m = c.s + c.t;
     let a = c.answer;
@@ -340,14 +330,14 @@ fn put_answer(
 
 // The text for s schools and t slots.
 fn put_solution(s: u32, t: u32, packages: &[u64], costs: &[u16], out: &mut [u8]) -> usize
-    requires { ⌜ length (now costs) ≡ length (now packages) ⌝ }
+    requires { ⌜ length (now costs) ≡ length (problemOf (now packages) .packages) ⌝ }
     requires { ⌜ s + t ≤ 64 ⌝ }
     ensures { λ r. ⌜ Holds (now (out .exit)) r (solved s t (problemOf (now (packages .entry))) (now (costs .entry))) ⌝ }
 {
     let mut table = [0u32; 5401];
     let mut work = [0u64; 3604];
     let m = s + t;
-    let d = all_items(m);
+    let d = itemset::all_below(m);
     let report = engine::cover(m, packages, &mut table, d, 1000000, &mut work);
     let outcome = report.outcome;
     match outcome {
@@ -369,7 +359,8 @@ fn put_solution(s: u32, t: u32, packages: &[u64], costs: &[u16], out: &mut [u8])
 pub fn lines(file: &[u8], out: &mut [u8; 16384]) -> usize
     ensures { λ r. ⌜ Whole 16384 (now (out .exit)) r (printed (now (file .entry))) ⌝ }
 {
-    let mut packages = [0u64; 512];
+    // Room for 512 packages, three words each.
+    let mut packages = [0u64; 1536];
     let mut costs = [0u16; 512];
     let reading = bids::read(file, &mut packages, &mut costs);
     match reading {
@@ -378,6 +369,6 @@ pub fn lines(file: &[u8], out: &mut [u8; 16384]) -> usize
             schools,
             slots,
             packages: n,
-        } => put_solution(schools, slots, &packages[..n], &costs[..n], out),
+        } => put_solution(schools, slots, &packages[..3 * n], &costs[..n], out),
     }
 }

@@ -1,4 +1,4 @@
-use Rattle.bids.proofs.Answers.{by-file, few-places, few-costs, accepted, read-refused, items-stored, costs-stored}
+use Rattle.bids.proofs.Answers.{by-file, few-words, few-costs, accepted, read-refused, items-stored, costs-stored}
 use Rattle.bids.proofs.Fit.{fillable}
 use Rattle.bids.proofs.Refused.{whole}
 use Rattle.bids.specs.Format.{refusal}
@@ -20,7 +20,7 @@ read-header-requires c κs = whole (c .before .before .before .before .before .a
 returns-2 : tie.Need-returns-2
 returns-2 c =
     let z = sym (c .before .before .before .before .before .refusal .ensures) ∙ c .before .before .before .before .if1 .left in
-    read-refused (few-places _ _ _ z (omega (arith, c .before .before .before .read-header .ensures .packages, c .if2 .taken))) (λ z. omega arith)
+    read-refused (few-words _ _ _ z (omega (arith, c .before .before .before .read-header .ensures .packages, c .if2 .taken))) (λ z. omega arith)
 
 returns-3 : tie.Need-returns-3
 returns-3 c =
@@ -57,5 +57,5 @@ returns-4 c =
 pub read-spec : {M : Type 1} → statement M
 read-spec =
     tie.close
-    (tie.spec (λ c κs. search needs) returns read-header-requires (λ c. search needs) (λ c. search needs) returns-2 returns-3 (λ c κs. search needs)
-    fill-requires (λ c. search needs) (λ c. search needs) returns-4)
+    (tie.spec (λ c κs. search needs) returns read-header-requires (λ c. search needs) (λ c. search needs) (λ c. search needs) returns-2 returns-3
+    (λ c κs. search needs) fill-requires (λ c. search needs) (λ c. search needs) returns-4)

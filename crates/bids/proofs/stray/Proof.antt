@@ -33,7 +33,7 @@ returns-2 c =
     let a = c .before .before .before .before .before .before .before .before .args in
     sym (some-hit _ (a .n) (loop .k) (c .before .before .before .before .before .loop-test .taken) (loop .inv .2)
     (outside (a .file .now) (a .s) (loop .k) (loop .c .at) (loop .inv .1) (a .t) (c .before .before .before .before .school-index .ensures) (c .before .before .before .if1 .left)
-    (c .before .before .package-record .ensures .slots) (c .before .below .ensures) ∙ c .if2 .taken))
+    (c .before .before .package-record .ensures .slots) (c .before .below-word .ensures) ∙ c .if2 .taken))
 
 loop-again : tie.Need-loop-again Inv-loop μ-loop
 loop-again c =
@@ -43,7 +43,7 @@ loop-again c =
       omega (arith, package-record .ensures .next),
       first-more _ (loop .k) (loop .inv .2)
           (outside (a .file .now) (a .s) (loop .k) (loop .c .at) (loop .inv .1) (a .t) (c .before .before .before .before .before .school-index .ensures)
-          (c .before .before .before .before .if1 .left) (package-record .ensures .slots) (c .before .before .below .ensures) ∙ c .before .if2 .left),
+          (c .before .before .before .before .if1 .left) (package-record .ensures .slots) (c .before .before .below-word .ensures) ∙ c .before .if2 .left),
     )
 
 returns-3 : tie.Need-returns-3 Inv-loop μ-loop

@@ -1,4 +1,4 @@
-use Rattle.exact_cover.specs.Problem.{problemOf}
+use Rattle.exact_cover.specs.Problem.{Problem}
 use lib.Seq.{length-take-le}
 use lib.ListN.{length}
 use native.Mathlib.Omega.{arith}
@@ -9,6 +9,10 @@ use Rattle.printout.specs.Program.{solved}
 use borrow.Author.Needs.{needs}
 use Rattle.printout.proofs.lines.Statement.{statement}
 use Rattle.printout.proofs.lines.Tie as tie
+
+mul-packages : tie.Need-mul-packages
+mul-packages c =
+    let g = read-gave (c .before .before .before .before .before .read .ensures) (c .before .reading2 .given .1) in omega (arith, g .few)
 
 array-share-prefix-packages : tie.Need-array-share-prefix-packages
 array-share-prefix-packages c =
@@ -35,7 +39,7 @@ slice-aggregate-put-solution-2 c =
 put-solution-requires : tie.Need-put-solution-requires
 put-solution-requires c κs =
     let g = read-gave (c .before .before .before .before .before .before .before .before .read .ensures) (c .before .before .before .before .reading2 .given .1) in
-    (ap length (g .costs) ∙ g .same-long ∙ sym (ap length (g .items)), g .small)
+    (ap length (g .costs) ∙ g .same-long ∙ sym (ap (λ (Q : Problem). length (Q .packages)) (g .problem)), g .small)
 
 returns : tie.Need-returns
 returns c =
@@ -45,11 +49,11 @@ returns c =
 returns-2 : tie.Need-returns-2
 returns-2 c =
     let g = read-gave (c .before .before .before .before .before .before .before .before .before .read .ensures) (c .before .before .before .before .before .reading2 .given .1) in
-    whole _ (omega (arith, c .put-solution .kept)) (holds-same (ap₂ (solved _ _) (ap problemOf (g .items)) (g .costs) ∙ g .text) (c .put-solution .ensures))
+    whole _ (omega (arith, c .put-solution .kept)) (holds-same (ap₂ (solved _ _) (g .problem) (g .costs) ∙ g .text) (c .put-solution .ensures))
 
 pub lines-spec : {M : Type 1} → statement M
 lines-spec =
     tie.close
     (tie.spec (λ c. search needs) (λ c. search needs) (λ c κs. search needs) (λ c. search needs) (λ c κs. search needs) (λ c. search needs)
-    array-share-prefix-packages slice-aggregate-put-solution array-share-prefix-costs slice-aggregate-put-solution-2 put-solution-requires returns
+    mul-packages array-share-prefix-packages slice-aggregate-put-solution array-share-prefix-costs slice-aggregate-put-solution-2 put-solution-requires returns
     returns-2)

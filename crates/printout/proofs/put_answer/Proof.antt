@@ -16,11 +16,12 @@ use Rattle.printout.proofs.put_answer.Tie as tie
 put-sheet-requires : tie.Need-put-sheet-requires
 put-sheet-requires c κs =
     let here = c .before .before .before .before .before .before .before .before .before .before .before .before .before .before .before in let a = here .args in let pre = here .pre in
+    let Q = problemOf (a .packages .now) in
     let k = count-left (pre .0) in
-    let q = was-given _ (countRefusal (problemOf (a .packages .now)) (a .c .s + a .c .t) (a .table .now) (a .c .answer) (length (a .work .now))) (length (familyAt (a .table .now) (a .c .answer)))
+    let q = was-given _ (countRefusal Q (a .c .s + a .c .t) (a .table .now) (a .c .answer) (length (a .work .now))) (length (familyAt (a .table .now) (a .c .answer)))
     (sym (ap countReply (c .before .before .before .counted2 .given .1)) ∙ c .before .before .before .before .before .before .before .count .ensures .result) in (
       record {
-        askable = subst⁻¹ (λ (w : ℕ). Askable (problemOf (a .packages .now)) (a .c .s + a .c .t) (a .table .now) (a .c .answer) w) (c .before .before .before .before .before .before .work .given)
+        askable = subst⁻¹ (λ (w : ℕ). Askable Q (a .c .s + a .c .t) (a .table .now) (a .c .answer) w) (c .before .before .before .before .before .before .work .given)
             (pre .0);
         few = few-of (familyAt (a .table .now) (a .c .answer)) (sym k ∙ q .0);
       },
@@ -32,10 +33,11 @@ unfolding answerText
 returns c =
     let here = c .before .before .before .before .before .before .before .before .before .before .before .before .before .before .before .before .before in let a = here .args in
     let pre = here .pre in
+    let Q = problemOf (a .packages .now) in
     let k = count-left (pre .0) in
-    let q = was-refused _ (countRefusal (problemOf (a .packages .now)) (a .c .s + a .c .t) (a .table .now) (a .c .answer) (length (a .work .now))) (length (familyAt (a .table .now) (a .c .answer)))
+    let q = was-refused _ (countRefusal Q (a .c .s + a .c .t) (a .table .now) (a .c .answer) (length (a .work .now))) (length (familyAt (a .table .now) (a .c .answer)))
     (sym (ap countReply (c .before .before .before .before .before .counted .given .1)) ∙ c .before .before .before .before .before .before .before .before .before .count .ensures .result) in
-    holds-same (said _ (sheet (a .c .s) (a .c .t) (length (a .packages .now)) (a .costs .now) (familyAt (a .table .now) (a .c .answer)) (a .c .made) (a .c .steps)) (sym k ∙ q .0) (q .1))
+    holds-same (said _ (sheet (a .c .s) (a .c .t) (length (Q .packages)) (a .costs .now) (familyAt (a .table .now) (a .c .answer)) (a .c .made) (a .c .steps)) (sym k ∙ q .0) (q .1))
     (from-start (c .before .before .put-refused .ensures))
 
 returns-2 : tie.Need-returns-2
@@ -43,10 +45,11 @@ unfolding answerText
 returns-2 c =
     let here = c .before .before .before .before .before .before .before .before .before .before .before .before in let count = here .count in
     let a = here .before .before .before .before .before .before .before .before .args in let pre = here .before .before .before .before .before .before .before .before .pre in
+    let Q = problemOf (a .packages .now) in
     let k = count-left (pre .0) in
-    let q = was-given _ (countRefusal (problemOf (a .packages .now)) (a .c .s + a .c .t) (a .table .now) (a .c .answer) (length (a .work .now))) (length (familyAt (a .table .now) (a .c .answer)))
+    let q = was-given _ (countRefusal Q (a .c .s + a .c .t) (a .table .now) (a .c .answer) (length (a .work .now))) (length (familyAt (a .table .now) (a .c .answer)))
     (sym (ap countReply (c .before .before .before .before .before .before .before .before .counted2 .given .1)) ∙ count .ensures .result) in
-    holds-same (unsaid (sheet (a .c .s) (a .c .t) (length (a .packages .now)) (a .costs .now) (familyAt (a .table .now) (a .c .answer)) (a .c .made) (a .c .steps)) (sym k ∙ q .0))
+    holds-same (unsaid (sheet (a .c .s) (a .c .t) (length (Q .packages)) (a .costs .now) (familyAt (a .table .now) (a .c .answer)) (a .c .made) (a .c .steps)) (sym k ∙ q .0))
     (c .before .before .before .before .put-sheet .ensures)
 
 pub put-answer-spec : {M : Type 1} → statement M

@@ -14,13 +14,13 @@ use Rattle.printout.proofs.put_sheet.Tie as tie
 
 put-timetables-requires : tie.Need-put-timetables-requires
 put-timetables-requires c κs =
-    let pre = c .before .before .before .before .before .before .before .before .before .before .before .before .before .before .before .before .before .pre in
+    let pre = c .before .before .before .before .before .before .before .before .before .before .before .before .before .before .before .before .before .before .pre in
     (pre .0, omega (arith, c .before .before .least .ensures, pre .1 .1 .0))
 
 put-last-requires : tie.Need-put-last-requires
 put-last-requires c κs =
     let least = c .before .before .before .before .before .before .before .before .before in
-    let here = least .before .before .before .before .before .before .before .before .before .before .before .before .before .before .before in
+    let here = least .before .before .before .before .before .before .before .before .before .before .before .before .before .before .before .before in
     let args = here .args in let pre = here .pre in (
       subst⁻¹ (λ (w : ℕ). Listable (problemOf (args .packages .now)) (args .c .s + args .c .t) (args .table .now) (args .c .answer) w) (c .before .before .before .before .before .work .given)
           (pre .0),
@@ -31,18 +31,19 @@ returns : tie.Need-returns
 returns c =
     let here = c .before .before .before .before .before .before .before .before .before .before .before .before .before .before in let least = here .least in
     let put-head = here .before .before .before .put-head in
-    let a = here .before .before .before .before .before .before .before .before .before .before .before .before .before .before .before .args in
-    let pre = here .before .before .before .before .before .before .before .before .before .before .before .before .before .before .before .pre in
+    let number = here .before .before .before .before .before .before .before .before .before .number in
+    let a = here .before .before .before .before .before .before .before .before .before .before .before .before .before .before .before .before .args in
+    let pre = here .before .before .before .before .before .before .before .before .before .before .before .before .before .before .before .before .pre in
     let C = a .costs .now in
     let F = familyAt (a .table .now) (a .c .answer) in
     let q = puts-then (timetableLines C F (min (a .count) 10))
     (puts-same (ap (timetableLines C F) (least .ensures)) (c .before .before .before .before .before .before .before .before .before .before .before .put-timetables .ensures))
     (c .before .before .before .before .put-last .ensures) in
-    holds-same (sheet-parts C F (a .c .s) (a .c .t) (length (a .packages .now)) (a .c .made) (a .c .steps) (a .count) (pre .1 .1 .0))
-    (from-start (puts-then (head (a .c .s) (a .c .t) (length (a .packages .now)) (a .c .made) (a .c .steps) (a .count)) (put-head .ensures) q))
+    holds-same (sheet-parts C F (a .c .s) (a .c .t) (length (problemOf (a .packages .now) .packages)) (a .c .made) (a .c .steps) (number .ensures) (pre .1 .1 .0))
+    (from-start (puts-then (head (a .c .s) (a .c .t) (number .result) (a .c .made) (a .c .steps) (a .count)) (put-head .ensures) q))
 
 pub put-sheet-spec : {M : Type 1} → statement M
 put-sheet-spec =
     tie.close
-    (tie.spec (λ c. search needs) (λ c. search needs) (λ c. search needs) (λ c. search needs) (λ c. search needs) (λ c κs. search needs)
-    (λ c κs. search needs) put-timetables-requires put-last-requires (λ c. search needs) (λ c. search needs) returns)
+    (tie.spec (λ c. search needs) (λ c κs. search needs) (λ c. search needs) (λ c. search needs) (λ c. search needs) (λ c. search needs)
+    (λ c κs. search needs) (λ c κs. search needs) put-timetables-requires put-last-requires (λ c. search needs) (λ c. search needs) returns)
