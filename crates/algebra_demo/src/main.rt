@@ -124,7 +124,7 @@ struct Reply {
     made: u32,
 }
 
-fn lend(packages: [u64; 513], t: [u32; 12001], memory: [u64; 70000], q: Question) -> Reply {
+fn lend(packages: [u64; 1539], t: [u32; 12001], memory: [u64; 70000], q: Question) -> Reply {
     let n = least(q.packages, 513);
     let room = least(q.room, 12001);
     let words = least(q.words, 70000);
@@ -132,7 +132,7 @@ fn lend(packages: [u64; 513], t: [u32; 12001], memory: [u64; 70000], q: Question
     let mut work = memory;
     let r = call(
         q.m,
-        &packages[0..n],
+        &packages[0..3 * n],
         &mut table[0..room],
         q.op,
         q.a,
@@ -184,7 +184,7 @@ struct Tried {
 }
 
 // Each working word says beforehand that 401 and 602 make 1, which is not to be believed.
-fn attempt(packages: [u64; 513], t: [u32; 12001], q: Question) -> Tried {
+fn attempt(packages: [u64; 1539], t: [u32; 12001], q: Question) -> Tried {
     let r = lend(packages, t, [1722321338369u64; 70000], q);
     let table = r.table;
     let made = r.made;
@@ -241,13 +241,18 @@ fn small() -> [u32; 12001] {
 }
 
 // The six packages, the fourth of them as given, and others up to 513.
-fn six(fourth: u64) -> [u64; 513] {
-    let mut packages = [1u64; 513];
-    packages[1] = 3;
-    packages[2] = 2;
-    packages[3] = fourth;
-    packages[4] = 4;
-    packages[5] = 5;
+fn six(fourth: u64) -> [u64; 1539] {
+    let mut packages = [0u64; 1539];
+    let mut i: usize = 0;
+    while i < 513 {
+        packages[3 * i] = 1;
+        i += 1;
+    }
+    packages[3] = 3;
+    packages[6] = 2;
+    packages[9] = fourth;
+    packages[12] = 4;
+    packages[15] = 5;
     packages
 }
 
@@ -311,11 +316,11 @@ fn rows(first: u32, end: u32, last: u32) {
 // ---- one call on a line
 
 // How many timetables the answer holds.
-fn print_count(packages: [u64; 513], t: [u32; 12001], q: Question, answer: u32) {
+fn print_count(packages: [u64; 1539], t: [u32; 12001], q: Question, answer: u32) {
     let n = least(q.packages, 513);
     let room = least(q.room, 12001);
     let mut tally = [0u64; 4096];
-    let c = engine::count(q.m, &packages[0..n], &t[0..room], answer, &mut tally);
+    let c = engine::count(q.m, &packages[0..3 * n], &t[0..room], answer, &mut tally);
     text(COUNT);
     counted(c);
     mark(b'\n');
@@ -331,7 +336,7 @@ fn heading(op: usize, a: u32, b: u32) {
 }
 
 // The call, the table's checksum after it, and how many timetables the answer holds. It gives the table.
-fn line(packages: [u64; 513], t: [u32; 12001], q: Question) -> [u32; 12001] {
+fn line(packages: [u64; 1539], t: [u32; 12001], q: Question) -> [u32; 12001] {
     heading(q.op, q.a, q.b);
     let r = attempt(packages, t, q);
     print_sum(r.sum);
@@ -342,55 +347,55 @@ fn line(packages: [u64; 513], t: [u32; 12001], q: Question) -> [u32; 12001] {
 
 // ---- refusals
 
-// A row, by its digits: word 600 of the small table and word 0; M; how many packages, and the fourth of them; how many words of the table are lent; the call and
-// its operands; the working words.
-const CASES: [u64; 21] = [
+// Word 600 of the small table and word 0; M; how many packages, and the fourth of them; how many words of the table are lent; the call and its operands; the
+// working words.
+const CASES: [[u32; 10]; 21] = [
     // 1, 2 and 4, alone and before those behind them.
-    0_8_65_006_6_601_0_06_00008_2,
-    0_8_03_513_6_601_1_06_00008_2,
-    0_8_02_006_6_601_2_06_00008_2,
-    0_8_03_006_0_601_3_10_00006_2,
-    1_8_03_006_6_601_4_10_00006_2,
-    1_8_03_006_6_000_0_06_00008_2,
+    [0, 8, 193, 6, 6, 601, 0, 6, 8, 2],
+    [0, 8, 3, 513, 6, 601, 1, 6, 8, 2],
+    [0, 8, 2, 6, 6, 601, 2, 6, 8, 2],
+    [0, 8, 3, 6, 0, 601, 3, 10, 6, 2],
+    [1, 8, 3, 6, 6, 601, 4, 10, 6, 2],
+    [1, 8, 3, 6, 6, 0, 0, 6, 8, 2],
     // 5, 6, 8 and 10, alone and before those behind them. Twenty-five words are the small table with no place free.
-    0_8_03_006_6_601_0_10_00006_2,
-    0_8_03_006_6_601_1_06_00010_1,
-    0_8_03_006_6_601_3_10_00006_2,
-    0_8_03_006_6_601_3_06_00006_1,
-    0_8_03_006_6_601_4_06_65535_2,
-    0_8_03_006_6_025_0_06_00009_1,
-    0_8_03_006_6_025_4_06_00000_0,
-    0_8_03_006_6_025_0_06_00009_2,
-    0_8_03_006_6_027_4_09_00005_2,
+    [0, 8, 3, 6, 6, 601, 0, 10, 6, 2],
+    [0, 8, 3, 6, 6, 601, 1, 6, 10, 1],
+    [0, 8, 3, 6, 6, 601, 3, 10, 6, 2],
+    [0, 8, 3, 6, 6, 601, 3, 6, 6, 1],
+    [0, 8, 3, 6, 6, 601, 4, 6, 65535, 2],
+    [0, 8, 3, 6, 6, 25, 0, 6, 9, 1],
+    [0, 8, 3, 6, 6, 25, 4, 6, 0, 0],
+    [0, 8, 3, 6, 6, 25, 0, 6, 9, 2],
+    [0, 8, 3, 6, 6, 27, 4, 9, 5, 2],
     // A table of one word has no place at all: the answers are 0 and 1.
-    0_0_03_006_6_001_0_00_00001_2,
-    0_0_03_006_6_001_1_00_00001_2,
-    0_0_03_006_6_001_2_01_00000_2,
-    0_0_03_006_6_001_3_01_00000_2,
-    0_0_03_006_6_001_4_01_00005_2,
-    0_0_03_006_6_001_0_01_00002_2,
+    [0, 0, 3, 6, 6, 1, 0, 0, 1, 2],
+    [0, 0, 3, 6, 6, 1, 1, 0, 1, 2],
+    [0, 0, 3, 6, 6, 1, 2, 1, 0, 2],
+    [0, 0, 3, 6, 6, 1, 3, 1, 0, 2],
+    [0, 0, 3, 6, 6, 1, 4, 1, 5, 2],
+    [0, 0, 3, 6, 6, 1, 0, 1, 2, 2],
 ];
 
-fn asked(x: u64) -> Question {
+fn asked(x: [u32; 10]) -> Question {
     Question {
-        m: (x / 10000000000000000 % 100) as u32,
-        packages: (x / 10000000000000 % 1000) as usize,
-        room: (x / 1000000000 % 1000) as usize,
-        op: (x / 100000000 % 10) as usize,
-        a: (x / 1000000 % 100) as u32,
-        b: (x / 10 % 100000) as u32,
-        words: (x % 10) as usize,
+        m: x[2],
+        packages: base::wide(x[3]),
+        room: base::wide(x[5]),
+        op: base::wide(x[6]),
+        a: x[7],
+        b: x[8],
+        words: base::wide(x[9]),
     }
 }
 
-fn run_case(x: u64) {
+fn run_case(x: [u32; 10]) {
     let mut t = small();
-    t[0] = (x / 1000000000000000000 % 10) as u32;
-    t[600] = (x / 10000000000000000000) as u32;
-    line(six(x / 1000000000000 % 10), t, asked(x));
+    t[0] = x[1];
+    t[600] = x[0];
+    line(six(x[4] as u64), t, asked(x));
 }
 
-fn case(i: usize) -> u64 {
+fn case(i: usize) -> [u32; 10] {
     CASES[i % 21]
 }
 
@@ -405,11 +410,11 @@ fn cases() {
 // ---- 400 packages, several to an item
 
 // Package i holds the item 4i / 25, rounded down.
-fn items() -> [u64; 513] {
-    let mut packages = [0u64; 513];
+fn items() -> [u64; 1539] {
+    let mut packages = [0u64; 1539];
     let mut i: usize = 0;
     while i < 400 {
-        packages[i] = 1 << (i * 4 / 25);
+        packages[3 * i] = 1 << (i * 4 / 25);
         i += 1;
     }
     packages

@@ -1,118 +1,176 @@
 // Runs a script of calls on Figure 1 of document 000 through the runner, on tables and working words of several lengths, and prints each report.
 ghost use Prim.Native.Nat.{_≤_};
 
-// Five words a call: kind (0 cover, 1 either, 2 both, 3 only, 4 with, 5 without), M, two arguments, working words.
-const SCRIPT: [u64; 105] = [
+// Seven words a call: kind (0 cover, 1 either, 2 both, 3 only, 4 with, 5 without), M, two arguments, the first of three words, working words.
+const SCRIPT: [u64; 147] = [
     0,
     6,
     63,
+    0,
+    0,
     6,
-    128, // cover all items, twice
+    256, // cover all items, twice
     0,
     6,
     63,
+    0,
+    0,
     6,
-    128, //
+    256, //
     4,
     6,
     5,
+    0,
+    0,
     0,
     2, // with 0 and without 0
     5,
     6,
     5,
     0,
+    0,
+    0,
     2, //
     1,
     6,
     4,
+    0,
+    0,
     6,
     2, // either, both, only
     2,
     6,
     5,
+    0,
+    0,
     4,
     2, //
     3,
     6,
     5,
+    0,
+    0,
     6,
     2, //
     0,
     6,
     63,
+    0,
+    0,
     5,
-    128, // B too small
+    256, // B too small
     1,
     6,
     5,
+    0,
+    0,
     99,
     2, // an unknown answer
     4,
     6,
     5,
+    0,
+    0,
     5,
     2, // an unknown package
     0,
     6,
     64,
+    0,
+    0,
     6,
-    128, // an unknown item
+    256, // an unknown item
     0,
     6,
     63,
-    6,
-    1, // one working word
     0,
-    65,
-    63,
+    0,
     6,
-    128, // M above 64
+    3, // three working words
+    0,
+    193,
+    63,
+    0,
+    0,
+    6,
+    256, // M above 192
     0,
     5,
     31,
+    0,
+    0,
     6,
-    128, // packages with an item of M
+    256, // packages with an item of M
     0,
     6,
     63,
+    0,
+    0,
     7,
-    8, // a memo of 4 places
+    16, // a memo of 4 places
     0,
     6,
     40,
+    0,
+    0,
     9,
-    8, // other items
+    16, // other items
     1,
     6,
     6,
+    0,
+    0,
     2,
     2, // a new node
     2,
     6,
     4,
+    0,
+    0,
     6,
     2, // nothing in both
     1,
     6,
+    0,
+    0,
     0,
     1,
     2, // 0 and 1 as operands
     1,
     6,
     3,
+    0,
+    0,
     1,
     2, // 3 was not given: where the table knows it, the runner stops
     0,
     6,
     63,
+    0,
+    0,
     6,
-    128,
+    256,
 ];
 
-// The figure's packages, numbered from 0.
-fn figure() -> [u64; 5] {
-    [0b010111, 0b000011, 0b101000, 0b101100, 0b010100]
+// The figure's packages, numbered from 0, three words each.
+fn figure() -> [u64; 15] {
+    [
+        0b010111,
+        0,
+        0,
+        0b000011,
+        0,
+        0,
+        0b101000,
+        0,
+        0,
+        0b101100,
+        0,
+        0,
+        0b010100,
+        0,
+        0,
+    ]
 }
 
 // How a call ended, by the first word of its report.
@@ -150,10 +208,10 @@ fn show_reports(out: &[u64; 63], n: usize) {
 
 // The script on a table that is not empty yet, with `room` working words and `places` places for reports.
 fn scenario(what: &[u8], t: &mut [u32], room: usize, places: usize)
-    requires { ⌜ room ≤ 128 ⌝ }
+    requires { ⌜ room ≤ 256 ⌝ }
     requires { ⌜ places ≤ 21 ⌝ }
 {
-    let mut work = [7u64; 128];
+    let mut work = [7u64; 256];
     let mut out = [0u64; 63];
     let words = 3 * places;
     let n = history::run(&figure(), t, &mut work[..room], &SCRIPT, &mut out[..words]);
@@ -166,9 +224,9 @@ fn scenario(what: &[u8], t: &mut [u32], room: usize, places: usize)
 }
 
 fn main() {
-    scenario(b"a table of 8 nodes", &mut [7u32; 25], 128, 21);
-    scenario(b"a table of 3 nodes", &mut [7u32; 10], 128, 21);
-    scenario(b"no word", &mut [7u32; 0], 128, 21);
-    scenario(b"places for 2 reports", &mut [7u32; 25], 128, 2);
-    scenario(b"fewer working words", &mut [7u32; 25], 100, 21);
+    scenario(b"a table of 8 nodes", &mut [7u32; 25], 256, 21);
+    scenario(b"a table of 3 nodes", &mut [7u32; 10], 256, 21);
+    scenario(b"no word", &mut [7u32; 0], 256, 21);
+    scenario(b"places for 2 reports", &mut [7u32; 25], 256, 2);
+    scenario(b"fewer working words", &mut [7u32; 25], 200, 21);
 }

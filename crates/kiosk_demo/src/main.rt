@@ -69,9 +69,9 @@ fn say_counted(c: Counted) {
     }
 }
 
-// The packages of Figure 1.
-fn figure1() -> [u64; 5] {
-    [0b010111, 0b000011, 0b101000, 0b101100, 0b010100]
+// The packages of Figure 1, three words each: {0, 1, 2, 4}, {0, 1}, {3, 5}, {2, 3, 5}, {2, 4}.
+fn figure1() -> [u64; 15] {
+    [23, 0, 0, 3, 0, 0, 40, 0, 0, 44, 0, 0, 20, 0, 0]
 }
 
 // The two calls on a list, with m items and n nodes.
@@ -153,7 +153,7 @@ fn damaged() {
         5,
     );
     say(b"stray", 5, 4, four, 5);
-    say(b"oversize", 65, 4, four, 5);
+    say(b"oversize", 193, 4, four, 5);
 }
 
 fn main() {

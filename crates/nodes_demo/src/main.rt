@@ -3,63 +3,102 @@
 // Among the calls is one that is refused always: a search cut short by its limit, whose nodes are gone again.
 ghost use Prim.Native.Nat.{_≤_, _<_};
 
-// Five words a call: kind (0 cover, 1 either, 2 both, 3 only, 4 with, 5 without), M, two arguments, working words.
-const SCRIPT: [u64; 50] = [
+// Seven words a call: kind (0 cover, 1 either, 2 both, 3 only, 4 with, 5 without), M, two arguments, the first of three words, working words.
+const SCRIPT: [u64; 70] = [
     0,
     4,
     15,
+    0,
+    0,
     8,
-    64, // cover all items, with a limit of 8 steps: 9 are needed
+    128, // cover all items, with a limit of 8 steps: 9 are needed
     0,
     4,
     15,
+    0,
+    0,
     9,
-    64, //
+    128, //
     4,
     4,
     7,
+    0,
+    0,
     1,
     2, // with 1, and without 1
     5,
     4,
     7,
+    0,
+    0,
     1,
     2, //
     2,
     4,
     8,
+    0,
+    0,
     9,
     2, // nothing in both
     3,
     4,
     7,
+    0,
+    0,
     8,
     2, // the same as without 1
     0,
     4,
     5,
+    0,
+    0,
     9,
-    64, // items 0 and 2: package 0 alone
+    128, // items 0 and 2: package 0 alone
     1,
     4,
     9,
+    0,
+    0,
     10,
     2, // two nodes are missing
     1,
     4,
     8,
+    0,
+    0,
     10,
     2, // one is missing: of room for 11 nodes none is left
     4,
     4,
     7,
+    0,
+    0,
     4,
     2, // with 4: a node that was there already
 ];
 
-// The packages of the file: school 0, school 1, slot 0, slot 1 are the items 0 to 3.
-fn packages() -> [u64; 6] {
-    [0b0101, 0b1001, 0b1010, 0b0110, 0b1101, 0b0010]
+// The packages of the file: school 0, school 1, slot 0, slot 1 are the items 0 to 3. Three words each.
+fn packages() -> [u64; 18] {
+    [
+        0b0101,
+        0,
+        0,
+        0b1001,
+        0,
+        0,
+        0b1010,
+        0,
+        0,
+        0b0110,
+        0,
+        0,
+        0b1101,
+        0,
+        0,
+        0b0010,
+        0,
+        0,
+    ]
 }
 
 // Whether k is below a in the table: the numbers below a are marked, from a down to the children of the nodes marked.
@@ -171,7 +210,7 @@ fn scenario(what: &[u8], words: usize)
     requires { ⌜ words ≤ 61 ⌝ }
 {
     let mut t = [7u32; 61];
-    let mut work = [7u64; 64];
+    let mut work = [7u64; 128];
     let mut out = [0u64; 30];
     let n = history::run(&packages(), &mut t[..words], &mut work, &SCRIPT, &mut out);
     io::write_all(1, what);

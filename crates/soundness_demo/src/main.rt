@@ -18,27 +18,41 @@ const GAP: u32 = 4;
 
 const STRAY: u32 = 5;
 
-// Five packages of each kind; those behind them are as the fifth.
-const PACKAGES: [[u64; 5]; 6] = [
-    [0b010111, 0b000011, 0b101000, 0b101100, 0b010100], // figure 1 of document 000, numbered from 0
-    [9223372036854775808, 0, 0, 0, 0], // item 63
-    [1, 1, 1, 1, 1],
-    [0, 0, 0, 0, 0],
-    [3, 0, 4, 4, 4], // the second is empty
-    [3, 64, 4, 4, 4], // the second has item 6
+// Item 191, in the highest word.
+const LAST: u64 = 9223372036854775808;
+
+// Five packages of each kind, three words each; those behind them are as the fifth.
+const PACKAGES: [[u64; 15]; 6] = [
+    [23, 0, 0, 3, 0, 0, 40, 0, 0, 44, 0, 0, 20, 0, 0], // figure 1 of document 000, numbered from 0
+    [0, 0, LAST, 0, 0, 0, 0, 0, 0, 0, 0, 0, 0, 0, 0],
+    [1, 0, 0, 1, 0, 0, 1, 0, 0, 1, 0, 0, 1, 0, 0],
+    [0, 0, 0, 0, 0, 0, 0, 0, 0, 0, 0, 0, 0, 0, 0],
+    [3, 0, 0, 0, 0, 0, 4, 0, 0, 4, 0, 0, 4, 0, 0], // the second is empty
+    [3, 0, 0, 64, 0, 0, 4, 0, 0, 4, 0, 0, 4, 0, 0], // the second has item 6
 ];
 
-fn five(kind: u32) -> [u64; 5] {
+fn five(kind: u32) -> [u64; 15] {
     PACKAGES[base::wide(kind) % 6]
 }
 
-fn packages(kind: u32) -> [u64; 513] {
+// Where word i stands in the row.
+fn place(i: usize) -> usize
+    ensures { λ r. ⌜ r < 15 ⌝ }
+{
+    if i < 15 {
+        return i;
+    }
+    12 + i % 3
+}
+
+fn packages(kind: u32) -> [u64; 1539] {
     let row = five(kind);
-    let mut p = [row[4]; 513];
-    p[0] = row[0];
-    p[1] = row[1];
-    p[2] = row[2];
-    p[3] = row[3];
+    let mut p = [0u64; 1539];
+    let mut i: usize = 0;
+    while i < 1539 {
+        p[i] = row[place(i)];
+        i += 1;
+    }
     p
 }
 
@@ -149,9 +163,9 @@ const CASES: [[u32; 7]; 38] = [
     [6, 5, FIGURE, 16, DIAGRAM, 14, 1],
     [6, 5, FIGURE, 16, DIAGRAM, 15, 1],
     // Refusals 1 and 2 come before 4, and 1 before 2. Label 511 is the last that 512 packages have.
-    [64, 1, HIGHEST, 4, LEAF, NONE, 0],
-    [65, 1, HIGHEST, 4, LEAF, NONE, 0],
-    [65, 1, EMPTY, 4, TWOS, NONE, 0],
+    [192, 1, HIGHEST, 4, LEAF, NONE, 0],
+    [193, 1, HIGHEST, 4, LEAF, NONE, 0],
+    [193, 1, EMPTY, 4, TWOS, NONE, 0],
     [1, 512, ONES, 4, LEAF, 1, 511],
     [1, 513, ONES, 4, LEAF, 1, 511],
     [1, 513, EMPTY, 4, TWOS, NONE, 0],
@@ -171,7 +185,7 @@ const CASES: [[u32; 7]; 38] = [
 ];
 
 // What the cases are called, a line for each.
-const NAMES: [u8; 665] = *b"the diagram of figure 1
+const NAMES: [u8; 668] = *b"the diagram of figure 1
 all zeros
 one word
 no word
@@ -191,9 +205,9 @@ word 7 set to 2
 word 13 set to 1
 word 14 set to 1
 word 15 set to 1
-64 items
-65 items
-65 items and an empty package
+192 items
+193 items
+193 items and an empty package
 512 packages
 513 packages
 513 empty packages
@@ -248,7 +262,7 @@ fn check(c: [u32; 7]) -> Soundness {
     let t = table(c);
     let n = least(c[1], 513);
     let words = least(c[3], 196613);
-    engine::check(c[0], &p[0..n], &t[0..words])
+    engine::check(c[0], &p[0..3 * n], &t[0..words])
 }
 
 // 0 for sound, or the number of the refusal, which is below 10.
@@ -269,7 +283,7 @@ fn answer(i: usize) {
 }
 
 fn letter(i: usize) -> u8 {
-    NAMES[i % 665]
+    NAMES[i % 668]
 }
 
 fn mark(c: u8) {
@@ -280,7 +294,7 @@ fn mark(c: u8) {
 fn main() {
     let mut i: usize = 0;
     let mut at: usize = 0;
-    while at < 665 {
+    while at < 668 {
         let c = letter(at);
         at += 1;
         if c != b'\n' {

@@ -2,15 +2,15 @@
 use statement::Counted;
 use statement::Outcome;
 
-// The package goes behind the first n if it is wanted and there is room; returns how many there are then.
+// The package, of items below 64, goes behind the first n if it is wanted and there is room; returns how many there are then.
 fn put(packages: &mut [u64], n: usize, items: u64, wanted: bool) -> usize {
     if !wanted {
         return n;
     }
-    if packages.len() <= n {
+    if packages.len() / 3 <= n {
         return n;
     }
-    packages[n] = items;
+    packages[3 * n] = items;
     n + 1
 }
 
@@ -29,7 +29,7 @@ fn pairs(packages: &mut [u64]) {
     let mut n: usize = 0;
     let mut x: u64 = 1;
     while x < 262144 {
-        n = put(packages, n, x, itemset::size(x) == 2);
+        n = put(packages, n, x, u64::count_ones(x) == 2);
         x += 1;
     }
 }
@@ -73,9 +73,10 @@ fn print_timetables(m: u32, packages: &[u64], t: &[u32], work: &mut [u64], outco
 }
 
 // All m items are covered on a table of 65,534 nodes, with a memo of 65,521 places (a prime: item sets share their low bits).
-fn run(name: &[u8], m: u32, packages: &[u64], items: u64) {
+fn run(name: &[u8], m: u32, packages: &[u64]) {
     let mut t = [0u32; 196603];
-    let mut work = [0u64; 131042];
+    let mut work = [0u64; 262084];
+    let items = itemset::all_below(m);
     let report = engine::cover(m, packages, &mut t, items, 4294967295, &mut work);
     print_word(name, report.made);
     print_word(b" steps ", report.steps);
@@ -85,13 +86,13 @@ fn run(name: &[u8], m: u32, packages: &[u64], items: u64) {
 }
 
 fn main() {
-    let mut sets = [0u64; 511];
+    let mut sets = [0u64; 1533];
     bell(&mut sets);
-    run(b"bell-09 nodes ", 9, &sets, 511);
-    let mut twos = [0u64; 153];
+    run(b"bell-09 nodes ", 9, &sets);
+    let mut twos = [0u64; 459];
     pairs(&mut twos);
-    run(b"doublefact-17 nodes ", 18, &twos, 262143);
-    let mut placings = [0u64; 112];
+    run(b"doublefact-17 nodes ", 18, &twos);
+    let mut placings = [0u64; 336];
     dominoes(&mut placings);
-    run(b"domino.8.8 nodes ", 64, &placings, 18446744073709551615);
+    run(b"domino.8.8 nodes ", 64, &placings);
 }
