@@ -1,6 +1,6 @@
 # What a caller from C needs. The gate is .ci/run; nothing here is part of it. `rt`, a C compiler and, for test-rust and bench, cargo are on the path.
 PREFIX ?= /usr/local
-VERSION = 0.1.0
+VERSION = 0.2.0
 CC ?= cc
 CFLAGS ?= -O2
 WARN = -std=c11 -Wall -Wextra -pedantic
@@ -47,8 +47,8 @@ stack: $(build)/stack
 test-rust: $(archive)
 	MOGEDORN_LIB='$(abspath target/staticlib)' $(CARGO) run --quiet --release --manifest-path tests/rust/Cargo.toml --target-dir target/tests-rust -- $(SEED) $(CALLS)
 
-# The benchmarks. OLD is an earlier archive to stand beside this one, its functions at multiples of 64 bytes too. Rust's loops start at multiples of 32, where
-# they were fastest.
+# The benchmarks. OLD is an earlier archive to stand beside this one, whose item sets are single words; its functions are set to multiples of 64 bytes too. Rust's
+# loops start at multiples of 32, where they were fastest.
 bench_run = MOGEDORN_LIB='$(abspath target/staticlib)' $(if $(OLD),MOGEDORN_OLD='$(abspath $(OLD))') RUSTFLAGS='-C llvm-args=-align-loops=32' $(CARGO) run --quiet --release --manifest-path bench/Cargo.toml --target-dir target/bench
 
 # Against the same algorithm in Rust, and where libbrial-dev is installed against CUDD.

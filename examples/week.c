@@ -10,8 +10,8 @@
 enum { NODES = 1800, PLACES = 1801, PAGE = 64 };
 
 static uint32_t table[1 + 3 * NODES]; /* all zeros: an empty table */
-static uint64_t work[2 * PLACES];
-static uint64_t packages[512];
+static uint64_t work[4 * PLACES];
+static uint64_t packages[3 * 512]; /* three words a package */
 static uint16_t costs[512];
 static uint16_t page[PAGE];
 static mogedorn_bids bids;
@@ -52,6 +52,9 @@ static size_t make_file(uint8_t *file) {
 
 static uint32_t items(void) { return bids.schools + bids.slots; }
 
+/* the packages' words */
+static size_t words(void) { return 3 * bids.packages; }
+
 static void stop(const char *call, uint32_t refusal) {
     printf("%s: refused %u\n", call, (unsigned)refusal);
     exit(1);
@@ -71,25 +74,26 @@ static void timetable(const char *what, mogedorn_timetable t) {
 }
 
 static void list(uint32_t a) {
-    mogedorn_number c = mogedorn_count(items(), packages, bids.packages, table, sizeof table / 4, a, work, 2 * PLACES);
+    mogedorn_number c = mogedorn_count(items(), packages, words(), table, sizeof table / 4, a, work, 4 * PLACES);
     if (c.refusal) stop("count", c.refusal);
     printf("  %llu timetables\n", (unsigned long long)c.value);
     for (uint64_t k = 0; k < c.value; k++)
-        timetable("  packages", mogedorn_pick(items(), packages, bids.packages, table, sizeof table / 4, a, k, work, 2 * PLACES, page, PAGE));
+        timetable("  packages", mogedorn_pick(items(), packages, words(), table, sizeof table / 4, a, k, work, 4 * PLACES, page, PAGE));
 }
 
 int main(void) {
     uint8_t file[256];
     size_t length = make_file(file);
-    bids = mogedorn_read_bids(file, length, packages, 512, costs, 512);
+    bids = mogedorn_read_bids(file, length, packages, 3 * 512, costs, 512);
     if (bids.refusal) stop("read", bids.refusal);
     printf("%u schools, %u slots, %u packages\n", (unsigned)bids.schools, (unsigned)bids.slots, (unsigned)bids.packages);
-    const uint64_t everything = (1ull << items()) - 1;
-    const size_t n = bids.packages, t = sizeof table / 4, w = 2 * PLACES;
+    uint64_t everything[3];
+    mogedorn_all_items(items(), everything);
+    const size_t n = words(), t = sizeof table / 4, w = 4 * PLACES;
 
     uint32_t week = answer("cover", mogedorn_cover(items(), packages, n, table, t, everything, 1000000, work, w));
     list(week);
-    mogedorn_timetable least = mogedorn_cheapest(items(), packages, n, costs, n, table, t, week, work, w, page, PAGE);
+    mogedorn_timetable least = mogedorn_cheapest(items(), packages, n, costs, bids.packages, table, t, week, work, w, page, PAGE);
     timetable("cheapest", least);
     printf("  cost %u\n", (unsigned)least.cost);
     mogedorn_number k = mogedorn_place(items(), packages, n, table, t, week, page, least.packages, work, w);

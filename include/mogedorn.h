@@ -4,7 +4,7 @@
  *
  * Every entry is proved to do what the crate `engine` (or `bids`) promises, for any values of its arguments: see docs/STATEMENTS.md. What a C caller owes,
  * since nothing can check it here:
- *   - a pointer is not null, also where its length is 0; it is aligned for its type and points to as many elements as the length after it says;
+ *   - a pointer is not null, also where its length is 0; it is aligned for its type and points to as many elements as the length after it says, and d to three;
  *   - what an entry writes to (a pointer without const) overlaps nothing else that the same call is lent;
  *   - while a call runs, no other thread writes to what it is lent, and none reads what it may write to;
  *   - the thread has the stack that a call needs, see below.
@@ -13,9 +13,12 @@
  * Threads. The entries are reentrant. Any number of calls may run at once on different tables; calls that only read (check, count, measure, pick, place,
  * cheapest) may share a table, each with its own working words and page.
  *
+ * An item set is three 64-bit words, lowest first: item i is bit i % 64 of word i / 64.
+ *
  * The arguments that most entries share, by document 01's names:
- *   m                        M, the number of items: 0 to 64
- *   packages, packages_len   the N packages, 0 to 512: bit i of a package is item i, and none is empty
+ *   m                        M, the number of items: 0 to 192
+ *   packages, packages_len   the N packages, 0 to 512, as item sets of three words each, and none is empty. packages_len counts the words: N is
+ *                            packages_len / 3 rounded down, and one or two words left over mean nothing
  *   table, table_len         the node table, all zeros at first; c nodes need 1 + 3 c words, and no more than 65534 nodes count. Keep it as the calls
  *                            leave it. Every call checks the whole table first and reads every word: lend no longer a table than is needed
  *   work, work_len           working words: their contents mean nothing before and after a call. With too few the call is refused (8)
@@ -25,7 +28,7 @@
  * A refused call leaves table, page and buffers as they were. The first line of the table of refusals that applies is given, and only then.
  *
  * Stack and time are not proved, only that every call ends. Stack: measured by `make stack`: each entry on a stack filled with a pattern, on inputs that make
- * it go deepest, the lowest changed byte counted; here rounded up. Lend a thread that much and what its own code takes. The recursion is bounded: by 64 items in
+ * it go deepest, the lowest changed byte counted; here rounded up. Lend a thread that much and what its own code takes. The recursion is bounded: by 192 items in
  * cover, by 512 packages in the others. Time: cover is bounded by its step limit; count, measure, pick, place, cheapest, with and without go through the table;
  * either, both and only may take very long where too few words are lent for large answers, see there. A table made on purpose to fill one bucket of the node index is
  * checked in quadratic time: 65,534 nodes in 4.5 s.
@@ -45,7 +48,7 @@ extern "C" {
 
 /* The refusals [document 01's numbers]. */
 enum {
-    MOGEDORN_OVERSIZE = 1,         /* M above 64 or N above 512 */
+    MOGEDORN_OVERSIZE = 1,         /* M above 192 or N above 512 */
     MOGEDORN_STRAY = 2,            /* an empty package, or an item of M or above in one */
     MOGEDORN_COST_LIST = 3,        /* its length is not N */
     MOGEDORN_SPOILT = 4,           /* the table is not sound */
@@ -59,7 +62,7 @@ enum {
     MOGEDORN_PAST_THE_END = 12,    /* pick or measure of k at or above the count */
     MOGEDORN_NOTHING = 13,         /* cheapest of 0 */
     MOGEDORN_ABSENT = 14,          /* place of a timetable not in the answer */
-    MOGEDORN_SHORT_PAGE = 15,      /* the timetable is longer than the page; of read_bids: a buffer with fewer than N places */
+    MOGEDORN_SHORT_PAGE = 15,      /* the timetable is longer than the page; of read_bids: room for fewer than N packages or costs */
     MOGEDORN_BIDS_CUT = 20,        /* under 13 bytes, or not the length that its header asks */
     MOGEDORN_BIDS_MARK = 21,       /* not PSB */
     MOGEDORN_BIDS_VERSION = 22,    /* not 1 */
@@ -104,11 +107,14 @@ typedef struct {
 /* Whether the table is sound: 0, or the refusal 1, 2 or 4. Stack: 265 KB. */
 uint32_t mogedorn_check(uint32_t m, const uint64_t *packages, size_t packages_len, const uint32_t *table, size_t table_len);
 
-/* The timetables that cover the item set d: bit i is item i. At most `limit` steps. Two working words are one place of the memo: at least 2, and the more
-   the fewer steps. Lend an odd, best a prime number of places, since a set's place is the set modulo their number.
-   Refusals 1, 2, 4, 7, 8, 9, 10. Stack: 283 KB. */
-mogedorn_report mogedorn_cover(uint32_t m, const uint64_t *packages, size_t packages_len, uint32_t *table, size_t table_len, uint64_t d, uint32_t limit,
-                               uint64_t *work, size_t work_len);
+/* Writes the set of all items below m to d, what cover of a whole week takes; of an m above 192 the set of 192 items. Stack: 1 KB. */
+void mogedorn_all_items(uint32_t m, uint64_t d[3]);
+
+/* The timetables that cover the item set d. At most `limit` steps. Four working words are one place of the memo, three for a set and one for its answer: at
+   least 4, P is work_len / 4 rounded down, and the more places the fewer steps. Lend an odd, best a prime number of places: a set's place is its value as a
+   192-bit number modulo P. Refusals 1, 2, 4, 7, 8, 9, 10. Stack: 338 KB. */
+mogedorn_report mogedorn_cover(uint32_t m, const uint64_t *packages, size_t packages_len, uint32_t *table, size_t table_len, const uint64_t d[3],
+                               uint32_t limit, uint64_t *work, size_t work_len);
 
 /* The timetables of a or b; of a and b; of a and not of b. At least 2 working words. Refusals 1, 2, 4, 5, 8, 10. Stack: 642 KB.
    Results of pairs of nodes are remembered in the working words where these are 131,072 or more, two results a word, otherwise in 65,536 places of the
@@ -157,8 +163,8 @@ mogedorn_timetable mogedorn_cheapest(uint32_t m, const uint64_t *packages, size_
                                      const uint32_t *table, size_t table_len, uint32_t answer, uint64_t *work, size_t work_len, uint16_t *page,
                                      size_t page_len);
 
-/* Reads a bids file: its N packages as item sets and their costs, to the start of the buffers, whose rest is unchanged. M is then schools + slots.
-   Refusals 20 to 27, and 15. Stack: 1 KB. */
+/* Reads a bids file: its N packages as item sets, three words each, and their costs, to the start of the buffers, whose rest is unchanged. The buffers have at
+   least 3 N words and N costs (15). M is then schools + slots, at most 64. Refusals 20 to 27, and 15. Stack: 1 KB. */
 mogedorn_bids mogedorn_read_bids(const uint8_t *file, size_t file_len, uint64_t *packages, size_t packages_len, uint16_t *costs, size_t costs_len);
 
 #ifdef __cplusplus

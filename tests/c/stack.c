@@ -7,13 +7,13 @@
 
 #include "mogedorn.h"
 
-enum { STACK = 8 << 20, PATTERN = 0xA5, N = 512, NODES = 65534 };
+enum { STACK = 8 << 20, PATTERN = 0xA5, M = 192, N = 512, NODES = 65534 };
 
 static unsigned char stack[STACK];
 static ucontext_t main_context, call_context;
 static void (*current)(void);
 
-static uint64_t packages[N], pairs[128], work[4 * NODES];
+static uint64_t packages[3 * N], pairs[3 * 2 * M], everything[3], work[4 * NODES];
 static uint16_t costs[N], page[N], list[N];
 static uint32_t table[1 + 3 * NODES], pairs_table[1 + 3 * NODES];
 static uint32_t all, subsets;
@@ -51,21 +51,24 @@ static void deep_table(void) {
     all = one, subsets = any;
 }
 
-static void do_check(void) { refused |= mogedorn_check(64, packages, N, table, sizeof table / 4); }
-/* search goes down one item a time: 64 items with two packages each */
-static void do_cover(void) { refused |= mogedorn_cover(64, pairs, 128, pairs_table, sizeof pairs_table / 4, UINT64_MAX, 1000000, work, 2003).refusal; }
-static void do_either(void) { refused |= mogedorn_either(64, packages, N, table, sizeof table / 4, all, subsets, work, 2).refusal; }
-static void do_both(void) { refused |= mogedorn_both(64, packages, N, table, sizeof table / 4, all, subsets, work, 2).refusal; }
-static void do_only(void) { refused |= mogedorn_only(64, packages, N, table, sizeof table / 4, subsets, all, work, 2).refusal; }
-static void do_with(void) { refused |= mogedorn_with(64, packages, N, table, sizeof table / 4, all, N - 1, work, 2).refusal; }
-static void do_without(void) { refused |= mogedorn_without(64, packages, N, table, sizeof table / 4, all, N - 1, work, 2).refusal; }
-static void do_count(void) { refused |= mogedorn_count(64, packages, N, table, sizeof table / 4, all, work, 4 * NODES).refusal; }
-static void do_pick(void) { refused |= mogedorn_pick(64, packages, N, table, sizeof table / 4, all, 0, work, 4 * NODES, page, N).refusal; }
-static void do_measure(void) { refused |= mogedorn_measure(64, packages, N, table, sizeof table / 4, all, 0, work, 4 * NODES).refusal; }
-static void do_place(void) { refused |= mogedorn_place(64, packages, N, table, sizeof table / 4, all, list, N, work, 4 * NODES).refusal; }
-static void do_cheapest(void) { refused |= mogedorn_cheapest(64, packages, N, costs, N, table, sizeof table / 4, all, work, 4 * NODES, page, N).refusal; }
+static void do_check(void) { refused |= mogedorn_check(M, packages, 3 * N, table, sizeof table / 4); }
+static void do_all_items(void) { mogedorn_all_items(M, everything); }
+/* search goes down one item a time: 192 items with two packages each */
+static void do_cover(void) {
+    refused |= mogedorn_cover(M, pairs, 3 * 2 * M, pairs_table, sizeof pairs_table / 4, everything, 1000000, work, 4 * 503).refusal;
+}
+static void do_either(void) { refused |= mogedorn_either(M, packages, 3 * N, table, sizeof table / 4, all, subsets, work, 2).refusal; }
+static void do_both(void) { refused |= mogedorn_both(M, packages, 3 * N, table, sizeof table / 4, all, subsets, work, 2).refusal; }
+static void do_only(void) { refused |= mogedorn_only(M, packages, 3 * N, table, sizeof table / 4, subsets, all, work, 2).refusal; }
+static void do_with(void) { refused |= mogedorn_with(M, packages, 3 * N, table, sizeof table / 4, all, N - 1, work, 2).refusal; }
+static void do_without(void) { refused |= mogedorn_without(M, packages, 3 * N, table, sizeof table / 4, all, N - 1, work, 2).refusal; }
+static void do_count(void) { refused |= mogedorn_count(M, packages, 3 * N, table, sizeof table / 4, all, work, 4 * NODES).refusal; }
+static void do_pick(void) { refused |= mogedorn_pick(M, packages, 3 * N, table, sizeof table / 4, all, 0, work, 4 * NODES, page, N).refusal; }
+static void do_measure(void) { refused |= mogedorn_measure(M, packages, 3 * N, table, sizeof table / 4, all, 0, work, 4 * NODES).refusal; }
+static void do_place(void) { refused |= mogedorn_place(M, packages, 3 * N, table, sizeof table / 4, all, list, N, work, 4 * NODES).refusal; }
+static void do_cheapest(void) { refused |= mogedorn_cheapest(M, packages, 3 * N, costs, N, table, sizeof table / 4, all, work, 4 * NODES, page, N).refusal; }
 
-static void do_read_bids(void) { refused |= mogedorn_read_bids(file, sizeof file, packages, N, costs, N).refusal; }
+static void do_read_bids(void) { refused |= mogedorn_read_bids(file, sizeof file, packages, 3 * N, costs, N).refusal; }
 
 /* A file of 64 schools with one package each. */
 static void make_file(void) {
@@ -79,14 +82,19 @@ static void make_file(void) {
     for (int i = 0; i < 4; i++) file[sizeof file - 4 + i] = (uint8_t)(h >> 8 * i);
 }
 
+/* Package p becomes the single item. */
+static void single(uint64_t *sets, int p, int item) { sets[3 * p + item / 64] = 1ull << (item % 64); }
+
 int main(void) {
-    for (int p = 0; p < N; p++) packages[p] = 1ull << (p / 8), list[p] = (uint16_t)p;
-    for (int p = 0; p < 128; p++) pairs[p] = 1ull << (p / 2);
+    for (int p = 0; p < N; p++) single(packages, p, p * M / N), list[p] = (uint16_t)p;
+    for (int p = 0; p < 2 * M; p++) single(pairs, p, p / 2);
+    mogedorn_all_items(M, everything);
     deep_table();
     make_file();
     static const struct { const char *name; void (*call)(void); } calls[] = {
-        {"check", do_check}, {"cover", do_cover}, {"either", do_either}, {"both", do_both}, {"only", do_only}, {"with", do_with}, {"without", do_without},
-        {"count", do_count}, {"measure", do_measure}, {"pick", do_pick}, {"place", do_place}, {"cheapest", do_cheapest}, {"read_bids", do_read_bids},
+        {"check", do_check}, {"all_items", do_all_items}, {"cover", do_cover}, {"either", do_either}, {"both", do_both}, {"only", do_only},
+        {"with", do_with}, {"without", do_without}, {"count", do_count}, {"measure", do_measure}, {"pick", do_pick}, {"place", do_place},
+        {"cheapest", do_cheapest}, {"read_bids", do_read_bids},
     };
     for (size_t i = 0; i < sizeof calls / sizeof *calls; i++) {
         refused = 0;
