@@ -1,7 +1,7 @@
 //! Random and damaged bids files.
 
 use crate::ffi;
-use crate::model::{fnv, read_bids};
+use crate::model::{fnv, lent, read_bids};
 use crate::rng::Rng;
 
 /// Reads a few files, and counts the outcomes.
@@ -11,17 +11,18 @@ pub fn some_files(rng: &mut Rng, outcomes: &mut [u64; 32]) -> u64 {
         let file = random_file(rng);
         let expected = read_bids(&file);
         let n = expected.as_ref().map_or(0, |f| f.packages.len());
-        let mut packages = buffer(rng, n);
+        let words = 3 * n;
+        let mut packages = buffer(rng, words);
         let mut costs: Vec<u16> = buffer(rng, n).iter().map(|&w| w as u16).collect();
         let (packages_before, costs_before) = (packages.clone(), costs.clone());
         let got = ffi::read_bids(&file, &mut packages, &mut costs);
         outcomes[got.refusal as usize] += 1;
         match expected {
-            Ok(f) if n <= packages.len() && n <= costs.len() => {
+            Ok(f) if words <= packages.len() && n <= costs.len() => {
                 assert_eq!(got, ffi::Bids { refusal: 0, schools: f.schools, slots: f.slots, packages: n as u64 }, "file {file:?}");
-                assert_eq!((&packages[..n], &costs[..n]), (&f.packages[..], &f.costs[..]), "file {file:?}");
-                assert_eq!((&packages[n..], &costs[n..]), (&packages_before[n..], &costs_before[n..]), "file {file:?}");
-                assert_eq!(ffi::check(f.schools + f.slots, &packages[..n], &[0]), 0, "file {file:?}");
+                assert_eq!((&packages[..words], &costs[..n]), (&lent(&f.packages)[..], &f.costs[..]), "file {file:?}");
+                assert_eq!((&packages[words..], &costs[n..]), (&packages_before[words..], &costs_before[n..]), "file {file:?}");
+                assert_eq!(ffi::check(f.schools + f.slots, &packages[..words], &[0]), 0, "file {file:?}");
             }
             other => {
                 let refusal = other.err().unwrap_or(15);
@@ -33,8 +34,13 @@ pub fn some_files(rng: &mut Rng, outcomes: &mut [u64; 32]) -> u64 {
     files
 }
 
-fn buffer(rng: &mut Rng, n: usize) -> Vec<u64> {
-    let long = if rng.once_in(8) { rng.below(n as u64 + 1) } else { n as u64 + rng.below(3) };
+/// At least so many words, rarely fewer, often by one.
+fn buffer(rng: &mut Rng, words: usize) -> Vec<u64> {
+    let long = match rng.below(16) {
+        0 => rng.below(words as u64 + 1),
+        1 => (words as u64).saturating_sub(1),
+        _ => words as u64 + rng.below(3),
+    };
     (0..long).map(|_| rng.next()).collect()
 }
 

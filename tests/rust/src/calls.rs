@@ -1,7 +1,7 @@
 //! A random history of calls, each compared with the model.
 
 use crate::ffi;
-use crate::model::{below, capacity, Family, Packages};
+use crate::model::{below, capacity, lent, Family, Packages, Set, ITEMS};
 use crate::rng::Rng;
 use std::collections::HashSet;
 
@@ -13,8 +13,12 @@ const STEPS: u64 = 20_000;
 pub struct History {
     rng: Rng,
     m: u32,
-    sets: Vec<u64>,
+    sets: Vec<Set>,
+    /// The packages as they are lent: words that do not make up a package may follow.
+    words: Vec<u64>,
     table: Vec<u32>,
+    /// The working words as the last cover left them.
+    left: Vec<u64>,
     /// What each number of the table holds, while the table is sound.
     known: Vec<Family>,
     /// The ledger: an answer given and the set that the definitions give it.
@@ -41,7 +45,13 @@ impl History {
             2 => rng.from(10, 60),
             _ => 1 + 3 * rng.from(30, 300),
         };
-        let mut history = History { rng, m, sets, table: vec![0; words as usize], known: Vec::new(), ledger: Vec::new(), strict, calls: 0, outcomes: [0; 32] };
+        let table = vec![0; words as usize];
+        let mut words = lent(&sets);
+        if rng.once_in(3) {
+            words.extend((0..rng.from(1, 2)).map(|_| rng.next()).collect::<Vec<u64>>());
+        }
+        let (known, ledger, left) = (Vec::new(), Vec::new(), Vec::new());
+        let mut history = History { rng, m, sets, words, table, left, known, ledger, strict, calls: 0, outcomes: [0; 32] };
         history.learn();
         history
     }
@@ -134,25 +144,43 @@ impl History {
 
     // ---- the calls that make an answer
 
-    fn cover(&mut self) {
-        let d = match self.rng.below(6) {
-            0 => self.rng.next() & self.rng.next(),
-            1 => 0,
-            2 | 3 => self.sets.iter().fold(0, |a, s| a | s),
+    /// A set to cover, rarely with an item next to M or in the highest word.
+    fn items(&mut self) -> Set {
+        let mut d = match self.rng.below(6) {
+            0 => Set([0; 3].map(|_| self.rng.next() & self.rng.next())),
+            1 => Set::NONE,
+            2 | 3 => self.sets.iter().fold(Set::NONE, |a, &s| a.or(s)),
             _ => {
-                let mut d = 0;
-                for s in self.sets.clone() {
-                    if self.rng.once_in(2) {
-                        d |= s;
-                    }
-                }
-                d
+                let some: Vec<Set> = self.sets.iter().copied().filter(|_| self.rng.once_in(2)).collect();
+                some.iter().fold(Set::NONE, |a, &s| a.or(s))
             }
         };
-        let mut work = if self.rng.once_in(3) { self.work(2) } else { vec![7; self.rng.from(20, 140) as usize] };
+        match self.rng.below(24) {
+            0 => d.add(self.rng.from(128, 191) as u32),
+            1 => d.add(self.m.min(ITEMS - 1)),
+            2 => d.add(self.m.saturating_sub(1).min(ITEMS - 1)),
+            _ => {}
+        }
+        d
+    }
+
+    /// Working words for cover: few places, so that sets push each other out, or more, or what the last cover left, which is not to be believed.
+    fn memo(&mut self) -> Vec<u64> {
+        match self.rng.below(8) {
+            0 | 1 => self.work(4),
+            2 => vec![7; self.rng.from(0, 20) as usize],
+            3 if !self.left.is_empty() => self.left.clone(),
+            4 => vec![7; self.rng.from(280, 20_000) as usize],
+            _ => vec![7; self.rng.from(20, 280) as usize],
+        }
+    }
+
+    fn cover(&mut self) {
+        let d = self.items();
+        let mut work = self.memo();
         let s = Packages::new(self.m, &self.sets);
-        let places = work.len() / 2;
-        let fits = self.first_refusal() == 0 && (0..64).all(|i| d >> i & 1 == 0 || i < self.m);
+        let places = work.len() / 4;
+        let fits = self.first_refusal() == 0 && d.below(self.m);
         let steps = if fits && places > 0 { s.steps(d, places, STEPS) } else { 0 };
         let limit = match self.rng.below(5) {
             0 => steps.saturating_sub(1),
@@ -171,8 +199,9 @@ impl History {
             r => Expected::Refused(r),
         };
         let before = self.table.clone();
-        let got = ffi::cover(self.m, &self.sets, &mut self.table, d, limit, &mut work);
-        self.compare(&format!("cover {d} limit {limit} words {}", work.len()), &before, expected, got);
+        let got = ffi::cover(self.m, &self.words, &mut self.table, &d.0, limit, &mut work);
+        self.compare(&format!("cover {d:?} limit {limit} words {}", work.len()), &before, expected, got);
+        self.left = work;
     }
 
     /// either, both, only, with, without.
@@ -208,7 +237,7 @@ impl History {
             r => Expected::Refused(r),
         };
         let before = self.table.clone();
-        let got = ffi::combine(op, self.m, &self.sets, &mut self.table, a, b, &mut work);
+        let got = ffi::combine(op, self.m, &self.words, &mut self.table, a, b, &mut work);
         self.compare(&format!("call {op} of {a} and {b}"), &before, expected, got);
     }
 
@@ -271,23 +300,23 @@ impl History {
         let mut work = vec![0; a as usize + 1];
         for (k, t) in s.listing(&f).into_iter().enumerate() {
             let mut page = vec![9999; 12];
-            let got = ffi::pick(self.m, &self.sets, &self.table, a, k as u64, &mut work, &mut page);
+            let got = ffi::pick(self.m, &self.words, &self.table, a, k as u64, &mut work, &mut page);
             let written = s.written(t);
             assert_eq!((got.refusal, got.packages), (0, written.len() as u64), "pick {k} of {a}");
             assert_eq!(page[..written.len()], written[..], "pick {k} of {a}");
-            let measured = ffi::measure(self.m, &self.sets, &self.table, a, k as u64, &mut work);
+            let measured = ffi::measure(self.m, &self.words, &self.table, a, k as u64, &mut work);
             assert_eq!(measured, ffi::Number { refusal: 0, value: got.packages }, "measure {k} of {a}");
         }
-        let past = ffi::pick(self.m, &self.sets, &self.table, a, f.len(), &mut work, &mut [0; 12]);
+        let past = ffi::pick(self.m, &self.words, &self.table, a, f.len(), &mut work, &mut [0; 12]);
         assert_eq!(past.refusal, 12);
-        let past = ffi::measure(self.m, &self.sets, &self.table, a, f.len(), &mut work);
+        let past = ffi::measure(self.m, &self.words, &self.table, a, f.len(), &mut work);
         assert_eq!(past, ffi::Number { refusal: 12, value: 0 });
     }
 
     // ---- the questions
 
     fn check(&mut self) {
-        let got = ffi::check(self.m, &self.sets, &self.table);
+        let got = ffi::check(self.m, &self.words, &self.table);
         self.told(got);
         assert_eq!(got, self.first_refusal(), "check");
     }
@@ -307,7 +336,7 @@ impl History {
     fn count(&mut self) {
         let a = self.operand();
         let mut work = self.work((a as u64 + 1).min(2000));
-        let got = ffi::count(self.m, &self.sets, &self.table, a, &mut work);
+        let got = ffi::count(self.m, &self.words, &self.table, a, &mut work);
         self.told(got.refusal);
         let expected = match self.question_refusal(a, &work, true, None) {
             0 => ffi::Number { refusal: 0, value: self.known[a as usize].len() },
@@ -341,7 +370,7 @@ impl History {
         let (a, k, list, mut work, refusal) = self.kth();
         let mut page = self.page(list.len());
         let before = page.clone();
-        let got = ffi::pick(self.m, &self.sets, &self.table, a, k, &mut work, &mut page);
+        let got = ffi::pick(self.m, &self.words, &self.table, a, k, &mut work, &mut page);
         self.told(got.refusal);
         let refusal = if refusal == 0 && list.len() > before.len() { 15 } else { refusal };
         compare_page(&format!("pick {k} of {a}"), refusal, &list, 0, &before, &page, got);
@@ -350,15 +379,15 @@ impl History {
     /// measure, and with the same working words pick on a page with just that many places and on one with one less.
     fn measure(&mut self) {
         let (a, k, list, mut work, refusal) = self.kth();
-        let got = ffi::measure(self.m, &self.sets, &self.table, a, k, &mut work);
+        let got = ffi::measure(self.m, &self.words, &self.table, a, k, &mut work);
         self.told(got.refusal);
         assert_eq!(got, ffi::Number { refusal, value: if refusal == 0 { list.len() as u64 } else { 0 } }, "measure {k} of {a}");
         let mut page = vec![9999; got.value as usize];
-        let picked = ffi::pick(self.m, &self.sets, &self.table, a, k, &mut work, &mut page);
+        let picked = ffi::pick(self.m, &self.words, &self.table, a, k, &mut work, &mut page);
         assert_eq!((picked.refusal, picked.packages), (got.refusal, got.value), "pick {k} of {a} as measured");
         if page.pop().is_some() {
             page.fill(9999);
-            let short = ffi::pick(self.m, &self.sets, &self.table, a, k, &mut work, &mut page);
+            let short = ffi::pick(self.m, &self.words, &self.table, a, k, &mut work, &mut page);
             assert_eq!((short.refusal, short.packages), (15, 0), "pick {k} of {a} on a page with one place less");
             assert!(page.iter().all(|&p| p == 9999), "pick {k} of {a}: refused, and the page changed");
         }
@@ -383,7 +412,7 @@ impl History {
             _ => {}
         }
         let mut work = self.work((a as u64 + 1).min(2000));
-        let got = ffi::place(self.m, &self.sets, &self.table, a, &list, &mut work);
+        let got = ffi::place(self.m, &self.words, &self.table, a, &list, &mut work);
         self.told(got.refusal);
         let refusal = self.question_refusal(a, &work, true, Some(&list));
         let mask = list.iter().fold(0u32, |t, &p| t | 1u32.checked_shl(p as u32).unwrap_or(0));
@@ -413,7 +442,7 @@ impl History {
         let mut work = self.work((a as u64 + 1).min(2000));
         let mut page = self.page(list.len());
         let before = page.clone();
-        let got = ffi::cheapest(self.m, &self.sets, &costs, &self.table, a, &mut work, &mut page);
+        let got = ffi::cheapest(self.m, &self.words, &costs, &self.table, a, &mut work, &mut page);
         self.told(got.refusal);
         let refusal = match self.question_refusal(a, &work, costs.len() == s.n(), None) {
             0 if a == 0 => 13,
@@ -481,33 +510,61 @@ fn compare_page(call: &str, refusal: u32, list: &[u16], cost: u32, before: &[u16
 }
 
 /// Several packages for each of a few items: a cover has many timetables, and so the parts of it are many sets.
-fn many_timetables(rng: &mut Rng) -> (u32, Vec<u64>) {
-    let m = rng.from(2, 4);
-    let sets = (0..rng.from(6, MOST)).map(|p| 1 << (p % m) | if rng.once_in(6) { 1 << rng.below(m) } else { 0 }).collect();
-    (m as u32, sets)
+fn many_timetables(rng: &mut Rng) -> (u32, Vec<Set>) {
+    let few = rng.from(2, 4);
+    let m = if rng.once_in(2) { few as u32 } else { random_m(rng).clamp(few as u32, ITEMS) };
+    let mut items: Vec<u32> = Vec::new();
+    while items.len() < few as usize {
+        let i = random_item(rng, m);
+        if !items.contains(&i) {
+            items.push(i);
+        }
+    }
+    let mut sets: Vec<Set> = (0..rng.from(6, MOST)).map(|p| Set::of([items[(p % few) as usize]])).collect();
+    for s in &mut sets {
+        if rng.once_in(6) {
+            s.add(items[rng.below(few) as usize]);
+        }
+    }
+    (m, sets)
+}
+
+/// M: mostly small, often next to where a word ends, rarely above the greatest.
+fn random_m(rng: &mut Rng) -> u32 {
+    const BORDERS: [u32; 9] = [63, 64, 65, 127, 128, 129, 191, 192, 193];
+    match rng.below(12) {
+        0 => rng.below(3) as u32,
+        1..=4 => BORDERS[rng.below(9) as usize],
+        5 | 6 => rng.from(11, 200) as u32,
+        _ => rng.from(2, 10) as u32,
+    }
+}
+
+/// An item below m, often one where a word begins or ends.
+fn random_item(rng: &mut Rng, m: u32) -> u32 {
+    let border = [0, 63, 64, 127, 128, 191][rng.below(6) as usize];
+    if border < m && rng.once_in(2) {
+        return border;
+    }
+    rng.below(m as u64) as u32
 }
 
 /// Packages over a few items, which lie anywhere below M.
-fn random_packages(rng: &mut Rng) -> (u32, Vec<u64>) {
-    let m = match rng.below(12) {
-        0 => rng.below(3),
-        1 => 64,
-        2 => rng.from(60, 70),
-        _ => rng.from(2, 10),
-    } as u32;
-    let items: Vec<u64> = (0..rng.from(1, 7)).map(|_| rng.below(m.clamp(1, 64) as u64)).collect();
+fn random_packages(rng: &mut Rng) -> (u32, Vec<Set>) {
+    let m = random_m(rng);
+    let items: Vec<u32> = (0..rng.from(1, 7)).map(|_| random_item(rng, m.clamp(1, ITEMS))).collect();
     let n = match rng.below(30) {
         0 => rng.from(0, 1),
         1 => rng.from(510, 514),
         _ => rng.from(2, MOST),
     };
     let heavy = rng.from(2, 4);
-    let mut sets: Vec<u64> = (0..n)
+    let mut sets: Vec<Set> = (0..n)
         .map(|_| {
-            let mut s = 1 << items[rng.below(items.len() as u64) as usize];
+            let mut s = Set::of([items[rng.below(items.len() as u64) as usize]]);
             for &i in &items {
                 if rng.once_in(heavy) {
-                    s |= 1 << i;
+                    s.add(i);
                 }
             }
             s
@@ -518,10 +575,14 @@ fn random_packages(rng: &mut Rng) -> (u32, Vec<u64>) {
     }
     if n > MOST {
         // too many for the model: spoil one, so that every call is refused by 2
-        sets[rng.below(n) as usize] = 0;
+        sets[rng.below(n) as usize] = Set::NONE;
     } else if rng.once_in(20) && n > 0 {
         let k = rng.below(n) as usize;
-        sets[k] = if rng.once_in(2) { 0 } else { rng.next() };
+        match rng.below(3) {
+            0 => sets[k] = Set::NONE,
+            1 => sets[k] = Set([0; 3].map(|_| rng.next())),
+            _ => sets[k].add(m.min(ITEMS - 1)),
+        }
     } else if rng.once_in(4) && n > 1 {
         sets[0] = sets[n as usize - 1];
     }

@@ -1,4 +1,4 @@
-//! The entries of include/mogedorn.h, on slices.
+//! The entries of include/mogedorn.h, on slices: packages are lent as words, three a package.
 
 #[repr(C)]
 #[derive(Clone, Copy, Debug, PartialEq, Eq)]
@@ -37,7 +37,7 @@ type Combine = unsafe extern "C" fn(u32, *const u64, usize, *mut u32, usize, u32
 
 extern "C" {
     fn mogedorn_check(m: u32, p: *const u64, pn: usize, t: *const u32, tn: usize) -> u32;
-    fn mogedorn_cover(m: u32, p: *const u64, pn: usize, t: *mut u32, tn: usize, d: u64, limit: u32, w: *mut u64, wn: usize) -> Report;
+    fn mogedorn_cover(m: u32, p: *const u64, pn: usize, t: *mut u32, tn: usize, d: *const u64, limit: u32, w: *mut u64, wn: usize) -> Report;
     fn mogedorn_either(m: u32, p: *const u64, pn: usize, t: *mut u32, tn: usize, a: u32, b: u32, w: *mut u64, wn: usize) -> Report;
     fn mogedorn_both(m: u32, p: *const u64, pn: usize, t: *mut u32, tn: usize, a: u32, b: u32, w: *mut u64, wn: usize) -> Report;
     fn mogedorn_only(m: u32, p: *const u64, pn: usize, t: *mut u32, tn: usize, a: u32, b: u32, w: *mut u64, wn: usize) -> Report;
@@ -61,6 +61,7 @@ extern "C" {
         g: *mut u16,
         gn: usize,
     ) -> Timetable;
+    fn mogedorn_all_items(m: u32, d: *mut u64);
     fn mogedorn_read_bids(f: *const u8, fnn: usize, p: *mut u64, pn: usize, c: *mut u16, cn: usize) -> Bids;
 }
 
@@ -68,8 +69,8 @@ pub fn check(m: u32, s: &[u64], t: &[u32]) -> u32 {
     unsafe { mogedorn_check(m, s.as_ptr(), s.len(), t.as_ptr(), t.len()) }
 }
 
-pub fn cover(m: u32, s: &[u64], t: &mut [u32], d: u64, limit: u32, w: &mut [u64]) -> Report {
-    unsafe { mogedorn_cover(m, s.as_ptr(), s.len(), t.as_mut_ptr(), t.len(), d, limit, w.as_mut_ptr(), w.len()) }
+pub fn cover(m: u32, s: &[u64], t: &mut [u32], d: &[u64; 3], limit: u32, w: &mut [u64]) -> Report {
+    unsafe { mogedorn_cover(m, s.as_ptr(), s.len(), t.as_mut_ptr(), t.len(), d.as_ptr(), limit, w.as_mut_ptr(), w.len()) }
 }
 
 /// either, both, only, with, without: 0 to 4.
@@ -111,6 +112,13 @@ pub fn cheapest(m: u32, s: &[u64], costs: &[u16], t: &[u32], a: u32, w: &mut [u6
             page.len(),
         )
     }
+}
+
+/// Three words that held something else.
+pub fn all_items(m: u32) -> [u64; 3] {
+    let mut d = [0x5555_5555_5555_5555; 3];
+    unsafe { mogedorn_all_items(m, d.as_mut_ptr()) };
+    d
 }
 
 pub fn read_bids(file: &[u8], packages: &mut [u64], costs: &mut [u16]) -> Bids {

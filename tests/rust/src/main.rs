@@ -16,7 +16,13 @@ fn main() {
     let mut args = std::env::args().skip(1).map(|a| a.parse::<u64>().expect("a number"));
     let first = args.next().unwrap_or(1);
     let most = args.next().unwrap_or(120_000);
-    edge::sixty_four_bits();
+    edge::all_items();
+    edge::each_m();
+    edge::list_lengths();
+    edge::figure_one();
+    edge::one_by_one();
+    edge::sixty_four_bits(1);
+    edge::sixty_four_bits(3);
     edge::greatest_cost();
     edge::last_number();
     let (mut calls, mut files, mut seed) = (0, 0, first);

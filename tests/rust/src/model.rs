@@ -3,6 +3,67 @@
 
 use std::collections::HashSet;
 
+/// The greatest number of items.
+pub const ITEMS: u32 = 192;
+
+/// A set of items, as the interface has it: item i is bit i % 64 of word i / 64.
+#[derive(Clone, Copy, PartialEq, Eq, Debug)]
+pub struct Set(pub [u64; 3]);
+
+impl Set {
+    pub const NONE: Set = Set([0; 3]);
+
+    pub fn of(items: impl IntoIterator<Item = u32>) -> Set {
+        let mut s = Set::NONE;
+        items.into_iter().for_each(|i| s.add(i));
+        s
+    }
+
+    pub fn add(&mut self, i: u32) {
+        self.0[i as usize / 64] |= 1 << (i % 64);
+    }
+
+    pub fn has(self, i: u32) -> bool {
+        self.0[i as usize / 64] >> (i % 64) & 1 == 1
+    }
+
+    pub fn items(self) -> impl Iterator<Item = u32> {
+        (0..ITEMS).filter(move |&i| self.has(i))
+    }
+
+    /// The least item; of the empty set the number that no item has.
+    pub fn lowest(self) -> u32 {
+        self.items().next().unwrap_or(ITEMS)
+    }
+
+    pub fn below(self, m: u32) -> bool {
+        self.items().all(|i| i < m)
+    }
+
+    pub fn or(self, other: Set) -> Set {
+        Set([0, 1, 2].map(|j| self.0[j] | other.0[j]))
+    }
+
+    pub fn without(self, other: Set) -> Set {
+        Set([0, 1, 2].map(|j| self.0[j] & !other.0[j]))
+    }
+
+    pub fn inside(self, other: Set) -> bool {
+        self.without(other) == Set::NONE
+    }
+
+    /// The set as a number of 192 bits, modulo so many places: long division, a word at a time.
+    pub fn place(self, places: usize) -> usize {
+        let rest = self.0.iter().rev().fold(0, |rest: u128, &word| (rest << 64 | word as u128) % places as u128);
+        rest as usize
+    }
+}
+
+/// The packages as they are lent.
+pub fn lent(sets: &[Set]) -> Vec<u64> {
+    sets.iter().flat_map(|s| s.0).collect()
+}
+
 /// A set of timetables: bit t of the words, for the timetable with the mask t.
 #[derive(Clone, PartialEq, Eq, Hash, Debug)]
 pub struct Family(Vec<u64>);
@@ -46,16 +107,18 @@ impl Family {
 /// The packages of a call.
 pub struct Packages<'a> {
     pub m: u32,
-    pub sets: &'a [u64],
+    pub sets: &'a [Set],
+    lowest: Vec<u32>,
     /// The packages in precedence.
     pub order: Vec<usize>,
 }
 
 impl<'a> Packages<'a> {
-    pub fn new(m: u32, sets: &'a [u64]) -> Packages<'a> {
+    pub fn new(m: u32, sets: &'a [Set]) -> Packages<'a> {
+        let lowest: Vec<u32> = sets.iter().map(|s| s.lowest()).collect();
         let mut order: Vec<usize> = (0..sets.len()).collect();
-        order.sort_by_key(|&p| (sets[p].trailing_zeros(), p));
-        Packages { m, sets, order }
+        order.sort_by_key(|&p| (lowest[p], p));
+        Packages { m, sets, lowest, order }
     }
 
     pub fn n(&self) -> usize {
@@ -64,7 +127,7 @@ impl<'a> Packages<'a> {
 
     /// p comes before q.
     pub fn before(&self, p: usize, q: usize) -> bool {
-        (self.sets[p].trailing_zeros(), p) < (self.sets[q].trailing_zeros(), q)
+        (self.lowest[p], p) < (self.lowest[q], q)
     }
 
     /// A timetable as it is written.
@@ -88,13 +151,13 @@ impl<'a> Packages<'a> {
         all
     }
 
-    fn covers(&self, t: u32, d: u64) -> bool {
-        let chosen: Vec<u64> = (0..self.n()).filter(|&p| t >> p & 1 == 1).map(|p| self.sets[p]).collect();
-        chosen.iter().all(|&s| s & !d == 0) && (0..64).filter(|&i| d >> i & 1 == 1).all(|i| chosen.iter().filter(|&&s| s >> i & 1 == 1).count() == 1)
+    fn covers(&self, t: u32, d: Set) -> bool {
+        let chosen: Vec<Set> = (0..self.n()).filter(|&p| t >> p & 1 == 1).map(|p| self.sets[p]).collect();
+        chosen.iter().all(|s| s.inside(d)) && d.items().all(|i| chosen.iter().filter(|s| s.has(i)).count() == 1)
     }
 
     /// The timetables that cover d.
-    pub fn covering(&self, d: u64) -> Family {
+    pub fn covering(&self, d: Set) -> Family {
         let mut f = Family::none(self.n());
         for t in 0..1u32 << self.n() {
             if self.covers(t, d) {
@@ -105,27 +168,27 @@ impl<'a> Packages<'a> {
     }
 
     /// The entries into Search with a memo of `places` places, stopped at `most`.
-    pub fn steps(&self, d: u64, places: usize, most: u64) -> u64 {
-        let mut memo: Vec<Option<u64>> = vec![None; places];
+    pub fn steps(&self, d: Set, places: usize, most: u64) -> u64 {
+        let mut memo: Vec<Option<Set>> = vec![None; places];
         let mut steps = 0;
         self.search(d, &mut memo, &mut steps, most);
         steps
     }
 
-    fn search(&self, a: u64, memo: &mut Vec<Option<u64>>, steps: &mut u64, most: u64) {
+    fn search(&self, a: Set, memo: &mut Vec<Option<Set>>, steps: &mut u64, most: u64) {
         *steps += 1;
-        if a == 0 || *steps > most {
+        if a == Set::NONE || *steps > most {
             return;
         }
-        let place = (a % memo.len() as u64) as usize;
+        let place = a.place(memo.len());
         if memo[place] == Some(a) {
             return;
         }
-        let lowest = a.trailing_zeros();
+        let lowest = a.lowest();
         for p in (0..self.n()).rev() {
             let s = self.sets[p];
-            if s >> lowest & 1 == 1 && s & !a == 0 {
-                self.search(a & !s, memo, steps, most);
+            if s.has(lowest) && s.inside(a) {
+                self.search(a.without(s), memo, steps, most);
             }
         }
         memo[place] = Some(a);
@@ -160,11 +223,10 @@ impl<'a> Packages<'a> {
 
     /// 1 oversize, 2 stray, or 0.
     pub fn refusal(&self) -> u32 {
-        if self.m > 64 || self.n() > 512 {
+        if self.m > ITEMS || self.n() > 512 {
             return 1;
         }
-        let item_above = |s: u64| (0..64).any(|i| s >> i & 1 == 1 && i >= self.m);
-        if self.sets.iter().any(|&s| s == 0 || item_above(s)) {
+        if self.sets.iter().any(|&s| s == Set::NONE || !s.below(self.m)) {
             return 2;
         }
         0
@@ -231,7 +293,7 @@ pub fn capacity(t: &[u32]) -> usize {
 pub struct BidsFile {
     pub schools: u32,
     pub slots: u32,
-    pub packages: Vec<u64>,
+    pub packages: Vec<Set>,
     pub costs: Vec<u16>,
 }
 
@@ -265,14 +327,15 @@ pub fn read_bids(b: &[u8]) -> Result<BidsFile, u32> {
         return Err(25);
     }
     let records: Vec<&[u8]> = (0..n).map(|k| &b[9 + 2 * s + 12 * k..21 + 2 * s + 12 * k]).collect();
-    let slots = |r: &[u8]| u64::from_le_bytes(r[2..10].try_into().unwrap());
-    if records.iter().any(|r| !schools.contains(&&r[..2]) || (0..64).any(|i| slots(r) >> i & 1 == 1 && i >= t)) {
+    let slots = |r: &[u8]| Set([u64::from_le_bytes(r[2..10].try_into().unwrap()), 0, 0]);
+    if records.iter().any(|r| !schools.contains(&&r[..2]) || !slots(r).below(t as u32)) {
         return Err(26);
     }
     if (0..n).any(|k| records[..k].iter().any(|r| r[..10] == records[k][..10])) {
         return Err(27);
     }
-    let packages = records.iter().map(|r| 1u64 << schools.iter().position(|x| *x == &r[..2]).unwrap() | if slots(r) == 0 { 0 } else { slots(r) << s }).collect();
+    let school = |r: &[u8]| schools.iter().position(|x| *x == &r[..2]).unwrap() as u32;
+    let packages = records.iter().map(|r| Set::of(slots(r).items().map(|i| s as u32 + i).chain([school(r)]))).collect();
     let costs = records.iter().map(|r| u16::from_le_bytes([r[10], r[11]])).collect();
     Ok(BidsFile { schools: s as u32, slots: t as u32, packages, costs })
 }
