@@ -1,4 +1,62 @@
-//! The library's algorithm written by hand in Rust: every call checks the lent table and builds the index, then works.
+//! The library's algorithm written by hand in Rust, on item sets of 192 bits as well: every call checks the lent table and builds the index, then works.
+
+/// A set of at most 192 items: item i is bit i % 64 of word i / 64.
+#[derive(Clone, Copy, PartialEq, Eq)]
+struct Items {
+    w0: u64,
+    w1: u64,
+    w2: u64,
+}
+
+impl Items {
+    fn of(&[w0, w1, w2]: &[u64; 3]) -> Items {
+        Items { w0, w1, w2 }
+    }
+
+    fn below(m: u32) -> Items {
+        let word = |j: u32| match m.saturating_sub(64 * j) {
+            0 => 0,
+            some => u64::MAX >> (64 - some.min(64)),
+        };
+        Items { w0: word(0), w1: word(1), w2: word(2) }
+    }
+
+    fn is_empty(self) -> bool {
+        self.w0 | self.w1 | self.w2 == 0
+    }
+
+    /// Whether it has no item of 64 or above.
+    fn is_narrow(self) -> bool {
+        self.w1 | self.w2 == 0
+    }
+
+    fn without(self, part: Items) -> Items {
+        Items { w0: self.w0 & !part.w0, w1: self.w1 & !part.w1, w2: self.w2 & !part.w2 }
+    }
+
+    fn inside(self, whole: Items) -> bool {
+        self.without(whole).is_empty()
+    }
+
+    fn lowest(self) -> u32 {
+        if self.w0 != 0 {
+            self.w0.trailing_zeros()
+        } else if self.w1 != 0 {
+            64 + self.w1.trailing_zeros()
+        } else {
+            128 + self.w2.trailing_zeros()
+        }
+    }
+
+    /// The set as a number, modulo the places.
+    fn place(self, places: u64) -> u64 {
+        if self.is_narrow() {
+            return self.w0 % places;
+        }
+        let next = |r: u64, w: u64| (((r as u128) << 64 | w as u128) % places as u128) as u64;
+        next(next(self.w2 % places, self.w1), self.w0)
+    }
+}
 
 /// 65,536 heads of buckets, and for each node the next one of its bucket.
 pub struct Index([u16; 131072]);
@@ -72,16 +130,16 @@ impl Index {
     }
 }
 
-fn admit(m: u32, packs: &[u64], t: &[u32], keys: &mut [u32; 512], index: &mut Index) -> u32 {
-    if m > 64 || packs.len() > 512 {
+fn admit(m: u32, packs: &[[u64; 3]], t: &[u32], keys: &mut [u32; 512], index: &mut Index) -> u32 {
+    if m > 192 || packs.len() > 512 {
         return 1;
     }
-    let all = if m == 64 { u64::MAX } else { (1 << m) - 1 };
-    if packs.iter().any(|&s| s == 0 || s & !all != 0) {
-        return 2;
-    }
-    for (p, s) in packs.iter().enumerate() {
-        keys[p] = s.trailing_zeros() * 512 + p as u32;
+    let all = Items::below(m);
+    for (p, s) in packs.iter().map(Items::of).enumerate() {
+        if s.is_empty() || !s.inside(all) {
+            return 2;
+        }
+        keys[p] = s.lowest() * 512 + p as u32;
     }
     if index.check(t, &keys[..packs.len()]) {
         0
@@ -90,14 +148,60 @@ fn admit(m: u32, packs: &[u64], t: &[u32], keys: &mut [u32; 512], index: &mut In
     }
 }
 
+/// Four words a place. The low words of the sets and the answers stand in the first half, the high words in the second, which only sets with items of 64 or
+/// above touch: a bit above the answer tells them.
+struct Memo<'a> {
+    words: &'a mut [u64],
+    places: usize,
+}
+
+const HIGH: u64 = 1 << 32;
+
+impl Memo<'_> {
+    fn new(words: &mut [u64]) -> Memo<'_> {
+        let places = words.len() / 4;
+        words[..2 * places].fill(0);
+        Memo { words, places }
+    }
+
+    // left to itself the compiler calls it, and passes the set in memory
+    #[inline(always)]
+    fn get(&self, at: usize, items: Items) -> Option<u32> {
+        let (low, answer) = (self.words[2 * at], self.words[2 * at + 1]);
+        if low != items.w0 {
+            return None;
+        }
+        let same = if answer < HIGH {
+            items.is_narrow()
+        } else {
+            let high = 2 * self.places + 2 * at;
+            self.words[high] == items.w1 && self.words[high + 1] == items.w2
+        };
+        same.then_some(answer as u32)
+    }
+
+    fn put(&mut self, at: usize, items: Items, answer: u32) {
+        self.words[2 * at] = items.w0;
+        if items.is_narrow() {
+            self.words[2 * at + 1] = answer as u64;
+            return;
+        }
+        let high = 2 * self.places + 2 * at;
+        self.words[2 * at + 1] = answer as u64 | HIGH;
+        self.words[high] = items.w1;
+        self.words[high + 1] = items.w2;
+    }
+}
+
 struct Search<'a> {
-    packs: &'a [u64],
-    /// The packages by lowest item: 65 heads, and for each package the next one.
-    leads: [u16; 578],
+    packs: &'a [[u64; 3]],
+    /// The packages by lowest item: 193 heads, and from 194 on the next one of each package.
+    leads: [u16; 706],
+    /// The packages' places in the memo. What a package leaves of a set has its place by one subtraction, so that no step divides.
+    homes: [u64; 512],
     t: &'a mut [u32],
     index: &'a mut Index,
-    memo: &'a mut [u64],
-    places: u64,
+    memo: Memo<'a>,
     limit: u64,
     steps: u64,
     full: bool,
@@ -105,46 +209,58 @@ struct Search<'a> {
 }
 
 impl Search<'_> {
-    fn search(&mut self, items: u64) -> u32 {
+    fn enlist(&mut self) {
+        for (p, set) in self.packs.iter().map(Items::of).enumerate() {
+            let low = set.lowest() as usize;
+            self.leads[194 + p] = self.leads[low];
+            self.leads[low] = p as u16 + 1;
+            self.homes[p] = set.place(self.memo.places as u64);
+        }
+    }
+
+    #[inline(always)]
+    fn search(&mut self, at: usize, items: Items) -> u32 {
         if self.steps >= self.limit {
             self.over = true;
             return 0;
         }
         self.steps += 1;
-        if items == 0 {
+        if items.is_empty() {
             return 1;
         }
-        let at = (items % self.places) as usize;
-        if self.memo[2 * at] == items {
-            return self.memo[2 * at + 1] as u32;
+        match self.memo.get(at, items) {
+            Some(answer) => answer,
+            None => self.trial(at, items.w0, items.w1, items.w2),
         }
-        self.trial(at, items)
     }
 
-    fn trial(&mut self, at: usize, items: u64) -> u32 {
-        let mut p = self.leads[items.trailing_zeros() as usize];
+    /// The words one by one: a struct of three would be passed in memory.
+    fn trial(&mut self, at: usize, w0: u64, w1: u64, w2: u64) -> u32 {
+        let items = Items { w0, w1, w2 };
+        let mut p = self.leads[items.lowest() as usize];
         let mut answer = 0;
         while p != 0 {
-            let pack = self.packs[p as usize - 1];
-            let label = p as u32 - 1;
-            p = self.leads[65 + p as usize];
-            if pack & !items != 0 {
+            let k = p as usize - 1;
+            let pack = Items::of(&self.packs[k]);
+            p = self.leads[194 + k];
+            if !pack.inside(items) {
                 continue;
             }
-            let y = self.search(items & !pack);
+            let home = self.homes[k] as usize;
+            let there = if at < home { at + (self.memo.places - home) } else { at - home };
+            let y = self.search(there, items.without(pack));
             if self.over {
                 return 0;
             }
             if y == 0 || self.full {
                 continue;
             }
-            match self.index.unique(self.t, label, answer, y) {
+            match self.index.unique(self.t, k as u32, answer, y) {
                 Some(z) => answer = z,
                 None => self.full = true,
             }
         }
-        self.memo[2 * at] = items;
-        self.memo[2 * at + 1] = answer as u64;
+        self.memo.put(at, items, answer);
         answer
     }
 }
@@ -158,29 +274,26 @@ fn rollback(t: &mut [u32], n: u32) {
 /// The answer and the steps, or a refusal.
 #[inline(never)]
 #[no_mangle]
-pub fn hand_cover(m: u32, packs: &[u64], t: &mut [u32], d: u64, limit: u32, work: &mut [u64]) -> Result<(u32, u64), u32> {
+pub fn hand_cover(m: u32, packs: &[[u64; 3]], t: &mut [u32], d: &[u64; 3], limit: u32, work: &mut [u64]) -> Result<(u32, u64), u32> {
     let mut keys = [0; 512];
     let mut index = Index([0; 131072]);
     match admit(m, packs, t, &mut keys, &mut index) {
         0 => {}
         r => return Err(r),
     }
-    if m < 64 && d >> m != 0 {
+    let d = Items::of(d);
+    if !d.inside(Items::below(m)) {
         return Err(7);
     }
-    if work.len() < 2 {
+    if work.len() < 4 {
         return Err(8);
     }
-    work.fill(0);
     let n = t[0];
-    let places = work.len() as u64 / 2;
-    let mut s = Search { packs, leads: [0; 578], t, index: &mut index, memo: work, places, limit: limit as u64, steps: 0, full: false, over: false };
-    for (p, set) in packs.iter().enumerate() {
-        let low = set.trailing_zeros() as usize;
-        s.leads[66 + p] = s.leads[low];
-        s.leads[low] = p as u16 + 1;
-    }
-    let answer = s.search(d);
+    let memo = Memo::new(work);
+    let at = d.place(memo.places as u64) as usize;
+    let mut s = Search { packs, leads: [0; 706], homes: [0; 512], t, index: &mut index, memo, limit: limit as u64, steps: 0, full: false, over: false };
+    s.enlist();
+    let answer = s.search(at, d);
     let (over, full, steps) = (s.over, s.full, s.steps);
     if over || full {
         rollback(t, n);
@@ -283,7 +396,7 @@ impl Table<'_> {
 /// either, both, only, with, without: 0 to 4.
 #[inline(never)]
 #[no_mangle]
-pub fn hand_combine(op: u8, m: u32, packs: &[u64], t: &mut [u32], a: u32, b: u32, work: &mut [u64]) -> Result<u32, u32> {
+pub fn hand_combine(op: u8, m: u32, packs: &[[u64; 3]], t: &mut [u32], a: u32, b: u32, work: &mut [u64]) -> Result<u32, u32> {
     let mut keys = [0; 512];
     let mut index = Index([0; 131072]);
     match admit(m, packs, t, &mut keys, &mut index) {
@@ -317,7 +430,7 @@ pub fn hand_combine(op: u8, m: u32, packs: &[u64], t: &mut [u32], a: u32, b: u32
 }
 
 /// What a question does first: the table is checked, and it knows the answer.
-fn opened(m: u32, packs: &[u64], t: &[u32], a: u32) -> Result<(), u32> {
+fn opened(m: u32, packs: &[[u64; 3]], t: &[u32], a: u32) -> Result<(), u32> {
     let mut keys = [0; 512];
     let mut index = Index([0; 131072]);
     match admit(m, packs, t, &mut keys, &mut index) {
@@ -372,26 +485,26 @@ fn length(t: &[u32], a: usize, k: u64, work: &mut [u64]) -> Result<usize, u32> {
 }
 
 #[inline(never)]
-pub fn hand_check(m: u32, packs: &[u64], t: &[u32]) -> u32 {
+pub fn hand_check(m: u32, packs: &[[u64; 3]], t: &[u32]) -> u32 {
     let mut keys = [0; 512];
     let mut index = Index([0; 131072]);
     admit(m, packs, t, &mut keys, &mut index)
 }
 
 #[inline(never)]
-pub fn hand_count(m: u32, packs: &[u64], t: &[u32], a: u32, work: &mut [u64]) -> Result<u64, u32> {
+pub fn hand_count(m: u32, packs: &[[u64; 3]], t: &[u32], a: u32, work: &mut [u64]) -> Result<u64, u32> {
     opened(m, packs, t, a)?;
     counts(t, a as usize, work)
 }
 
 #[inline(never)]
-pub fn hand_measure(m: u32, packs: &[u64], t: &[u32], a: u32, k: u64, work: &mut [u64]) -> Result<usize, u32> {
+pub fn hand_measure(m: u32, packs: &[[u64; 3]], t: &[u32], a: u32, k: u64, work: &mut [u64]) -> Result<usize, u32> {
     opened(m, packs, t, a)?;
     length(t, a as usize, k, work)
 }
 
 #[inline(never)]
-pub fn hand_pick(m: u32, packs: &[u64], t: &[u32], a: u32, k: u64, work: &mut [u64], page: &mut [u16]) -> Result<usize, u32> {
+pub fn hand_pick(m: u32, packs: &[[u64; 3]], t: &[u32], a: u32, k: u64, work: &mut [u64], page: &mut [u16]) -> Result<usize, u32> {
     opened(m, packs, t, a)?;
     let a = a as usize;
     if page.len() < length(t, a, k, work)? {

@@ -1,6 +1,6 @@
-//! The library beside the same algorithm written by hand in Rust and, where it is installed, beside CUDD's ZDDs: three instances of document 000's Table 1
-//! compiled, rounds of with, without, either, both and only on what was compiled, and how a call's time grows with the nodes. An earlier archive stands beside it
-//! where one is given (see build.rs).
+//! The library beside the same algorithm written by hand in Rust and, where it is installed, beside CUDD's ZDDs: instances of document 000's Table 1
+//! compiled, rounds of with, without, either, both and only on what was compiled, and how a call's time grows with the nodes. An earlier archive, of 64 items,
+//! stands beside it where one is given (see build.rs). It and CUDD's search take weeks of at most 64 items.
 //!
 //! `bench [REPETITIONS]` prints the table. `bench WHO INSTANCE` does one repetition of one, for instruction counts (see bench/instructions).
 
@@ -11,6 +11,7 @@ mod cudd;
 mod ffi;
 #[allow(dead_code)]
 mod hand;
+#[allow(dead_code)]
 mod instances;
 #[cfg(old)]
 #[allow(dead_code)]
@@ -72,8 +73,9 @@ struct Lent {
 }
 
 impl Lent {
-    fn new(who: &Instance) -> Lent {
-        Lent { table: vec![0; 1 + 3 * who.nodes], work: vec![1; 2 * who.places], compiled: 0 }
+    /// With so many words for a place of the memo.
+    fn new(who: &Instance, place: usize) -> Lent {
+        Lent { table: vec![0; 1 + 3 * who.nodes], work: vec![1; place * who.places], compiled: 0 }
     }
 
     fn back(&mut self) {
@@ -82,62 +84,77 @@ impl Lent {
     }
 }
 
-fn library(who: &Instance) -> Times {
-    by_calls(who, ffi::cover, ffi::combine)
-}
-
-type Cover = fn(u32, &[u64], &mut [u32], u64, u32, &mut [u64]) -> ffi::Report;
-type Combine = fn(usize, u32, &[u64], &mut [u32], u32, u32, &mut [u64]) -> ffi::Report;
-
-fn by_calls(who: &Instance, cover: Cover, combine: Combine) -> Times {
-    let lent = RefCell::new(Lent::new(who));
+/// By calls on a table and working words, with so many words for a place of the memo. The rounds are lent two words a place by all: what they remember goes to
+/// the lent words where these are many, and all shall remember in the same memory.
+fn by_calls(
+    who: &Instance,
+    place: usize,
+    cover: impl Fn(&mut [u32], &mut [u64]) -> (u32, u64),
+    combine: impl Fn(usize, &mut [u32], u32, u32, &mut [u64]) -> u32,
+) -> Times {
+    let lent = RefCell::new(Lent::new(who, place));
     repetition(
         who,
         || {
             let l = &mut *lent.borrow_mut();
-            let r = cover(who.m, &who.packs, &mut l.table, who.all(), u32::MAX, &mut l.work);
-            assert_eq!(r.refusal, 0);
-            l.compiled = r.made;
-            (r.answer, r.steps as u64)
-        },
-        |op, a, b, p| {
-            let l = &mut *lent.borrow_mut();
-            let b = if op < 3 { b } else { p as u32 };
-            let r = combine(op, who.m, &who.packs, &mut l.table, a, b, &mut l.work);
-            assert_eq!(r.refusal, 0);
-            r.answer
-        },
-        || lent.borrow_mut().back(),
-        0,
-    )
-}
-
-fn by_hand(who: &Instance) -> Times {
-    let lent = RefCell::new(Lent::new(who));
-    repetition(
-        who,
-        || {
-            let l = &mut *lent.borrow_mut();
-            let r = hand::hand_cover(who.m, &who.packs, &mut l.table, who.all(), u32::MAX, &mut l.work).unwrap();
+            let r = cover(&mut l.table, &mut l.work);
             l.compiled = l.table[0];
             r
         },
         |op, a, b, p| {
             let l = &mut *lent.borrow_mut();
             let b = if op < 3 { b } else { p as u32 };
-            hand::hand_combine(op as u8, who.m, &who.packs, &mut l.table, a, b, &mut l.work).unwrap()
+            combine(op, &mut l.table, a, b, &mut l.work[..2 * who.places])
         },
         || lent.borrow_mut().back(),
         0,
     )
 }
 
+/// The answer and the steps of a call that is not refused.
+fn answered(r: ffi::Report) -> (u32, u64) {
+    assert_eq!(r.refusal, 0);
+    (r.answer, r.steps as u64)
+}
+
+fn library(who: &Instance) -> Times {
+    let (packs, d) = (who.words(), who.all());
+    by_calls(
+        who,
+        4,
+        |t, work| answered(ffi::cover(who.m, packs, t, &d, u32::MAX, work)),
+        |op, t, a, b, work| answered(ffi::combine(op, who.m, packs, t, a, b, work)).0,
+    )
+}
+
+fn by_hand(who: &Instance) -> Times {
+    let (packs, d) = (&who.packs, who.all());
+    by_calls(
+        who,
+        4,
+        |t, work| hand::hand_cover(who.m, packs, t, &d, u32::MAX, work).unwrap(),
+        |op, t, a, b, work| hand::hand_combine(op as u8, who.m, packs, t, a, b, work).unwrap(),
+    )
+}
+
+#[cfg(old)]
+fn before(who: &Instance) -> Times {
+    let (packs, d) = (who.narrow().expect("at most 64 items"), who.all()[0]);
+    by_calls(
+        who,
+        2,
+        |t, work| answered(old::cover(who.m, &packs, t, d, u32::MAX, work)),
+        |op, t, a, b, work| answered(old::combine(op, who.m, &packs, t, a, b, work)).0,
+    )
+}
+
 #[cfg(cudd)]
 fn by_cudd(who: &Instance) -> Times {
-    let order = cudd::Order::new(&who.packs);
+    let order = cudd::Order::new(&who.narrow().expect("at most 64 items"));
     let manager = cudd::Manager::new(&order);
     let (mut keys, mut values) = (vec![1; who.places], vec![std::ptr::null_mut(); who.places]);
-    repetition(who, || manager.cover(who.all(), &mut keys, &mut values), |op, a, b, p| manager.combine(op, a, b, p), || {}, manager.zero())
+    let d = who.all()[0];
+    repetition(who, || manager.cover(d, &mut keys, &mut values), |op, a, b, p| manager.combine(op, a, b, p), || {}, manager.zero())
 }
 
 fn median(mut x: Vec<f64>) -> f64 {
@@ -149,38 +166,62 @@ fn least(x: &[f64]) -> f64 {
     x.iter().copied().fold(f64::INFINITY, f64::min)
 }
 
+/// One who is compared; `wide` takes weeks of more than 64 items too.
+struct Column {
+    name: &'static str,
+    run: fn(&Instance) -> Times,
+    wide: bool,
+}
+
 /// Who is compared, in the order of the columns.
-fn all_of_them() -> Vec<(&'static str, fn(&Instance) -> Times)> {
+fn all_of_them() -> Vec<Column> {
     vec![
-        ("library", library),
-        ("by hand", by_hand),
+        Column { name: "library", run: library, wide: true },
+        Column { name: "by hand", run: by_hand, wide: true },
         #[cfg(cudd)]
-        ("CUDD", by_cudd),
+        Column { name: "CUDD", run: by_cudd, wide: false },
         #[cfg(old)]
-        ("before", |who| by_calls(who, old::cover, old::combine)),
+        Column { name: "before", run: before, wide: false },
     ]
 }
 
 fn compare(who: &Instance, repetitions: usize) {
     let them = all_of_them();
+    let able: Vec<usize> = (0..them.len()).filter(|&i| them[i].wide || who.m <= 64).collect();
     let mut times: Vec<Vec<Times>> = them.iter().map(|_| Vec::new()).collect();
     // in turn, so that none always runs in the caches that another leaves
-    for i in 0..them.len() * repetitions {
-        let turn = (i + i / them.len()) % them.len();
-        times[turn].push(them[turn].1(who));
+    for i in 0..able.len() * repetitions {
+        let turn = able[(i + i / able.len()) % able.len()];
+        times[turn].push((them[turn].run)(who));
     }
     let steps = times[0][0].1;
     assert!(times.iter().flatten().all(|t| t.1 == steps), "steps differ");
     let lent = compiled(who);
-    println!("{}: {} packages, {steps} steps, {} nodes in a table for {}, memo of {} places", who.name, who.packs.len(), lent.table[0], who.nodes, who.places);
+    println!(
+        "{}: {} items, {} packages, {steps} steps, {} nodes in a table for {}, memo of {} places",
+        who.name,
+        who.m,
+        who.packs.len(),
+        lent.table[0],
+        who.nodes,
+        who.places
+    );
     for (i, call) in CALLS.iter().enumerate() {
         print!("  {call:<8}");
         let columns: Vec<Vec<f64>> = times.iter().map(|t| t.iter().map(|x| x.0[i] / 1000.0).collect()).collect();
         for x in &columns {
-            print!(" {:>9.1} {:>9.1}", median(x.clone()), least(x));
+            if x.is_empty() {
+                print!(" {:>9} {:>9}", "-", "-");
+            } else {
+                print!(" {:>9.1} {:>9.1}", median(x.clone()), least(x));
+            }
         }
         for x in &columns[1..] {
-            print!(" {:>9.2}", least(&columns[0]) / least(x));
+            if x.is_empty() {
+                print!(" {:>9}", "-");
+            } else {
+                print!(" {:>9.2}", least(&columns[0]) / least(x));
+            }
         }
         println!();
     }
@@ -188,9 +229,9 @@ fn compare(who: &Instance, repetitions: usize) {
 
 /// The instance compiled, and its count as Table 1 has it.
 fn compiled(who: &Instance) -> Lent {
-    let mut lent = Lent::new(who);
-    let r = ffi::cover(who.m, &who.packs, &mut lent.table, who.all(), u32::MAX, &mut lent.work);
-    assert_eq!(ffi::count(who.m, &who.packs, &lent.table, r.answer, &mut lent.work), ffi::Number { refusal: 0, value: who.count });
+    let mut lent = Lent::new(who, 4);
+    let r = ffi::cover(who.m, who.words(), &mut lent.table, &who.all(), u32::MAX, &mut lent.work);
+    assert_eq!(ffi::count(who.m, who.words(), &lent.table, r.answer, &mut lent.work), ffi::Number { refusal: 0, value: who.count });
     lent
 }
 
@@ -205,7 +246,7 @@ fn growth(who: &Instance, repetitions: usize) {
         let times: Vec<f64> = (0..4 * repetitions)
             .map(|_| {
                 let started = Instant::now();
-                assert_eq!(ffi::check(who.m, &who.packs, &t), 0);
+                assert_eq!(ffi::check(who.m, who.words(), &t), 0);
                 started.elapsed().as_nanos() as f64 / 1000.0
             })
             .collect();
@@ -221,7 +262,9 @@ fn once(who: &str, instance: &Instance) {
         "hand" => by_hand(instance),
         #[cfg(cudd)]
         "cudd" => by_cudd(instance),
-        _ => panic!("library, hand or cudd"),
+        #[cfg(old)]
+        "before" => before(instance),
+        _ => panic!("library, hand, cudd or before"),
     };
 }
 
@@ -233,7 +276,7 @@ fn main() {
     }
     let repetitions = args.first().map_or(101, |a| a.parse().expect("a number"));
     println!("microseconds a call: median and least of {repetitions} repetitions, then the ratios of the least");
-    let names: Vec<&str> = all_of_them().iter().map(|x| x.0).collect();
+    let names: Vec<&str> = all_of_them().iter().map(|x| x.name).collect();
     print!("          ");
     names.iter().for_each(|n| print!(" {n:<19}"));
     names[1..].iter().for_each(|n| print!(" {:>9}", format!("to {}", n.trim_start_matches("by "))));
@@ -243,7 +286,7 @@ fn main() {
     }
     #[cfg(cudd)]
     {
-        let order = cudd::Order::new(&all[0].packs);
+        let order = cudd::Order::new(&all[0].narrow().unwrap());
         let times = (0..repetitions).map(|_| {
             let started = Instant::now();
             black_box(cudd::Manager::new(&order));

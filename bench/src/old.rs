@@ -1,4 +1,4 @@
-//! The entries of an earlier archive that the benchmark calls (see build.rs).
+//! The entries of an earlier archive that the benchmark calls (see build.rs): an item set is one word, and a place of the memo is two.
 
 use crate::ffi::{Number, Report, Timetable};
 
@@ -8,6 +8,7 @@ extern "C" {
     fn old_mogedorn_check(m: u32, p: *const u64, pn: usize, t: *const u32, tn: usize) -> u32;
     fn old_mogedorn_count(m: u32, p: *const u64, pn: usize, t: *const u32, tn: usize, a: u32, w: *mut u64, wn: usize) -> Number;
     fn old_mogedorn_pick(m: u32, p: *const u64, pn: usize, t: *const u32, tn: usize, a: u32, k: u64, w: *mut u64, wn: usize, g: *mut u16, gn: usize) -> Timetable;
+    fn old_mogedorn_measure(m: u32, p: *const u64, pn: usize, t: *const u32, tn: usize, a: u32, k: u64, w: *mut u64, wn: usize) -> Number;
     fn old_mogedorn_cover(m: u32, p: *const u64, pn: usize, t: *mut u32, tn: usize, d: u64, limit: u32, w: *mut u64, wn: usize) -> Report;
     fn old_mogedorn_either(m: u32, p: *const u64, pn: usize, t: *mut u32, tn: usize, a: u32, b: u32, w: *mut u64, wn: usize) -> Report;
     fn old_mogedorn_both(m: u32, p: *const u64, pn: usize, t: *mut u32, tn: usize, a: u32, b: u32, w: *mut u64, wn: usize) -> Report;
@@ -36,4 +37,8 @@ pub fn count(m: u32, s: &[u64], t: &[u32], a: u32, w: &mut [u64]) -> Number {
 
 pub fn pick(m: u32, s: &[u64], t: &[u32], a: u32, k: u64, w: &mut [u64], page: &mut [u16]) -> Timetable {
     unsafe { old_mogedorn_pick(m, s.as_ptr(), s.len(), t.as_ptr(), t.len(), a, k, w.as_mut_ptr(), w.len(), page.as_mut_ptr(), page.len()) }
+}
+
+pub fn measure(m: u32, s: &[u64], t: &[u32], a: u32, k: u64, w: &mut [u64]) -> Number {
+    unsafe { old_mogedorn_measure(m, s.as_ptr(), s.len(), t.as_ptr(), t.len(), a, k, w.as_mut_ptr(), w.len()) }
 }

@@ -27,7 +27,7 @@ fn table(nodes: usize) -> Vec<u32> {
 
 fn main() {
     // package p has item p / 8, so that precedence is the order of the numbers
-    let packages: Vec<u64> = (0..512).map(|p| 1 << (p / 8)).collect();
+    let packages: Vec<u64> = (0..512).flat_map(|p| [1 << (p / 8), 0, 0]).collect();
     let whole = table(65534);
     let shared = (0..whole[0] as usize).filter(|i| hash(whole[1 + 3 * i], whole[2 + 3 * i], whole[3 + 3 * i]) == 0).count();
     println!("{} nodes, {shared} of them in one bucket", whole[0]);

@@ -1,6 +1,6 @@
 //! 10,000 picks in a row, their k spread over the listing, from answers of document 000's Table 1, and beside them what a pick consists of: the check of the
-//! table, the count, the walk that measures and, in pick alone, the walk that writes. The library, the same calls by hand in Rust and, where one is given, an
-//! earlier archive take turns (see build.rs).
+//! table, the count, the walk that measures and, in pick alone, the walk that writes. The library, the same calls by hand in Rust and, where one is given and
+//! the week has at most 64 items, an earlier archive take turns (see build.rs).
 
 #[path = "../../../tests/rust/src/ffi.rs"]
 #[allow(dead_code)]
@@ -9,6 +9,7 @@ mod ffi;
 #[allow(dead_code)]
 mod hand;
 #[path = "../instances.rs"]
+#[allow(dead_code)]
 mod instances;
 #[cfg(old)]
 #[path = "../old.rs"]
@@ -26,6 +27,9 @@ const BLOCK: u64 = 100;
 /// What is lent, and the answer.
 struct Desk<'a> {
     who: &'a Instance,
+    /// The packages as the earlier archive takes them.
+    #[cfg(old)]
+    narrow: Vec<u64>,
     table: Vec<u32>,
     answer: u32,
     work: Vec<u64>,
@@ -37,42 +41,55 @@ type Call = fn(&mut Desk, u64) -> u64;
 
 const CALLS: [&str; 4] = ["check", "count", "measure", "pick"];
 
-const LIBRARY: [Option<Call>; 4] = [
-    Some(|d, _| ffi::check(d.who.m, &d.who.packs, &d.table) as u64),
-    Some(|d, _| ffi::count(d.who.m, &d.who.packs, &d.table, d.answer, &mut d.work).value),
-    Some(|d, k| ffi::measure(d.who.m, &d.who.packs, &d.table, d.answer, k, &mut d.work).value),
-    Some(|d, k| ffi::pick(d.who.m, &d.who.packs, &d.table, d.answer, k, &mut d.work, &mut d.page).packages),
+const LIBRARY: [Call; 4] = [
+    |d, _| ffi::check(d.who.m, d.who.words(), &d.table) as u64,
+    |d, _| ffi::count(d.who.m, d.who.words(), &d.table, d.answer, &mut d.work).value,
+    |d, k| ffi::measure(d.who.m, d.who.words(), &d.table, d.answer, k, &mut d.work).value,
+    |d, k| ffi::pick(d.who.m, d.who.words(), &d.table, d.answer, k, &mut d.work, &mut d.page).packages,
 ];
 
-const HAND: [Option<Call>; 4] = [
-    Some(|d, _| hand::hand_check(d.who.m, &d.who.packs, &d.table) as u64),
-    Some(|d, _| hand::hand_count(d.who.m, &d.who.packs, &d.table, d.answer, &mut d.work).unwrap()),
-    Some(|d, k| hand::hand_measure(d.who.m, &d.who.packs, &d.table, d.answer, k, &mut d.work).unwrap() as u64),
-    Some(|d, k| hand::hand_pick(d.who.m, &d.who.packs, &d.table, d.answer, k, &mut d.work, &mut d.page).unwrap() as u64),
+const HAND: [Call; 4] = [
+    |d, _| hand::hand_check(d.who.m, &d.who.packs, &d.table) as u64,
+    |d, _| hand::hand_count(d.who.m, &d.who.packs, &d.table, d.answer, &mut d.work).unwrap(),
+    |d, k| hand::hand_measure(d.who.m, &d.who.packs, &d.table, d.answer, k, &mut d.work).unwrap() as u64,
+    |d, k| hand::hand_pick(d.who.m, &d.who.packs, &d.table, d.answer, k, &mut d.work, &mut d.page).unwrap() as u64,
 ];
 
-/// An archive from before `measure` has none.
 #[cfg(old)]
-const OLD: [Option<Call>; 4] = [
-    Some(|d, _| old::check(d.who.m, &d.who.packs, &d.table) as u64),
-    Some(|d, _| old::count(d.who.m, &d.who.packs, &d.table, d.answer, &mut d.work).value),
-    None,
-    Some(|d, k| old::pick(d.who.m, &d.who.packs, &d.table, d.answer, k, &mut d.work, &mut d.page).packages),
+const OLD: [Call; 4] = [
+    |d, _| old::check(d.who.m, &d.narrow, &d.table) as u64,
+    |d, _| old::count(d.who.m, &d.narrow, &d.table, d.answer, &mut d.work).value,
+    |d, k| old::measure(d.who.m, &d.narrow, &d.table, d.answer, k, &mut d.work).value,
+    |d, k| old::pick(d.who.m, &d.narrow, &d.table, d.answer, k, &mut d.work, &mut d.page).packages,
 ];
 
-const THEM: &[(&str, [Option<Call>; 4])] = &[
-    ("library", LIBRARY),
-    ("by hand", HAND),
+/// Each with its calls, and whether it takes weeks of more than 64 items too.
+const THEM: &[(&str, [Call; 4], bool)] = &[
+    ("library", LIBRARY, true),
+    ("by hand", HAND, true),
     #[cfg(old)]
-    ("before", OLD),
+    ("before", OLD, false),
 ];
 
 impl Desk<'_> {
     fn new(who: &Instance) -> Desk<'_> {
-        let mut d = Desk { who, table: vec![0; 1 + 3 * who.nodes], answer: 0, work: vec![1; 2 * who.places], page: vec![0; 64] };
-        d.answer = ffi::cover(who.m, &who.packs, &mut d.table, who.all(), u32::MAX, &mut d.work).answer;
-        assert_eq!(LIBRARY[1].unwrap()(&mut d, 0), who.count);
+        let mut d = Desk {
+            who,
+            #[cfg(old)]
+            narrow: who.narrow().unwrap_or_default(),
+            table: vec![0; 1 + 3 * who.nodes],
+            answer: 0,
+            work: vec![1; 4 * who.places],
+            page: vec![0; 64],
+        };
+        d.answer = ffi::cover(who.m, who.words(), &mut d.table, &who.all(), u32::MAX, &mut d.work).answer;
+        assert_eq!(LIBRARY[1](&mut d, 0), who.count);
         d
+    }
+
+    /// Those who take a week as wide as this one.
+    fn able(&self) -> Vec<usize> {
+        (0..THEM.len()).filter(|&i| THEM[i].2 || self.who.m <= 64).collect()
     }
 
     /// The i-th of the k that are picked.
@@ -85,10 +102,11 @@ impl Desk<'_> {
         for i in 0..PICKS {
             let k = self.spread(i);
             let mut given: Vec<(u64, Vec<u16>)> = Vec::new();
-            for (_, calls) in THEM {
+            for i in self.able() {
+                let calls = THEM[i].1;
                 self.page.fill(0);
-                let n = calls[3].unwrap()(self, k);
-                assert!(calls[2].is_none_or(|measure| measure(self, k) == n));
+                let n = calls[3](self, k);
+                assert_eq!(calls[2](self, k), n);
                 given.push((n, self.page.clone()));
             }
             assert!(given.iter().all(|g| *g == given[0]), "pick {k}");
@@ -121,13 +139,12 @@ fn compare(who: &Instance) {
     desk.agree();
     println!("{}: {} timetables, {} nodes in a table for {}", who.name, who.count, desk.table[0], who.nodes);
     let mut times = vec![vec![Vec::new(); THEM.len()]; CALLS.len()];
+    let able = desk.able();
     for block in 0..PICKS / BLOCK {
-        for turn in 0..THEM.len() {
-            let them = (turn + block as usize) % THEM.len();
+        for turn in 0..able.len() {
+            let them = able[(turn + block as usize) % able.len()];
             for (i, call) in THEM[them].1.iter().enumerate() {
-                if let Some(call) = call {
-                    times[i][them].push(desk.block(*call, block));
-                }
+                times[i][them].push(desk.block(*call, block));
             }
         }
     }

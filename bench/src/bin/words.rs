@@ -80,7 +80,7 @@ impl Layers {
 /// The seconds of one call, and the nodes of the two answers together.
 fn one(depth: usize, words: usize, draw: u64) -> (f64, u32) {
     let last = TREE + depth;
-    let packages: Vec<u64> = (0..last + 2 * (1 + ENDS)).map(|p| 1 << (p / 8)).collect();
+    let packages: Vec<u64> = (0..last + 2 * (1 + ENDS)).flat_map(|p| [1 << (p / 8), 0, 0]).collect();
     let mut layers = Layers { table: vec![0], draw: Draw(draw) };
     let (a, b) = (layers.answer(depth, last), layers.answer(depth, last + 1 + ENDS));
     let nodes = layers.table[0];
