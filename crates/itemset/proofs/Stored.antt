@@ -7,7 +7,7 @@ use native.Mathlib.Nat.{le-of-suc-le-suc, not-suc-le-zero, zero-lt-suc, mul-zero
 use native.Mathlib.Omega.{arith}
 use lib.ListN.{length, getD, take, drop, set, length-set, length-append}
 use lib.Pow.{pow-add}
-use lib.Seq.{drop-cons, drop-drop, take-at, drop-at, sets, length-sets, getD-set-same, getD-set-other}
+use lib.Seq.{take-all, drop-cons, drop-drop, take-at, drop-at, sets, length-sets, getD-set-same, getD-set-other}
 use Rattle.itemset.specs.Words.{width, valueOf, setsIn, setsOf, wordsIn, spread}
 
 -- one word more
@@ -129,3 +129,7 @@ unfolding wordsIn
 words-one x h =
     let e : x / 2 ^ 64 ≡ 0 = omega arith in
     rw (mod-eq-of-lt h, e)
+
+-- three words, read from the first
+pub whole-set : (ds : List ℕ) → length ds ≡ 3 → valueOf (take 3 (drop 0 ds)) ≡ valueOf ds
+whole-set ds l = ap valueOf (take-all 3 ds (omega arith))

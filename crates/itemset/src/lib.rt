@@ -229,6 +229,13 @@ pub fn read(words: &[u64], at: usize) -> Items
     }
 }
 
+// The set that three words are.
+pub fn of_words(words: &[u64; 3]) -> Items
+    ensures { λ r. ⌜ value r ≡ valueOf (now (words .entry)) ⌝ }
+{
+    read(words, 0)
+}
+
 // The set goes into the words from at on.
 pub fn write(words: &mut [u64], at: usize, x: Items)
     requires { ⌜ at + 3 ≤ length (now words) ⌝ }
