@@ -3,18 +3,18 @@ use mathlib.Core.Path.{_≡_, refl, sym, ap, ap₂, _∙_}
 use mathlib.Core.Bool.{Bool, true, false, not, _&&_, _||_}
 use mathlib.Core.Logic.{⊎-elim}
 use mathlib.Core.List.{List, [], _∷_}
-use Prim.Native.Nat.{ℕ, zero, suc, _^_, _<_}
+use Prim.Native.Nat.{ℕ, zero, suc, _^_, _≤_, _<_}
 use native.Mathlib.Nat.{le-refl, eq-or-lt-of-le, not-suc-le-zero, le-of-suc-le-suc}
 use native.Mathlib.Omega.{arith}
-use lib.Dec.{eqb}
-use borrow.Author.Tests.{eqb-true, eq-eqb}
+use lib.Dec.{eqb, leb}
+use borrow.Author.Tests.{eqb-true, eq-eqb, leb-true, le-leb}
 use Rattle.itemset.specs.Items.{holds, insideb, without}
 use Rattle.itemset.specs.Words.{width}
 use Rattle.base.proofs.Bools.{by-test, clash, same-test, and-left, and-right}
 use Rattle.itemset.proofs.Laws.{holds-lt, holds-without, inside-holds, holds-inside-all, inside-trans, without-inside, without-apart, without-either}
 use Rattle.exact_cover.specs.Problem.{Problem, row, lead, done}
-use Rattle.exact_cover.specs.Cover.{holders, allInside, once, covers}
-use Rattle.exact_cover.proofs.Lead.{done-none, lead-holds, lead-lt}
+use Rattle.exact_cover.specs.Cover.{holders, allInside, takes, once, covers}
+use Rattle.exact_cover.proofs.Lead.{done-optional, lead-holds, lead-compulsory, lead-lt}
 
 module _ (Q : Problem) where
   -- ---- a count of holders
@@ -40,27 +40,47 @@ module _ (Q : Problem) where
       (λ y. clash (holds i B) (inside-holds (row Q p) B (and-left (insideb (row Q p) B) (allInside Q B t) h) i y) e)
       (λ n. holders-not i p t n ∙ holders-none i B t (and-right (insideb (row Q p) B) (allInside Q B t) h) e)
 
+  -- ---- how many packages an item takes
+
+  takes-optional : (i n : ℕ) → holds i (Q .optional) ≡ true → takes Q i n ≡ leb n 1
+  unfolding takes
+  takes-optional i n y = rw (y, takes)
+
+  takes-compulsory : (i n : ℕ) → holds i (Q .optional) ≡ false → takes Q i n ≡ eqb n 1
+  unfolding takes
+  takes-compulsory i n y = rw (y, takes)
+
+  takes-one : (i n : ℕ) → n ≡ 1 → takes Q i n ≡ true
+  takes-one i n e =
+      by-test (holds i (Q .optional)) (λ y. takes-optional i n y ∙ le-leb n 1 (omega arith)) (λ y. takes-compulsory i n y ∙ eq-eqb n 1 e)
+
+  takes-most : (i n : ℕ) → takes Q i n ≡ true → n ≤ 1
+  takes-most i n h =
+      by-test (holds i (Q .optional))
+      (λ y. leb-true n 1 (sym (takes-optional i n y) ∙ h))
+      (λ y. omega (arith, eqb-true n 1 (sym (takes-compulsory i n y) ∙ h)))
+
   -- ---- `once`, item by item
 
-  once-one : (k D : ℕ) (t : List ℕ) → once Q k D t ≡ true → (i : ℕ) → i < k → holds i D ≡ true → holders Q i t ≡ 1
+  once-takes : (k D : ℕ) (t : List ℕ) → once Q k D t ≡ true → (i : ℕ) → i < k → holds i D ≡ true → takes Q i (holders Q i t) ≡ true
   unfolding once
-  once-one zero D t h i l e = absurd (not-suc-le-zero l)
-  once-one (suc k) D t h i l e =
-      let a : not (holds k D) || eqb (holders Q k t) 1 ≡ true = and-left (not (holds k D) || eqb (holders Q k t) 1) (once Q k D t) h in
+  once-takes zero D t h i l e = absurd (not-suc-le-zero l)
+  once-takes (suc k) D t h i l e =
+      let a : not (holds k D) || takes Q k (holders Q k t) ≡ true = and-left (not (holds k D) || takes Q k (holders Q k t)) (once Q k D t) h in
       ⊎-elim
       (λ (s : i ≡ k).
       let y : holds k D ≡ true = ap (λ (n : ℕ). holds n D) (sym s) ∙ e in
-      ap (λ (n : ℕ). holders Q n t) s ∙ eqb-true (holders Q k t) 1 (rw y at a))
-      (λ (m : i < k). once-one k D t (and-right (not (holds k D) || eqb (holders Q k t) 1) (once Q k D t) h) i m e)
+      ap (λ (n : ℕ). takes Q n (holders Q n t)) s ∙ (rw y at a))
+      (λ (m : i < k). once-takes k D t (and-right (not (holds k D) || takes Q k (holders Q k t)) (once Q k D t) h) i m e)
       (eq-or-lt-of-le (le-of-suc-le-suc l))
 
-  one-once : (k D : ℕ) (t : List ℕ) → ((i : ℕ) → i < k → holds i D ≡ true → holders Q i t ≡ 1) → once Q k D t ≡ true
+  takes-once : (k D : ℕ) (t : List ℕ) → ((i : ℕ) → i < k → holds i D ≡ true → takes Q i (holders Q i t) ≡ true) → once Q k D t ≡ true
   unfolding once
-  one-once zero D t h = refl
-  one-once (suc k) D t h =
+  takes-once zero D t h = refl
+  takes-once (suc k) D t h =
       by-test (holds k D)
-      (λ y. rw (y, eq-eqb (holders Q k t) 1 (h k (le-refl (suc k)) y)) (one-once k D t (λ i l. h i (omega arith))))
-      (λ n. rw n (one-once k D t (λ i l. h i (omega arith))))
+      (λ y. rw (y, h k (le-refl (suc k)) y) (takes-once k D t (λ i l. h i (omega arith))))
+      (λ n. rw n (takes-once k D t (λ i l. h i (omega arith))))
 
   -- ---- inside D, and inside D without p
 
@@ -94,13 +114,13 @@ module _ (Q : Problem) where
   unfolding covers
   covers-inside D t h = and-left (allInside Q D t) (once Q width D t) h
 
-  covers-one : (D : ℕ) (t : List ℕ) → covers Q D t ≡ true → (i : ℕ) → i < width → holds i D ≡ true → holders Q i t ≡ 1
+  covers-takes : (D : ℕ) (t : List ℕ) → covers Q D t ≡ true → (i : ℕ) → i < width → holds i D ≡ true → takes Q i (holders Q i t) ≡ true
   unfolding covers
-  covers-one D t h = once-one width D t (and-right (allInside Q D t) (once Q width D t) h)
+  covers-takes D t h = once-takes width D t (and-right (allInside Q D t) (once Q width D t) h)
 
-  to-covers : (D : ℕ) (t : List ℕ) → allInside Q D t ≡ true → ((i : ℕ) → i < width → holds i D ≡ true → holders Q i t ≡ 1) → covers Q D t ≡ true
+  to-covers : (D : ℕ) (t : List ℕ) → allInside Q D t ≡ true → ((i : ℕ) → i < width → holds i D ≡ true → takes Q i (holders Q i t) ≡ true) → covers Q D t ≡ true
   unfolding covers
-  to-covers D t a h = ap₂ _&&_ a (one-once width D t h)
+  to-covers D t a h = ap₂ _&&_ a (takes-once width D t h)
 
   first-inside : (D p : ℕ) (t : List ℕ) → allInside Q D (p ∷ t) ≡ true → (insideb (row Q p) D ≡ true) × (allInside Q D t ≡ true)
   unfolding allInside
@@ -118,13 +138,13 @@ module _ (Q : Problem) where
       (inside-down D (row Q p) t
       (λ i y.
       let d : holds i D ≡ true = inside-holds (row Q p) D (a .0) i y in
-      omega (arith, covers-one D (p ∷ t) h i (holds-lt width i w d) d, holders-yes i p t y))
+      omega (arith, takes-most i (holders Q i (p ∷ t)) (covers-takes D (p ∷ t) h i (holds-lt width i w d) d), holders-yes i p t y))
       (a .1))
       (λ i l d.
       let e : holds i D && not (holds i (row Q p)) ≡ true = sym (holds-without i D (row Q p)) ∙ d in
       by-test (holds i (row Q p))
       (λ y. clash (holds i (without D (row Q p))) d (without-apart i D (row Q p) y))
-      (λ n. sym (holders-not i p t n) ∙ covers-one D (p ∷ t) h i l (and-left (holds i D) (not (holds i (row Q p))) e))))
+      (λ n. ap (takes Q i) (sym (holders-not i p t n)) ∙ covers-takes D (p ∷ t) h i l (and-left (holds i D) (not (holds i (row Q p))) e))))
 
   covers-fork : (D p : ℕ) (t : List ℕ) → insideb (row Q p) D ≡ true → covers Q (without D (row Q p)) t ≡ true → covers Q D (p ∷ t) ≡ true
   covers-fork D p t a h =
@@ -133,10 +153,10 @@ module _ (Q : Problem) where
       (inside-first D p t a (inside-up D (row Q p) t b))
       (λ i l d. ⊎-elim
       (λ (y : holds i (row Q p) ≡ true).
-      holders-yes i p t y ∙ ap suc (holders-none i (without D (row Q p)) t b (without-apart i D (row Q p) y)))
+      takes-one i (holders Q i (p ∷ t)) (holders-yes i p t y ∙ ap suc (holders-none i (without D (row Q p)) t b (without-apart i D (row Q p) y))))
       (λ (y : holds i (without D (row Q p)) ≡ true). by-test (holds i (row Q p))
       (λ z. clash (holds i (without D (row Q p))) y (without-apart i D (row Q p) z))
-      (λ z. holders-not i p t z ∙ covers-one (without D (row Q p)) t h i l y))
+      (λ z. ap (takes Q i) (holders-not i p t z) ∙ covers-takes (without D (row Q p)) t h i l y))
       (without-either i D (row Q p) d))
 
   -- the first package lies inside D, and the others cover what it leaves
@@ -154,11 +174,14 @@ module _ (Q : Problem) where
 
   -- no package covers what is done
   pub covers-nil : (D : ℕ) → done Q D ≡ true → covers Q D [] ≡ true
-  covers-nil D e = to-covers D [] (nil-inside D) (λ i l d. clash (holds i D) d (done-none Q D e i))
+  covers-nil D e = to-covers D [] (nil-inside D) (λ i l d. takes-optional i (holders Q i []) (done-optional Q D e i d) ∙ le-leb (holders Q i []) 1 (omega (arith, holders-nil i)))
 
   -- and no more than that
   pub nil-not : (D : ℕ) → done Q D ≡ false → D < 2 ^ width → covers Q D [] ≡ false
   nil-not D o w =
       by-test (covers Q D [])
-      (λ h. absurd (omega (arith, covers-one D [] h (lead Q D) (lead-lt Q D o w) (lead-holds Q D o), holders-nil (lead Q D))))
+      (λ h.
+      let i = lead Q D in
+      let y = sym (takes-compulsory i (holders Q i []) (lead-compulsory Q D o)) ∙ covers-takes D [] h i (lead-lt Q D o w) (lead-holds Q D o) in
+      absurd (omega (arith, holders-nil i, eqb-true (holders Q i []) 1 y)))
       (λ h. h)

@@ -12,24 +12,24 @@ use Rattle.itemset.specs.Words.{width}
 use Rattle.zdd.specs.Table.{order, allSets, sets, filter}
 use Rattle.base.proofs.Bools.{and-left, and-right}
 use Rattle.exact_cover.specs.Problem.{Problem, lead, done, Rows}
-use Rattle.exact_cover.specs.Cover.{keysFrom, holders, allInside, once, covers, covering, fits, down, candidates, keysOf}
+use Rattle.exact_cover.specs.Cover.{keysFrom, holders, allInside, takes, once, covers, covering, fits, down, candidates, keysOf}
 use Rattle.exact_cover.specs.Recursion.{gather, solve}
 use Rattle.exact_cover.specs.Steps.{each, visit, steps}
 use Rattle.exact_cover.proofs.Solve.{solve-covering}
 
 abbrev five : Problem
-five = record { packages = 0b010111 ∷ 0b000011 ∷ 0b101000 ∷ 0b101100 ∷ 0b010100 ∷ [] }
+five = record { packages = 0b010111 ∷ 0b000011 ∷ 0b101000 ∷ 0b101100 ∷ 0b010100 ∷ []; optional = 0 }
 
 five-order : order (keysOf five) ≡ 0 ∷ 1 ∷ 3 ∷ 4 ∷ 2 ∷ []
-unfolding keysFrom keysOf order lead lowest
+unfolding keysFrom keysOf order lead lowest without
 five-order = refl
 
 five-covering : covering five 0b111111 ≡ (0 ∷ 2 ∷ []) ∷ (1 ∷ 4 ∷ 2 ∷ []) ∷ []
-unfolding keysFrom keysOf order allSets sets holders allInside once width covers filter covering lead lowest holds insideb
+unfolding keysFrom keysOf order allSets sets holders allInside takes once width covers filter covering lead lowest holds insideb without
 five-covering = refl
 
 five-candidates : candidates five 0b111100 ≡ 4 ∷ 3 ∷ []
-unfolding fits down candidates filter lead lowest holds insideb
+unfolding fits down candidates filter lead lowest holds insideb without
 five-candidates = refl
 
 five-steps : steps five 64 0b111111 ≡ 6
@@ -41,26 +41,26 @@ unfolding fits down candidates filter lead lowest holds insideb without size eac
 five-steps-small = refl
 
 abbrev none : Problem
-none = record { packages = [] }
+none = record { packages = []; optional = 0 }
 
 -- no items and no packages: one set, the empty one
 none-of-none : covering none 0 ≡ [] ∷ []
-unfolding keysFrom keysOf order allSets sets holders allInside once width covers filter covering lead lowest holds insideb
+unfolding keysFrom keysOf order allSets sets holders allInside takes once width covers filter covering lead lowest holds insideb without
 none-of-none = refl
 
 -- one item and no packages
 none-of-one : covering none 1 ≡ []
-unfolding keysFrom keysOf order allSets sets holders allInside once width covers filter covering lead lowest holds insideb
+unfolding keysFrom keysOf order allSets sets holders allInside takes once width covers filter covering lead lowest holds insideb without
 none-of-one = refl
 
 -- two packages of the same item
-two-of-one : covering (record { packages = 1 ∷ 1 ∷ [] }) 1 ≡ (0 ∷ []) ∷ (1 ∷ []) ∷ []
-unfolding keysFrom keysOf order allSets sets holders allInside once width covers filter covering lead lowest holds insideb
+two-of-one : covering (record { packages = 1 ∷ 1 ∷ []; optional = 0 }) 1 ≡ (0 ∷ []) ∷ (1 ∷ []) ∷ []
+unfolding keysFrom keysOf order allSets sets holders allInside takes once width covers filter covering lead lowest holds insideb without
 two-of-one = refl
 
 -- the tilings of a board of 2 by 6 with dominoes: 16 packages, more than `covering` goes through in good time
 abbrev dominoes : Problem
-dominoes = record { packages = 3 ∷ 5 ∷ 10 ∷ 12 ∷ 20 ∷ 40 ∷ 48 ∷ 80 ∷ 160 ∷ 192 ∷ 320 ∷ 640 ∷ 768 ∷ 1280 ∷ 2560 ∷ 3072 ∷ [] }
+dominoes = record { packages = 3 ∷ 5 ∷ 10 ∷ 12 ∷ 20 ∷ 40 ∷ 48 ∷ 80 ∷ 160 ∷ 192 ∷ 320 ∷ 640 ∷ 768 ∷ 1280 ∷ 2560 ∷ 3072 ∷ []; optional = 0 }
 
 dominoes-solve : length (solve (size 4095) dominoes 4095) ≡ 13
 unfolding fits down candidates filter gather done solve lead lowest holds insideb without size
@@ -78,7 +78,7 @@ open-from (x ∷ xs) h zero l = not-true (done dominoes x) (and-left (not (done 
 open-from (x ∷ xs) h (suc p) l = open-from xs (and-right (not (done dominoes x)) (openFrom xs) h) p (le-of-suc-le-suc l)
 
 dominoes-good : Rows dominoes
-unfolding done openFrom
+unfolding done openFrom without
 dominoes-good = record { some = open-from (dominoes .packages) refl; few = lit≤ tt }
 
 -- so `covering` has as many, by `solve-covering`

@@ -7,7 +7,7 @@ use native.Mathlib.Omega.{arith}
 use lib.ListN.{length, getD, set, take, length-set}
 use lib.Seq.{getD-set-same, getD-set-other, getD-take, length-take-le, ext-getD}
 use Rattle.itemset.specs.Items.{lowest}
-use Rattle.exact_cover.specs.Problem.{Problem, row, Rows}
+use Rattle.exact_cover.specs.Problem.{Problem, row, compulsory, Rows}
 use Rattle.exact_cover.specs.Cover.{keysOf, Keyed}
 use Rattle.exact_cover.specs.Recursion.{rank}
 use Rattle.exact_cover.proofs.Lead.{lead-is}
@@ -21,7 +21,7 @@ pub record KeyedTo (Q : Problem) (k : ℕ) (keys : List ℕ) : Type 0 where
 pub keyed-start : (Q : Problem) {keys : List ℕ} → length keys ≡ 512 → KeyedTo Q 0 keys
 keyed-start Q e = record { long = e; each = λ j l. absurd (omega arith) }
 
-pub keyed-more : {Q : Problem} {keys : List ℕ} (k v : ℕ) → k < 512 → v ≡ lowest (row Q k) * 512 + k → KeyedTo Q k keys → KeyedTo Q (k + 1) (set keys k v)
+pub keyed-more : {Q : Problem} {keys : List ℕ} (k v : ℕ) → k < 512 → v ≡ lowest (compulsory Q (row Q k)) * 512 + k → KeyedTo Q k keys → KeyedTo Q (k + 1) (set keys k v)
 keyed-more {Q} {keys} k v h e f = record {
   long = length-set keys k v ∙ f .long;
   each = λ j l n. at j l n (ℕ-discrete j k);

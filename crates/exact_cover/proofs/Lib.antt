@@ -13,4 +13,5 @@ pub mod Roomy
 pub mod Loops
 pub mod Partial
 pub mod Trial
+pub mod NoneOptional
 mod Examples

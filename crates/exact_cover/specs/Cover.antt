@@ -1,11 +1,12 @@
--- Exact cover, over a problem Q. A timetable is a set of packages, written as the list of their numbers in precedence; a family is a list of
--- timetables (`zdd`). Assumes nothing.
+-- Exact cover with optional items, over a problem Q: Knuth's exact covers with secondary items (The Art of Computer Programming, 7.2.2.1), where the
+-- compulsory items are the primary ones. With no optional item it is document 000's exact cover (`proofs/NoneOptional`). A timetable is a set of
+-- packages, written as the list of their numbers in precedence; a family is a list of timetables (`zdd`). Assumes nothing.
 use mathlib.Core.Bool.{Bool, true, false, not, _&&_, _||_}
 use mathlib.Core.List.{List, [], _∷_}
 use mathlib.Core.Logic.{_⊎_}
 use mathlib.Core.Path.{_≡_}
 use Prim.Native.Nat.{ℕ, zero, suc, _+_, _*_, _<_}
-use lib.Dec.{eqb}
+use lib.Dec.{eqb, leb}
 use lib.ListN.{length, take}
 use Rattle.itemset.specs.Items.{holds, insideb}
 use Rattle.itemset.specs.Words.{width}
@@ -14,11 +15,11 @@ use Rattle.exact_cover.specs.Problem.{Problem, row, lead}
 
 -- ---- precedence
 
--- package p comes before q: its lowest item is lower, or these are equal and p is lower [document 01: precedence]
+-- package p comes before q: its lowest compulsory item is lower, or these are equal and p is lower [document 01: precedence; document 02, No. 1]
 abbrev pub Before : Problem → ℕ → ℕ → Type 0
 Before Q p q = (lead Q (row Q p) < lead Q (row Q q)) ⊎ ((lead Q (row Q p) ≡ lead Q (row Q q)) × (p < q))
 
--- the keys of packages whose numbers start at n: lowest item × 512 + number. Numbers are below 512, so the order of the keys is `Before`
+-- the keys of packages whose numbers start at n: lowest compulsory item × 512 + number. Numbers are below 512, so the order of the keys is `Before`
 -- (`proofs/Order.antt`, `key-before`); `zdd` knows packages by their keys only
 unfoldable pub keysFrom : Problem → ℕ → List ℕ → List ℕ
 keysFrom Q n [] = []
@@ -44,12 +45,16 @@ unfoldable pub allInside : Problem → ℕ → List ℕ → Bool
 allInside Q D [] = true
 allInside Q D (p ∷ t) = insideb (row Q p) D && allInside Q D t
 
--- every item of D below k is in exactly one package of t
+-- item i may be in n packages of a timetable: a compulsory item in just one, an optional one in at most one
+unfoldable pub takes : Problem → ℕ → ℕ → Bool
+takes Q i n = elim (holds i (Q .optional)) [ true ↦ leb n 1 | false ↦ eqb n 1 ]
+
+-- every item of D below k is in as many packages of t as it takes
 unfoldable pub once : Problem → ℕ → ℕ → List ℕ → Bool
 once Q zero D t = true
-once Q (suc i) D t = (not (holds i D) || eqb (holders Q i t) 1) && once Q i D t
+once Q (suc i) D t = (not (holds i D) || takes Q i (holders Q i t)) && once Q i D t
 
--- each package of t lies inside D, and each item of D is in just one of them [document 01: covers]
+-- each package of t lies inside D, each compulsory item of D is in just one of them and each optional item in at most one [document 02, No. 1: covers]
 unfoldable pub covers : Problem → ℕ → List ℕ → Bool
 covers Q D t = allInside Q D t && once Q width D t
 

@@ -21,7 +21,7 @@ enter w = record { entered = suc (w .entered); memo = w .memo }
 abbrev pub store : ℕ → ℕ → Walk → Walk
 store P A w = record { entered = w .entered; memo = set (w .memo) (A % P) A }
 
--- nothing is left to search: A is empty, or the memo holds it
+-- nothing is left to search: A has no compulsory item, or the memo holds A. The memo goes by all items left, the optional ones too
 abbrev pub known : Problem → ℕ → ℕ → Walk → Bool
 known Q P A w = done Q A || eqb (getD (w .memo) (A % P) 0) A
 
@@ -30,8 +30,8 @@ unfoldable pub each : (ℕ → Walk → Walk) → List ℕ → Walk → Walk
 each f [] w = w
 each f (p ∷ ps) w = each f ps (f p w)
 
--- Search of A: each entry counts; where A is empty or in the memo that is all; otherwise each package that holds A's lowest item and lies inside A,
--- highest number first, has A without it searched, and then A goes into the memo. The first argument bounds the depth, and the size of A is enough
+-- Search of A: each entry counts; where A is done or in the memo that is all; otherwise each package that holds A's lowest compulsory item and lies inside
+-- A, highest number first, has A without it searched, and then A goes into the memo. The first argument bounds the depth, and the size of A is enough
 unfoldable pub visit : ℕ → Problem → ℕ → ℕ → Walk → Walk
 visit zero Q P A w = enter w
 visit (suc d) Q P A w =
