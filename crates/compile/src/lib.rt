@@ -2,19 +2,21 @@
 //
 // Search of an item set and trial of its packages call each other: a trial searches a smaller set, and has fewer packages left after it.
 //
-// What the functions are lent: packs, the packages' items; leads, the packages by lowest item, in 193 buckets (entry p is package p - 1, and 0 is none);
+// What the functions are lent: packs, the packages' items; optional, the items that need not be covered; leads, the packages by lowest compulsory item,
+// in 193 buckets (entry p is package p - 1, and 0 is none);
 // homes, the packages' places in the memo; t, the node table, with its index; memo, with `places` places: an item set (none where the place is empty)
 // and the number of its covers. A set's place is carried along: what a package leaves of the set has its place by one subtraction, so that no step
 // divides. limit is document 01's B. Steps depend on the item sets alone, so a search that finds no room in the table goes on, makes
 // nothing more, and its count of steps stays right: spent is told before full.
 ghost use mathlib.Core.Path.{_≡_};
 ghost use mathlib.Core.Bool.{true, false};
-ghost use Prim.Native.Nat.{ℕ, suc, _+_, _-_, _*_, _/_, _%_, _<_, _≤_};
-ghost use lib.ListN.{length, getD, set};
+ghost use Prim.Native.Nat.{ℕ, _+_, _-_, _/_, _%_, _<_, _≤_};
+ghost use lib.ListN.{length, set};
 ghost use Rattle.compile.specs.State.{Packs, Searchable, Searched, Tried, NoPacks, Unkeyed, Covered};
-ghost use Rattle.itemset.specs.Words.{value};
+ghost use Rattle.itemset.specs.Items.{lowest, without};
+ghost use Rattle.itemset.specs.Words.{width, valueOf, value};
 ghost use Rattle.zdd.specs.Table.{Sound};
-ghost use Rattle.exact_cover.specs.Problem.{problemOf, done, Rows};
+ghost use Rattle.exact_cover.specs.Problem.{problemOf, lead, done, Rows};
 ghost use Rattle.exact_cover.specs.Cover.{keysOf};
 ghost use Rattle.table.specs.State.{Indexed};
 use itemset::Items;
@@ -27,9 +29,26 @@ pub struct Run {
     pub over: bool,
 }
 
+// The compulsory items of a set. (The optional set is lent as an array: by value it would be copied for each search.)
+fn compulsory(items: Items, optional: &[u64; 3]) -> Items
+    ensures { λ r. ⌜ value r ≡ without (value items) (valueOf (now (optional .entry))) ⌝ }
+{
+    itemset::without(items, itemset::of_words(optional))
+}
+
+// The lowest compulsory item of a set that has one.
+fn lowest_compulsory(items: Items, optional: &[u64; 3]) -> u32
+    requires { ⌜ 0 < without (value items) (valueOf (now optional)) ⌝ }
+    ensures { λ r. ⌜ r ≡ lowest (without (value items) (valueOf (now (optional .entry)))) ⌝ }
+    ensures { λ r. ⌜ r < width ⌝ }
+{
+    itemset::lowest(compulsory(items, optional))
+}
+
 // The covers of the items, whose place is `at`. Each call is one entry, and counts, unless the limit is met.
 fn search(
     packs: &[u64],
+    optional: &[u64; 3],
     leads: &[u16; 706],
     homes: &[u64; 512],
     t: &mut [u32],
@@ -41,11 +60,11 @@ fn search(
     limit: u64,
     start: Run,
 ) -> Run
-    requires { ⌜ Packs (problemOf (now packs)) places (now leads) (now homes) ⌝ }
-    requires { ⌜ Searchable (problemOf (now packs)) places (now t) (now index) (now memo) (start .full) ⌝ }
+    requires { ⌜ Packs (problemOf (now packs) (valueOf (now optional))) places (now leads) (now homes) ⌝ }
+    requires { ⌜ Searchable (problemOf (now packs) (valueOf (now optional))) places (now t) (now index) (now memo) (start .full) ⌝ }
     requires { ⌜ start .steps ≤ limit ⌝ }
     requires { ⌜ at ≡ value items % places ⌝ }
-    ensures { λ r. ⌜ Searched (problemOf (now (packs .entry))) places (value items) limit (now (t .entry)) (now (memo .entry)) (start .steps) (start .full)
+    ensures { λ r. ⌜ Searched (problemOf (now (packs .entry)) (valueOf (now (optional .entry)))) places (value items) limit (now (t .entry)) (now (memo .entry)) (start .steps) (start .full)
         (now (t .exit)) (now (index .exit)) (now (memo .exit)) (r .answer) (r .steps) (r .full) (r .over) ⌝ }
 {
     let steps = start.steps;
@@ -59,7 +78,8 @@ fn search(
         };
     }
     let entered = steps + 1;
-    if itemset::is_empty(items) {
+    let due = compulsory(items, optional);
+    if itemset::is_empty(due) {
         return Run {
             answer: 1,
             steps: entered,
@@ -75,8 +95,10 @@ fn search(
             over: false,
         };
     }
+    let low = base::wide(itemset::lowest(due));
     trial(
         packs,
+        optional,
         leads,
         homes,
         t,
@@ -85,6 +107,7 @@ fn search(
         places,
         at,
         items,
+        low,
         limit,
         Run {
             answer: 0,
@@ -95,10 +118,11 @@ fn search(
     )
 }
 
-// The covers of items that are neither none nor in the memo, entered already: the packages of the lowest item are tried, highest number first, and
+// The covers of items that are neither done nor in the memo, entered already: the packages of the lowest compulsory item, low, are tried, highest number first, and
 // the answer goes into the memo, at the items' place.
 fn trial(
     packs: &[u64],
+    optional: &[u64; 3],
     leads: &[u16; 706],
     homes: &[u64; 512],
     t: &mut [u32],
@@ -107,17 +131,18 @@ fn trial(
     places: usize,
     at: usize,
     items: Items,
+    low: usize,
     limit: u64,
     start: Run,
 ) -> Run
-    requires { ⌜ Packs (problemOf (now packs)) places (now leads) (now homes) ⌝ }
-    requires { ⌜ Searchable (problemOf (now packs)) places (now t) (now index) (now memo) (start .full) ⌝ }
+    requires { ⌜ Packs (problemOf (now packs) (valueOf (now optional))) places (now leads) (now homes) ⌝ }
+    requires { ⌜ Searchable (problemOf (now packs) (valueOf (now optional))) places (now t) (now index) (now memo) (start .full) ⌝ }
     requires { ⌜ start .steps ≤ limit ⌝ }
-    requires { ⌜ (done (problemOf (now packs)) (value items) ≡ false) × (at ≡ value items % places) ⌝ }
-    ensures { λ r. ⌜ Tried (problemOf (now (packs .entry))) places (value items) limit (now (t .entry)) (now (memo .entry)) (start .steps) (start .full)
+    requires { ⌜ (done (problemOf (now packs) (valueOf (now optional))) (value items) ≡ false) × (at ≡ value items % places)
+        × (low ≡ lead (problemOf (now packs) (valueOf (now optional))) (value items)) ⌝ }
+    ensures { λ r. ⌜ Tried (problemOf (now (packs .entry)) (valueOf (now (optional .entry)))) places (value items) limit (now (t .entry)) (now (memo .entry)) (start .steps) (start .full)
         (now (t .exit)) (now (index .exit)) (now (memo .exit)) (r .answer) (r .steps) (r .full) (r .over) ⌝ }
 {
-    let low = base::wide(itemset::lowest(items));
     let mut p = leads[low];
     let mut run = Run {
         answer: 0,
@@ -139,6 +164,7 @@ fn trial(
         let there = itemset::place_without(at, home, places);
         let r = search(
             packs,
+            optional,
             leads,
             homes,
             t,
@@ -171,19 +197,25 @@ fn trial(
     run
 }
 
-// Every package goes into the index by lowest item, and its place is computed.
-fn enlist(packs: &[u64], places: usize, leads: &mut [u16; 706], homes: &mut [u64; 512])
-    requires { ⌜ Rows (problemOf (now packs)) ⌝ }
+// Every package goes into the index by lowest compulsory item, and its place is computed.
+fn enlist(
+    packs: &[u64],
+    optional: &[u64; 3],
+    places: usize,
+    leads: &mut [u16; 706],
+    homes: &mut [u64; 512],
+)
+    requires { ⌜ Rows (problemOf (now packs) (valueOf (now optional))) ⌝ }
     requires { ⌜ 0 < places ⌝ }
     requires { ⌜ NoPacks (now leads) ⌝ }
     requires { ⌜ length (now homes) ≡ 512 ⌝ }
-    ensures { λ _. ⌜ Packs (problemOf (now (packs .entry))) places (now (leads .exit)) (now (homes .exit)) ⌝ }
+    ensures { λ _. ⌜ Packs (problemOf (now (packs .entry)) (valueOf (now (optional .entry)))) places (now (leads .exit)) (now (homes .exit)) ⌝ }
 {
     let n = exact_cover::number(packs);
     let mut k: usize = 0;
     while k < n {
         let x = exact_cover::items(packs, k);
-        let low = base::wide(itemset::lowest(x));
+        let low = base::wide(lowest_compulsory(x, optional));
         buckets::insert(leads, 193, low, (k + 1) as u16);
         homes[k] = itemset::place(x, places) as u64;
         k += 1;
@@ -193,6 +225,7 @@ fn enlist(packs: &[u64], places: usize, leads: &mut [u16; 706], homes: &mut [u64
 // The covers of the items: search with a memo that holds nothing. (It calls trial, so that search has one caller and is compiled into it.)
 fn begin(
     packs: &[u64],
+    optional: &[u64; 3],
     leads: &[u16; 706],
     homes: &[u64; 512],
     t: &mut [u32],
@@ -202,10 +235,10 @@ fn begin(
     items: Items,
     limit: u64,
 ) -> Run
-    requires { ⌜ Packs (problemOf (now packs)) places (now leads) (now homes) ⌝ }
-    requires { ⌜ Searchable (problemOf (now packs)) places (now t) (now index) (now memo) false ⌝ }
+    requires { ⌜ Packs (problemOf (now packs) (valueOf (now optional))) places (now leads) (now homes) ⌝ }
+    requires { ⌜ Searchable (problemOf (now packs) (valueOf (now optional))) places (now t) (now index) (now memo) false ⌝ }
     requires { ⌜ Unkeyed places (now memo) ⌝ }
-    ensures { λ r. ⌜ Searched (problemOf (now (packs .entry))) places (value items) limit (now (t .entry)) (now (memo .entry)) 0 false
+    ensures { λ r. ⌜ Searched (problemOf (now (packs .entry)) (valueOf (now (optional .entry)))) places (value items) limit (now (t .entry)) (now (memo .entry)) 0 false
         (now (t .exit)) (now (index .exit)) (now (memo .exit)) (r .answer) (r .steps) (r .full) (r .over) ⌝ }
 {
     if limit == 0 {
@@ -216,7 +249,8 @@ fn begin(
             over: true,
         };
     }
-    if itemset::is_empty(items) {
+    let due = compulsory(items, optional);
+    if itemset::is_empty(due) {
         return Run {
             answer: 1,
             steps: 1,
@@ -225,8 +259,10 @@ fn begin(
         };
     }
     let at = itemset::place(items, places);
+    let low = base::wide(itemset::lowest(due));
     trial(
         packs,
+        optional,
         leads,
         homes,
         t,
@@ -235,6 +271,7 @@ fn begin(
         places,
         at,
         items,
+        low,
         limit,
         Run {
             answer: 0,
@@ -258,26 +295,39 @@ pub struct Answer {
 // The covers of the items, as a number of the table. Where there is none, over or full, the table goes back to what it was.
 pub fn cover(
     packs: &[u64],
+    optional: Items,
     t: &mut [u32],
     index: &mut [u16; 131072],
     memo: &mut [u64],
     items: Items,
     limit: u64,
 ) -> Answer
-    requires { ⌜ Rows (problemOf (now packs)) ⌝ }
-    requires { ⌜ Sound (keysOf (problemOf (now packs))) (now t) ⌝ }
+    requires { ⌜ Rows (problemOf (now packs) (value optional)) ⌝ }
+    requires { ⌜ Sound (keysOf (problemOf (now packs) (value optional))) (now t) ⌝ }
     requires { ⌜ Indexed (now t) (now index) ⌝ }
     requires { ⌜ 4 ≤ length (now memo) ⌝ }
-    ensures { λ r. ⌜ Covered (problemOf (now (packs .entry))) (length (now (memo .entry)) / 4) (value items) limit (now (t .entry))
+    ensures { λ r. ⌜ Covered (problemOf (now (packs .entry)) (value optional)) (length (now (memo .entry)) / 4) (value items) limit (now (t .entry))
         (now (t .exit)) (now (index .exit)) (r .answer) (r .steps) (r .made) (r .full) (r .over) ⌝ }
 {
     let places = memo.len() / 4;
     let mut leads = [0u16; 706];
     let mut homes = [0u64; 512];
-    enlist(packs, places, &mut leads, &mut homes);
+    let set = [optional.w0, optional.w1, optional.w2];
+    enlist(packs, &set, places, &mut leads, &mut homes);
     memo::clear(memo, places);
     let n = t[0];
-    let r = begin(packs, &leads, &homes, t, index, memo, places, items, limit);
+    let r = begin(
+        packs,
+        &set,
+        &leads,
+        &homes,
+        t,
+        index,
+        memo,
+        places,
+        items,
+        limit,
+    );
     if r.over {
         table::rollback(t, n);
         return Answer {
@@ -298,10 +348,11 @@ pub fn cover(
             over: false,
         };
     }
+    let made = t[0] - n;
     Answer {
         answer: r.answer,
         steps: r.steps,
-        made: t[0] - n,
+        made,
         full: false,
         over: false,
     }

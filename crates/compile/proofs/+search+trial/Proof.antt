@@ -1,15 +1,16 @@
 use Rattle.compile.proofs.TurnLaws.{turn-start, turn-later, turn-pass, turn-over, turn-none, turn-idle, turn-made, turn-done}
 use Rattle.compile.proofs.TurnLaws.{At, Turn, search-over, search-empty, search-hit, search-tried, at-first, at-falls, at-later, rest-is, rest-inside, rest-less, rest-place}
-use Rattle.exact_cover.proofs.Lead.{open-pos, done-is}
-use Rattle.exact_cover.specs.Problem.{problemOf, lead}
+use Rattle.exact_cover.proofs.Lead.{lead-is, lead-lt, open-due, done-found}
+use Rattle.exact_cover.specs.Problem.{problemOf, lead, done}
 use Rattle.itemset.proofs.Three.{known, items-lt}
 use Rattle.itemset.proofs.Lists.{width-is}
-use Rattle.itemset.specs.Words.{value}
+use Rattle.itemset.specs.Items.{lowest}
+use Rattle.itemset.specs.Words.{value, valueOf}
 use borrow.Author.Tests.{not-true, not-false, eqb-true, eqb-false}
 use native.Mathlib.Omega.{arith}
 use native.Mathlib.Nat.{mod-lt}
 use Prim.Native.Nat.{_+_, _*_}
-use mathlib.Core.Path.{_≡_, refl, sym, _∙_}
+use mathlib.Core.Path.{_≡_, refl, sym, ap, _∙_}
 use mathlib.Core.Bool.{false}
 use lib.ListN.{length}
 use borrow.Author.Needs.{needs}
@@ -25,6 +26,7 @@ use Rattle.compile.proofs.+search+trial.Lts-trial as trial-lts
 use Rattle.base.proofs.wide.Reads as wide-reads
 use Rattle.exact_cover.proofs.items.Reads as items-reads
 use Rattle.itemset.proofs.inside.Reads as inside-reads
+use Rattle.compile.proofs.compulsory.Reads as compulsory-reads
 use Rattle.itemset.proofs.is_empty.Reads as is-empty-reads
 use Rattle.itemset.proofs.lowest.Reads as lowest-reads
 use Rattle.itemset.proofs.place_without.Reads as place-without-reads
@@ -36,33 +38,39 @@ use Rattle.table.proofs.unique.Reads as unique-reads
 use Rattle.compile.proofs.+search+trial.{statement}
 use Rattle.compile.proofs.+search+trial.Tie.{close}
 
-abbrev μ-search : Measures 6 search-kinds.ps ℕ
-μ-search κs a = 2 * value (a .1 .1 .1 .1 .1 .1 .1 .1 .0) + 1
+abbrev μ-search : Measures 7 search-kinds.ps ℕ
+μ-search κs a = 2 * value (a .1 .1 .1 .1 .1 .1 .1 .1 .1 .0) + 1
 
-abbrev μ-trial : Measures 6 trial-kinds.ps ℕ
-μ-trial κs a = 2 * value (a .1 .1 .1 .1 .1 .1 .1 .1 .0)
+abbrev μ-trial : Measures 7 trial-kinds.ps ℕ
+μ-trial κs a = 2 * value (a .1 .1 .1 .1 .1 .1 .1 .1 .1 .0)
 
-abbrev search-at : ℕ → In 6 search-kinds.ps
-search-at t = and 6 search-kinds.ps (is 6 search-kinds.ps μ-search t) search′.Pre
+abbrev search-at : ℕ → In 7 search-kinds.ps
+search-at t = and 7 search-kinds.ps (is 7 search-kinds.ps μ-search t) search′.Pre
 
-abbrev search-below : ℕ → In 6 search-kinds.ps
-search-below t = and 6 search-kinds.ps (falls 6 search-kinds.ps _<_ μ-search t) search′.Pre
+abbrev search-below : ℕ → In 7 search-kinds.ps
+search-below t = and 7 search-kinds.ps (falls 7 search-kinds.ps _<_ μ-search t) search′.Pre
 
-abbrev trial-at : ℕ → In 6 trial-kinds.ps
-trial-at t = and 6 trial-kinds.ps (is 6 trial-kinds.ps μ-trial t) trial.Pre
+abbrev trial-at : ℕ → In 7 trial-kinds.ps
+trial-at t = and 7 trial-kinds.ps (is 7 trial-kinds.ps μ-trial t) trial.Pre
 
-abbrev trial-below : ℕ → In 6 trial-kinds.ps
-trial-below t = and 6 trial-kinds.ps (falls 6 trial-kinds.ps _<_ μ-trial t) trial.Pre
+abbrev trial-below : ℕ → In 7 trial-kinds.ps
+trial-below t = and 7 trial-kinds.ps (falls 7 trial-kinds.ps _<_ μ-trial t) trial.Pre
 
 -- what the calls in search ask and ensure, where search's measure is t
 abbrev search-claims : ℕ → search-lts.Claims
 search-claims t = (
+  compulsory-reads.Asked,
+  compulsory-reads.Learnt,
   is-empty-reads.Asked,
   is-empty-reads.Learnt,
   is-key-reads.Asked,
   is-key-reads.Learnt,
   number-reads.Asked,
   number-reads.Learnt,
+  lowest-reads.Asked,
+  lowest-reads.Learnt,
+  wide-reads.Asked,
+  wide-reads.Learnt,
   trial-below t,
   trial.Post,
 )
@@ -74,20 +82,20 @@ search-returns t c =
 
 search-returns-2 : (t : ℕ) → search-lts.Need-returns-2 (search-claims t) (search-at t) search′.Post
 search-returns-2 t c =
-    let s = c .before .before .before .before .before .before in
+    let s = c .before .before .before .before .before .before .before in
     let x = s .args .items in
-    search-empty (s .pre .1 .0) (s .pre .1 .1 .0) (value x) _ (omega (arith, c .before .before .if1 .left)) refl (items-lt x (known x (s .good .1 .1 .1 .1 .1 .1 .1 .1 .0)))
-    (done-is _ _ ∙ sym (c .before .is-empty .ensures) ∙ c .if2 .taken)
+    search-empty (s .pre .1 .0) (s .pre .1 .1 .0) (value x) _ (omega (arith, c .before .before .before .if1 .left)) refl (items-lt x (known x (s .good .1 .1 .1 .1 .1 .1 .1 .1 .1 .0)))
+    (done-found _ _ (c .before .before .compulsory .ensures) (c .before .is-empty .ensures) ∙ c .if2 .taken)
 
 search-is-key-requires : (t : ℕ) → search-lts.Need-is-key-requires (search-claims t) (search-at t) search′.Post
 search-is-key-requires t c κs =
-    let pre = c .before .before .before .before .before .before .before .pre in
-    (pre .1 .1 .0 .held .long, omega (arith, pre .1 .1 .1 .1, mod-lt (value (c .before .before .before .before .before .before .before .args .items)) (pre .1 .1 .0 .held .some)))
+    let pre = c .before .before .before .before .before .before .before .before .pre in
+    (pre .1 .1 .0 .held .long, omega (arith, pre .1 .1 .1 .1, mod-lt (value (c .before .before .before .before .before .before .before .before .args .items)) (pre .1 .1 .0 .held .some)))
 
 search-number-requires : (t : ℕ) → search-lts.Need-number-requires (search-claims t) (search-at t) search′.Post
 search-number-requires t c κs =
-    let pre = c .before .before .before .before .before .before .before .before .before .before .pre in
-    let given = c .before .before .before .before .before .before .before .before .before .before .args in
+    let pre = c .before .before .before .before .before .before .before .before .before .before .before .pre in
+    let given = c .before .before .before .before .before .before .before .before .before .before .before .args in
     (pre .1 .1 .0 .held .long, omega (arith, pre .1 .1 .1 .1, mod-lt (value (given .items)) (pre .1 .1 .0 .held .some)))
 
 search-returns-3 : (t : ℕ) → search-lts.Need-returns-3 (search-claims t) (search-at t) search′.Post
@@ -96,19 +104,34 @@ search-returns-3 t c =
     let is-key = c .before .before .before .is-key in
     let if2 = c .before .before .before .before .before .if2 in
     let is-empty = c .before .before .before .before .before .before .is-empty in
-    let if1 = c .before .before .before .before .before .before .before .if1 in
-    let s = c .before .before .before .before .before .before .before .before .before .before .before in
+    let due = c .before .before .before .before .before .before .before .compulsory in
+    let if1 = c .before .before .before .before .before .before .before .before .if1 in
+    let s = c .before .before .before .before .before .before .before .before .before .before .before .before in
     search-hit (s .pre .1 .0) (s .pre .1 .1 .0) (value (s .args .items)) (s .args .at) _ _ (omega (arith, if1 .left)) refl
-    (done-is _ _ ∙ sym (is-empty .ensures) ∙ if2 .left) (s .pre .1 .1 .1 .1) (eqb-true _ _ (sym (is-key .ensures) ∙ if3 .taken)) (c .number .ensures)
+    (done-found _ _ (due .ensures) (is-empty .ensures) ∙ if2 .left) (s .pre .1 .1 .1 .1) (eqb-true _ _ (sym (is-key .ensures) ∙ if3 .taken)) (c .number .ensures)
+
+search-lowest-requires : (t : ℕ) → search-lts.Need-lowest-requires (search-claims t) (search-at t) search′.Post
+search-lowest-requires t c κs =
+    let due = c .before .before .before .before .before .compulsory in
+    let s = c .before .before .before .before .before .before .before .before .before .before in
+    let Q = problemOf (s .args .packs .now) (valueOf (s .args .optional .now)) in
+    rw (due .ensures) (open-due Q (value (s .args .items)) (done-found Q _ (due .ensures) (c .before .before .before .before .is-empty .ensures) ∙ c .before .before .before .if2 .left))
 
 search-trial-requires : (t : ℕ) → search-lts.Need-trial-requires (search-claims t) (search-at t) search′.Post
 search-trial-requires t c κs =
-    let if2 = c .before .before .before .before .before .before .if2 in
-    let is-empty = c .before .before .before .before .before .before .before .is-empty in
-    let if1 = c .before .before .before .before .before .before .before .before .if1 in
-    let pre = c .before .before .before .before .before .before .before .before .before .before .before .before .pre in
-    let q = pre .1 in
-    (omega (arith, pre .0), (q .0, (q .1 .0, (omega (arith, if1 .left), (done-is _ _ ∙ sym (is-empty .ensures) ∙ if2 .left, q .1 .1 .1)))))
+    let wide = c .before .before .before .wide in
+    let lowest′ = c .before .before .before .before .lowest in
+    let if2 = c .before .before .before .before .before .before .before .before .if2 in
+    let is-empty = c .before .before .before .before .before .before .before .before .before .is-empty in
+    let due = c .before .before .before .before .before .before .before .before .before .before .compulsory in
+    let if1 = c .before .before .before .before .before .before .before .before .before .before .before .if1 in
+    let s = c .before .before .before .before .before .before .before .before .before .before .before .before .before .before .before in
+    let q = s .pre .1 in
+    let Q = problemOf (s .args .packs .now) (valueOf (s .args .optional .now)) in
+    let A = value (s .args .items) in
+    let o : done Q A ≡ false = done-found Q A (due .ensures) (is-empty .ensures) ∙ if2 .left in
+    let e : wide .result ≡ lead Q A = wide .ensures ∙ lowest′ .ensures .0 ∙ ap lowest (due .ensures) ∙ sym (lead-is Q A) in
+    (omega (arith, s .pre .0), (q .0, (q .1 .0, (omega (arith, if1 .left), (o, q .1 .1 .1, e)))))
 
 search-same-length-2 : (t : ℕ) → search-lts.Need-same-length-2 (search-claims t) (search-at t) search′.Post
 search-same-length-2 t c = c .before .before .before .before .trial .ensures .grown .long
@@ -119,28 +142,27 @@ search-same-length-3 t c = c .before .before .before .before .trial .ensures .sa
 search-returns-4 : (t : ℕ) → search-lts.Need-returns-4 (search-claims t) (search-at t) search′.Post
 search-returns-4 t c =
     let trial = c .before .before .before .before .trial in
-    let if3 = c .before .before .before .before .before .before .before .before .if3 in
-    let is-key = c .before .before .before .before .before .before .before .before .before .is-key in
-    let if2 = c .before .before .before .before .before .before .before .before .before .before .before .if2 in
-    let is-empty = c .before .before .before .before .before .before .before .before .before .before .before .before .is-empty in
-    let s = c .before .before .before .before .before .before .before .before .before .before .before .before .before .before .before .before .before in
-    search-tried (s .pre .1 .0) (s .pre .1 .1 .0) (value (s .args .items)) (s .args .at) _ refl (done-is _ _ ∙ sym (is-empty .ensures) ∙ if2 .left)
+    let if3 = c .before .before .before .before .before .before .before .before .before .before .if3 in
+    let is-key = c .before .before .before .before .before .before .before .before .before .before .before .is-key in
+    let if2 = c .before .before .before .before .before .before .before .before .before .before .before .before .before .if2 in
+    let is-empty = c .before .before .before .before .before .before .before .before .before .before .before .before .before .before .is-empty in
+    let due = c .before .before .before .before .before .before .before .before .before .before .before .before .before .before .before .compulsory in
+    let s = c .before .before .before .before .before .before .before .before .before .before .before .before .before .before .before .before .before .before .before .before in
+    search-tried (s .pre .1 .0) (s .pre .1 .1 .0) (value (s .args .items)) (s .args .at) _ refl (done-found _ _ (due .ensures) (is-empty .ensures) ∙ if2 .left)
     (s .pre .1 .1 .1 .1) (eqb-false _ _ (sym (is-key .ensures) ∙ if3 .left)) (trial .ensures)
 
 abbrev trial-Inv-loop : trial-lts.InvT-loop
-trial-Inv-loop packs leads homes t₀ index₀ memo₀ places at items limit low p₀ run₀ t index memo p run =
-    Turn (problemOf packs) places (value items) limit t₀ memo₀ (run₀ .steps) (run₀ .full) t index memo p (run .answer) (run .steps) (run .full)
-    × (At (problemOf packs) (value items) p × (run .over ≡ false))
+trial-Inv-loop packs optional leads homes t₀ index₀ memo₀ places at items low limit p₀ run₀ t index memo p run =
+    Turn (problemOf packs (valueOf optional)) places (value items) limit t₀ memo₀ (run₀ .steps) (run₀ .full) t index memo p (run .answer) (run .steps) (run .full)
+    × (At (problemOf packs (valueOf optional)) (value items) p × (run .over ≡ false))
 
 abbrev trial-μ-loop : trial-lts.MeasureT-loop
-trial-μ-loop packs leads homes t₀ index₀ memo₀ places at items limit low p₀ run₀ t index memo p run =
+trial-μ-loop packs optional leads homes t₀ index₀ memo₀ places at items low limit p₀ run₀ t index memo p run =
     p
 
 -- what the calls in trial ask and ensure, where trial's measure is t
 abbrev trial-claims : ℕ → trial-lts.Claims
 trial-claims t = (
-  lowest-reads.Asked,
-  lowest-reads.Learnt,
   wide-reads.Asked,
   wide-reads.Learnt,
   items-reads.Asked,
@@ -159,61 +181,66 @@ trial-claims t = (
   store-reads.Learnt,
 )
 
-trial-lowest-requires : (t : ℕ) → trial-lts.Need-lowest-requires (trial-claims t) (trial-at t) trial.Post trial-Inv-loop trial-μ-loop
-trial-lowest-requires t c κs = open-pos _ _ (c .before .before .before .pre .1 .1 .1 .1 .0)
+-- the lead is an item
+low-lt : (t : ℕ) (s : trial-lts.Start (trial-claims t) (trial-at t) trial.Post trial-Inv-loop trial-μ-loop) → s .args .low < 192
+low-lt t s =
+    let x = s .args .items in
+    let q = s .pre .1 .1 .1 .1 in
+    omega (arith, width-is, q .2, lead-lt _ (value x) (q .0) (items-lt x (known x (s .good .1 .1 .1 .1 .1 .1 .1 .1 .1 .0))))
+
+trial-mul-p : (t : ℕ) → trial-lts.Need-mul-p (trial-claims t) (trial-at t) trial.Post trial-Inv-loop trial-μ-loop
+trial-mul-p t c = omega (arith, low-lt t (c .before .before .before))
 
 trial-element-copy-out-p : (t : ℕ) → trial-lts.Need-element-copy-out-p (trial-claims t) (trial-at t) trial.Post trial-Inv-loop trial-μ-loop
-trial-element-copy-out-p t c =
-    omega (arith, c .wide .ensures, width-is, c .before .lowest .ensures .1)
+trial-element-copy-out-p t c = omega (arith, low-lt t (c .before .before .before))
 
 trial-loop-holds : (t : ℕ) → trial-lts.Need-loop-holds (trial-claims t) (trial-at t) trial.Post trial-Inv-loop trial-μ-loop
-unfolding lead
 trial-loop-holds t c =
-    let s = c .before .before .before .before .before .before in
+    let s = c .before .before .before .before in
     let x = s .args .items in
     let q = s .pre .1 in
-    let small = items-lt x (known x (s .good .1 .1 .1 .1 .1 .1 .1 .1 .0)) in
-    rw (c .before .wide .ensures, c .before .before .lowest .ensures .0)
+    let small = items-lt x (known x (s .good .1 .1 .1 .1 .1 .1 .1 .1 .1 .0)) in
+    rw (q .1 .1 .1 .2)
     (turn-start (q .0) (value x) small (q .1 .1 .1 .0) (q .1 .0) (q .1 .1 .0), (at-first (q .0) (value x) small (q .1 .1 .1 .0), refl))
 
 trial-items-requires : (t : ℕ) → trial-lts.Need-items-requires (trial-claims t) (trial-at t) trial.Post trial-Inv-loop trial-μ-loop
-trial-items-requires t c κs = omega (arith, c .wide2 .ensures, c .before .before .loop .inv .1 .0 .inside, c .before .loop-test .taken)
+trial-items-requires t c κs = omega (arith, c .wide .ensures, c .before .before .loop .inv .1 .0 .inside, c .before .loop-test .taken)
 
 trial-element-copy-out-home : (t : ℕ) → trial-lts.Need-element-copy-out-home (trial-claims t) (trial-at t) trial.Post trial-Inv-loop trial-μ-loop
 trial-element-copy-out-home t c =
     let loop-test = c .before .before .loop-test in
     let loop = c .before .before .before .loop in
-    let pre = c .before .before .before .before .before .before .before .before .before .before .pre in
-    omega (arith, c .before .wide2 .ensures, loop .inv .1 .0 .inside, loop-test .taken, pre .1 .0 .rows .few)
+    let pre = c .before .before .before .before .before .before .before .before .pre in
+    omega (arith, c .before .wide .ensures, loop .inv .1 .0 .inside, loop-test .taken, pre .1 .0 .rows .few)
 
 trial-element-copy-out-later : (t : ℕ) → trial-lts.Need-element-copy-out-later (trial-claims t) (trial-at t) trial.Post trial-Inv-loop trial-μ-loop
 trial-element-copy-out-later t c =
-    let wide2 = c .before .before .wide2 in
+    let wide = c .before .before .wide in
     let loop-test = c .before .before .before .loop-test in
     let loop = c .before .before .before .before .loop in
-    let pre = c .before .before .before .before .before .before .before .before .before .before .before .pre in
-    omega (arith, wide2 .ensures, loop .inv .1 .0 .inside, loop-test .taken, pre .1 .0 .rows .few)
+    let pre = c .before .before .before .before .before .before .before .before .before .pre in
+    omega (arith, wide .ensures, loop .inv .1 .0 .inside, loop-test .taken, pre .1 .0 .rows .few)
 
 trial-loop-less : (t : ℕ) → trial-lts.Need-loop-less (trial-claims t) (trial-at t) trial.Post trial-Inv-loop trial-μ-loop
 trial-loop-less t c =
-    let wide2 = c .before .before .before .before .before .wide2 in
+    let wide = c .before .before .before .before .before .wide in
     let loop-test = c .before .before .before .before .before .before .loop-test in
     let loop = c .before .before .before .before .before .before .before .loop in
-    let s = c .before .before .before .before .before .before .before .before .before .before .before .before .before .before in
+    let s = c .before .before .before .before .before .before .before .before .before .before .before .before in
     let x = s .args .items in
     let q = s .pre .1 in
-    at-falls (q .0) (value x) (items-lt x (known x (s .good .1 .1 .1 .1 .1 .1 .1 .1 .0))) (q .1 .1 .1 .0) (loop .p) (wide2 .result)
-    (omega (arith, wide2 .ensures, loop-test .taken)) (loop .inv .1 .0)
+    at-falls (q .0) (value x) (items-lt x (known x (s .good .1 .1 .1 .1 .1 .1 .1 .1 .1 .0))) (q .1 .1 .1 .0) (loop .p) (wide .result)
+    (omega (arith, wide .ensures, loop-test .taken)) (loop .inv .1 .0)
 
 trial-loop-again : (t : ℕ) → trial-lts.Need-loop-again (trial-claims t) (trial-at t) trial.Post trial-Inv-loop trial-μ-loop
 trial-loop-again t c =
-    let s = c .before .before .before .before .before .before .before .before .before .before .before .before .before .before in
+    let s = c .before .before .before .before .before .before .before .before .before .before .before .before in
     let l = c .before .before .before .before .before .before .before .loop in
-    let k = c .before .before .before .before .before .wide2 .result in
+    let k = c .before .before .before .before .before .wide .result in
     let x = s .args .items in
     let q = s .pre .1 in
-    let small = items-lt x (known x (s .good .1 .1 .1 .1 .1 .1 .1 .1 .0)) in
-    let e : l .p ≡ k + 1 = omega (arith, c .before .before .before .before .before .wide2 .ensures, c .before .before .before .before .before .before .loop-test .taken) in (
+    let small = items-lt x (known x (s .good .1 .1 .1 .1 .1 .1 .1 .1 .1 .0)) in
+    let e : l .p ≡ k + 1 = omega (arith, c .before .before .before .before .before .wide .ensures, c .before .before .before .before .before .before .loop-test .taken) in (
       turn-pass (q .0) (value x) small (q .1 .1 .1 .0) (l .p) k e (l .inv .1 .0)
           (rw (c .before .before .before .before .items .ensures) at (sym (c .before .inside .ensures) ∙ not-true (c .before .inside .result) (c .if1 .taken))) (l .inv .0),
       (at-later (q .0) (value x) small (q .1 .1 .1 .0) (l .p) k e (l .inv .1 .0), l .inv .1 .1),
@@ -221,14 +248,14 @@ trial-loop-again t c =
 
 trial-place-without-requires : (t : ℕ) → trial-lts.Need-place-without-requires (trial-claims t) (trial-at t) trial.Post trial-Inv-loop trial-μ-loop
 trial-place-without-requires t c κs =
-    let wide2 = c .before .before .before .before .before .before .wide2 in
+    let wide = c .before .before .before .before .before .before .wide in
     let loop-test = c .before .before .before .before .before .before .before .loop-test in
     let loop = c .before .before .before .before .before .before .before .before .loop in
-    let s = c .before .before .before .before .before .before .before .before .before .before .before .before .before .before .before in
+    let s = c .before .before .before .before .before .before .before .before .before .before .before .before .before in
     let q = s .pre .1 in
-    let l : wide2 .result < length (problemOf (s .args .packs .now) .packages) = omega (arith, wide2 .ensures, loop .inv .1 .0 .inside, loop-test .taken) in (
+    let l : wide .result < length (problemOf (s .args .packs .now) (valueOf (s .args .optional .now)) .packages) = omega (arith, wide .ensures, loop .inv .1 .0 .inside, loop-test .taken) in (
       omega (arith, q .1 .1 .1 .1, mod-lt (value (s .args .items)) (q .1 .0 .held .some)),
-      rw (q .0 .home (wide2 .result) l) (mod-lt _ (q .1 .0 .held .some)),
+      rw (q .0 .home (wide .result) l) (mod-lt _ (q .1 .0 .held .some)),
     )
 
 trial-search-requires : (t : ℕ) → trial-lts.Need-search-requires (trial-claims t) (trial-at t) trial.Post trial-Inv-loop trial-μ-loop
@@ -238,16 +265,16 @@ trial-search-requires t c κs =
     let if1 = c .before .before .before .before .before .if1 in
     let inside = c .before .before .before .before .before .before .inside in
     let items = c .before .before .before .before .before .before .before .before .before .items in
-    let wide2 = c .before .before .before .before .before .before .before .before .before .before .wide2 in
+    let wide = c .before .before .before .before .before .before .before .before .before .before .wide in
     let loop-test = c .before .before .before .before .before .before .before .before .before .before .before .loop-test in
     let loop = c .before .before .before .before .before .before .before .before .before .before .before .before .loop in
-    let s = c .before .before .before .before .before .before .before .before .before .before .before .before .before .before .before .before .before .before .before in
-    let k = wide2 .result in
+    let s = c .before .before .before .before .before .before .before .before .before .before .before .before .before .before .before .before .before in
+    let k = wide .result in
     let x = s .args .items in
     let q = s .pre .1 in
     let u = loop .inv .0 in
-    let small = items-lt x (known x (s .good .1 .1 .1 .1 .1 .1 .1 .1 .0)) in
-    let e : loop .p ≡ k + 1 = omega (arith, wide2 .ensures, loop-test .taken) in
+    let small = items-lt x (known x (s .good .1 .1 .1 .1 .1 .1 .1 .1 .1 .0)) in
+    let e : loop .p ≡ k + 1 = omega (arith, wide .ensures, loop-test .taken) in
     let i = sym (inside .ensures) ∙ not-false (inside .result) (if1 .left) in (
       omega (arith, s .pre .0, rest-less (q .0) (value x) small (q .1 .1 .1 .0) (loop .p) k e (loop .inv .1 .0) _ _ (items .ensures) (without .ensures) i),
       (
@@ -285,16 +312,16 @@ trial-returns t c =
     let inside = c .before .before .before .before .before .before .before .before .before .before .before .before .inside in
     let here = c .before .before .before .before .before .before .before .before .before .before .before .before .before .before .before in
     let items = here .items in
-    let wide2 = here .before .wide2 in
+    let wide = here .before .wide in
     let loop-test = here .before .before .loop-test in
     let loop = here .before .before .before .loop in
     let mid = c .before .before .before .before .before .before .before .before .before .before .before .before in
-    let s = mid .before .before .before .before .before .before .before .before .before .before .before .before .before in
-    let k = wide2 .result in
+    let s = mid .before .before .before .before .before .before .before .before .before .before .before in
+    let k = wide .result in
     let x = s .args .items in
     let q = s .pre .1 in
-    let small = items-lt x (known x (s .good .1 .1 .1 .1 .1 .1 .1 .1 .0)) in
-    let e : loop .p ≡ k + 1 = omega (arith, wide2 .ensures, loop-test .taken) in
+    let small = items-lt x (known x (s .good .1 .1 .1 .1 .1 .1 .1 .1 .1 .0)) in
+    let e : loop .p ≡ k + 1 = omega (arith, wide .ensures, loop-test .taken) in
     let a = loop .inv .1 .0 in
     let i = sym (inside .ensures) ∙ not-false (inside .result) (if1 .left) in
     turn-over (q .0) (value x) small (q .1 .1 .1 .0) (loop .p) k _ e a
@@ -305,15 +332,15 @@ trial-returns t c =
 trial-loop-less-2 : (t : ℕ) → trial-lts.Need-loop-less-2 (trial-claims t) (trial-at t) trial.Post trial-Inv-loop trial-μ-loop
 trial-loop-less-2 t c =
     let here = c .before .before .before .before .before .before .before .before .before .before .before .before .before .before .before .before .before in
-    let wide2 = here .wide2 in
+    let wide = here .wide in
     let loop-test = here .before .loop-test in
     let loop = here .before .before .loop in
     let mid = c .before .before .before .before .before .before .before .before .before .before .before .before .before in
-    let s = mid .before .before .before .before .before .before .before .before .before .before .before .before .before in
+    let s = mid .before .before .before .before .before .before .before .before .before .before .before in
     let x = s .args .items in
     let q = s .pre .1 in
-    at-falls (q .0) (value x) (items-lt x (known x (s .good .1 .1 .1 .1 .1 .1 .1 .1 .0))) (q .1 .1 .1 .0) (loop .p) (wide2 .result)
-    (omega (arith, wide2 .ensures, loop-test .taken)) (loop .inv .1 .0)
+    at-falls (q .0) (value x) (items-lt x (known x (s .good .1 .1 .1 .1 .1 .1 .1 .1 .1 .0))) (q .1 .1 .1 .0) (loop .p) (wide .result)
+    (omega (arith, wide .ensures, loop-test .taken)) (loop .inv .1 .0)
 
 trial-loop-again-2 : (t : ℕ) → trial-lts.Need-loop-again-2 (trial-claims t) (trial-at t) trial.Post trial-Inv-loop trial-μ-loop
 trial-loop-again-2 t c =
@@ -323,15 +350,15 @@ trial-loop-again-2 t c =
     let here = c .before .before .before .before .before .before .before .before .before .before .before .before .before in
     let inside = here .inside in
     let items = here .before .before .before .items in
-    let wide2 = here .before .before .before .before .wide2 in
+    let wide = here .before .before .before .before .wide in
     let loop-test = here .before .before .before .before .before .loop-test in
     let loop = here .before .before .before .before .before .before .loop in
-    let s = here .before .before .before .before .before .before .before .before .before .before .before .before .before in
-    let k = wide2 .result in
+    let s = here .before .before .before .before .before .before .before .before .before .before .before in
+    let k = wide .result in
     let x = s .args .items in
     let q = s .pre .1 in
-    let small = items-lt x (known x (s .good .1 .1 .1 .1 .1 .1 .1 .1 .0)) in
-    let e : loop .p ≡ k + 1 = omega (arith, wide2 .ensures, loop-test .taken) in
+    let small = items-lt x (known x (s .good .1 .1 .1 .1 .1 .1 .1 .1 .1 .0)) in
+    let e : loop .p ≡ k + 1 = omega (arith, wide .ensures, loop-test .taken) in
     let a = loop .inv .1 .0 in
     let i = sym (inside .ensures) ∙ not-false (inside .result) (if1 .left) in (
       turn-later (q .0) (value x) small (q .1 .1 .1 .0) (loop .p) k e a
@@ -345,15 +372,15 @@ trial-loop-again-2 t c =
 trial-loop-less-3 : (t : ℕ) → trial-lts.Need-loop-less-3 (trial-claims t) (trial-at t) trial.Post trial-Inv-loop trial-μ-loop
 trial-loop-less-3 t c =
     let here = c .before .before .before .before .before .before .before .before .before .before .before .before .before .before .before .before .before .before in
-    let wide2 = here .wide2 in
+    let wide = here .wide in
     let loop-test = here .before .loop-test in
     let loop = here .before .before .loop in
     let mid = c .before .before .before .before .before .before .before .before .before .before .before .before .before in
-    let s = mid .before .before .before .before .before .before .before .before .before .before .before .before .before .before in
+    let s = mid .before .before .before .before .before .before .before .before .before .before .before .before in
     let x = s .args .items in
     let q = s .pre .1 in
-    at-falls (q .0) (value x) (items-lt x (known x (s .good .1 .1 .1 .1 .1 .1 .1 .1 .0))) (q .1 .1 .1 .0) (loop .p) (wide2 .result)
-    (omega (arith, wide2 .ensures, loop-test .taken)) (loop .inv .1 .0)
+    at-falls (q .0) (value x) (items-lt x (known x (s .good .1 .1 .1 .1 .1 .1 .1 .1 .1 .0))) (q .1 .1 .1 .0) (loop .p) (wide .result)
+    (omega (arith, wide .ensures, loop-test .taken)) (loop .inv .1 .0)
 
 trial-loop-again-3 : (t : ℕ) → trial-lts.Need-loop-again-3 (trial-claims t) (trial-at t) trial.Post trial-Inv-loop trial-μ-loop
 trial-loop-again-3 t c =
@@ -364,15 +391,15 @@ trial-loop-again-3 t c =
     let if1 = here .if1 in
     let inside = here .before .inside in
     let items = here .before .before .before .before .items in
-    let wide2 = here .before .before .before .before .before .wide2 in
+    let wide = here .before .before .before .before .before .wide in
     let loop-test = here .before .before .before .before .before .before .loop-test in
     let loop = here .before .before .before .before .before .before .before .loop in
-    let s = here .before .before .before .before .before .before .before .before .before .before .before .before .before .before in
-    let k = wide2 .result in
+    let s = here .before .before .before .before .before .before .before .before .before .before .before .before in
+    let k = wide .result in
     let x = s .args .items in
     let q = s .pre .1 in
-    let small = items-lt x (known x (s .good .1 .1 .1 .1 .1 .1 .1 .1 .0)) in
-    let e : loop .p ≡ k + 1 = omega (arith, wide2 .ensures, loop-test .taken) in
+    let small = items-lt x (known x (s .good .1 .1 .1 .1 .1 .1 .1 .1 .1 .0)) in
+    let e : loop .p ≡ k + 1 = omega (arith, wide .ensures, loop-test .taken) in
     let a = loop .inv .1 .0 in
     let i = sym (inside .ensures) ∙ not-false (inside .result) (if1 .left) in (
       turn-later (q .0) (value x) small (q .1 .1 .1 .0) (loop .p) k e a
@@ -390,14 +417,14 @@ trial-loop-less-4 : (t : ℕ) → trial-lts.Need-loop-less-4 (trial-claims t) (t
 trial-loop-less-4 t c =
     let mid = c .before .before .before .before .before .before .before .before .before .before .before in
     let here = mid .before .before .before .before .before .before .before .before .before .before .before .before in
-    let wide2 = here .wide2 in
+    let wide = here .wide in
     let loop-test = here .before .loop-test in
     let loop = here .before .before .loop in
-    let s = here .before .before .before .before .before .before .before .before .before in
+    let s = here .before .before .before .before .before .before .before in
     let x = s .args .items in
     let q = s .pre .1 in
-    at-falls (q .0) (value x) (items-lt x (known x (s .good .1 .1 .1 .1 .1 .1 .1 .1 .0))) (q .1 .1 .1 .0) (loop .p) (wide2 .result)
-    (omega (arith, wide2 .ensures, loop-test .taken)) (loop .inv .1 .0)
+    at-falls (q .0) (value x) (items-lt x (known x (s .good .1 .1 .1 .1 .1 .1 .1 .1 .1 .0))) (q .1 .1 .1 .0) (loop .p) (wide .result)
+    (omega (arith, wide .ensures, loop-test .taken)) (loop .inv .1 .0)
 
 trial-loop-again-4 : (t : ℕ) → trial-lts.Need-loop-again-4 (trial-claims t) (trial-at t) trial.Post trial-Inv-loop trial-μ-loop
 trial-loop-again-4 t c =
@@ -411,31 +438,31 @@ trial-loop-again-4 t c =
     let if1 = here .before .if1 in
     let inside = here .before .before .inside in
     let items = here .before .before .before .before .before .items in
-    let wide2 = here .before .before .before .before .before .before .wide2 in
+    let wide = here .before .before .before .before .before .before .wide in
     let loop-test = here .before .before .before .before .before .before .before .loop-test in
     let loop = here .before .before .before .before .before .before .before .before .loop in
     let mid = c .before .before .before .before .before .before .before .before .before .before .before .before .before .before .before .before in
-    let s = mid .before .before .before .before .before .before .before .before .before .before .before .before .before .before .before .before in
-    let k = wide2 .result in
+    let s = mid .before .before .before .before .before .before .before .before .before .before .before .before .before .before in
+    let k = wide .result in
     let x = s .args .items in
     let q = s .pre .1 in
-    let small = items-lt x (known x (s .good .1 .1 .1 .1 .1 .1 .1 .1 .0)) in
-    let e : loop .p ≡ k + 1 = omega (arith, wide2 .ensures, loop-test .taken) in
+    let small = items-lt x (known x (s .good .1 .1 .1 .1 .1 .1 .1 .1 .1 .0)) in
+    let e : loop .p ≡ k + 1 = omega (arith, wide .ensures, loop-test .taken) in
     let a = loop .inv .1 .0 in
     let i = sym (inside .ensures) ∙ not-false (inside .result) (if1 .left) in (
       turn-later (q .0) (value x) small (q .1 .1 .1 .0) (loop .p) k e a
           (turn-made (q .0) (value x) small (q .1 .1 .1 .0) (loop .p) k _ e a
           (rest-inside (q .0) (value x) small (q .1 .1 .1 .0) (loop .p) k e a _ _ (items .ensures) (without .ensures) i)
           (rest-is (q .0) (value x) small (q .1 .1 .1 .0) (loop .p) k e a _ _ (items .ensures) (without .ensures) i)
-          (if2 .left) (loop .inv .0) (search′ .ensures) (if4 .left) (omega (arith, if3 .left)) _ _ (sym (wide2 .ensures)) (unique .ensures)),
+          (if2 .left) (loop .inv .0) (search′ .ensures) (if4 .left) (omega (arith, if3 .left)) _ _ (sym (wide .ensures)) (unique .ensures)),
       (at-later (q .0) (value x) small (q .1 .1 .1 .0) (loop .p) k e a, loop .inv .1 .1),
     )
 
 trial-store-requires : (t : ℕ) → trial-lts.Need-store-requires (trial-claims t) (trial-at t) trial.Post trial-Inv-loop trial-μ-loop
 trial-store-requires t c κs =
     let loop = c .before .before .loop in
-    let pre = c .before .before .before .before .before .before .before .before .before .pre in
-    let given = c .before .before .before .before .before .before .before .before .before .args in
+    let pre = c .before .before .before .before .before .before .before .pre in
+    let given = c .before .before .before .before .before .before .before .args in
     let h = loop .inv .0 .held in
     (h .long, omega (arith, pre .1 .1 .1 .1 .1, mod-lt (value (given .items)) (h .some)))
 
@@ -450,10 +477,10 @@ trial-returns-2 t c =
     let store = c .before .before .store in
     let loop-test = c .before .before .before .before .loop-test in
     let loop = c .before .before .before .before .before .loop in
-    let s = c .before .before .before .before .before .before .before .before .before .before .before .before in
+    let s = c .before .before .before .before .before .before .before .before .before .before in
     let x = s .args .items in
     let q = s .pre .1 in
-    turn-done (q .0) (value x) (items-lt x (known x (s .good .1 .1 .1 .1 .1 .1 .1 .1 .0))) (q .1 .1 .1 .0) (loop .p) (s .args .at) (loop .inv .1 .1)
+    turn-done (q .0) (value x) (items-lt x (known x (s .good .1 .1 .1 .1 .1 .1 .1 .1 .1 .0))) (q .1 .1 .1 .0) (loop .p) (s .args .at) (loop .inv .1 .1)
     (omega (arith, loop-test .left)) (q .1 .1 .1 .1) (store .ensures) (loop .inv .0)
 
 pub +search+trial-spec : {M : Type 1} → statement M
@@ -463,18 +490,19 @@ pub +search+trial-spec : {M : Type 1} → statement M
     (search-returns t)
     (λ c. search needs)
     (λ c κs. search needs)
+    (λ c κs. search needs)
     (search-returns-2 t)
     (search-is-key-requires t)
     (search-number-requires t)
     (λ c. search needs)
     (search-returns-3 t)
+    (search-lowest-requires t)
+    (λ c κs. search needs)
     (search-trial-requires t)
     (search-same-length-2 t)
     (search-same-length-3 t)
     (search-returns-4 t))
     λ t. trial-lts.spec (
-      lowest-reads.Asked,
-      lowest-reads.Learnt,
       wide-reads.Asked,
       wide-reads.Learnt,
       items-reads.Asked,
@@ -496,9 +524,7 @@ pub +search+trial-spec : {M : Type 1} → statement M
     trial.Post
     trial-Inv-loop
     trial-μ-loop
-    (trial-lowest-requires t)
-    (λ c κs. search needs)
-    (λ c. search needs)
+    (trial-mul-p t)
     (trial-element-copy-out-p t)
     (trial-loop-holds t)
     (λ c. search needs)
