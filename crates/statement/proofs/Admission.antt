@@ -15,14 +15,16 @@ use Rattle.statement.proofs.FirstOf.{pass, passed, front}
 module _ {Q : Problem} {m : ℕ} where
   -- the packages pass: the others decide
   pub fit-passes : (ts : List (Bool × ℕ)) → Fit Q m → firstOf (packageTests Q m ts) ≡ firstOf ts
-  fit-passes ts f = pass 1 _ (f .sized) ∙ pass 2 _ (f .clean)
+  fit-passes ts f = pass 1 _ (f .sized) ∙ pass 2 _ (f .clean) ∙ pass 29 _ (f .known) ∙ pass 30 _ (f .due)
 
   -- no refusal: they pass, and so do the others
   pub fit-of : (ts : List (Bool × ℕ)) → firstOf (packageTests Q m ts) ≡ 0 → Fit Q m × (firstOf ts ≡ 0)
   fit-of ts e =
       let a = passed _ 0 _ e in
       let b = passed _ 1 _ (a .1) in
-      (record { sized = a .0; clean = b .0 }, b .1)
+      let c = passed _ 28 _ (b .1) in
+      let d = passed _ 29 _ (c .1) in
+      (record { sized = a .0; clean = b .0; known = c .0; due = d .0 }, d .1)
 
   pub packages-fit : Fit Q m → length (Q .packages) ≤ 512
   unfolding oversize

@@ -70,7 +70,8 @@ abbrev pub Avoids : ℕ → List (Bool × ℕ) → Type 0
 Avoids n [] = counts n (Unit {0})
 Avoids n (x ∷ xs) = differs (eqb (x .1) n) (Avoids n xs)
 
-avoided : (n : ℕ) (ts : List (Bool × ℕ)) → Avoids n ts → firstOf ts ≡ n → ⊥
+-- a number that no test has is not said
+pub avoided : (n : ℕ) (ts : List (Bool × ℕ)) → Avoids n ts → firstOf ts ≡ n → ⊥
 unfolding firstOf
 avoided zero [] a e = a
 avoided (suc n) [] a e = omega arith

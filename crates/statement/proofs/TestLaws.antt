@@ -1,17 +1,19 @@
 -- What each test of `specs/Refusals.antt` says where the facts are known, and what a call replies whose refusal is known. Assumes nothing.
-use mathlib.Core.Path.{_≡_, refl, sym, ap}
-use mathlib.Core.Bool.{true, false, not}
-use mathlib.Core.List.{List, _++_}
+use mathlib.Core.Path.{_≡_, refl, sym, ap, ap₂}
+use mathlib.Core.Bool.{Bool, true, false, not, _||_}
+use mathlib.Core.List.{List, [], _∷_, _++_}
 use Prim.Native.Nat.{ℕ, zero, suc, _+_, _≤_, _<_}
+use native.Mathlib.Nat.{not-suc-le-zero, le-of-suc-le-suc}
 use native.Mathlib.Omega.{arith}
-use lib.ListN.{length, drop}
+use lib.ListN.{length, getD, drop}
 use borrow.Author.Tests.{lt-ltb, le-ltb, le-leb, lt-leb, eq-eqb, ne-eqb}
+use Rattle.base.proofs.Bools.{or-neither}
 use Rattle.zdd.specs.Table.{Family, count}
 use Rattle.exact_cover.specs.Problem.{Problem}
 use Rattle.query.specs.Questions.{unknownPackage}
 use Rattle.statement.specs.Replies.{refused, gives, reply}
 use Rattle.statement.specs.Postconditions.{written}
-use Rattle.statement.specs.Refusals.{unpriced, unknownAnswer, shortWork, uncountable, pastEnd, nothing, shortPage}
+use Rattle.statement.specs.Refusals.{anyPackage, unpriced, unknownAnswer, shortWork, uncountable, pastEnd, nothing, shortPage}
 
 -- ---- replies
 
@@ -42,6 +44,22 @@ page-left (suc n) s page e f = sym (ap (λ (i : ℕ). written i s page) e)
 -- one that is not writes to its start
 pub page-written : {k : ℕ} (s page : List ℕ) → k ≡ 0 → s ++ drop (length s) page ≡ written k s page
 page-written s page e = sym (ap (λ (i : ℕ). written i s page) e)
+
+-- ---- 2, 30: some package passes a test
+
+module _ (f : ℕ → Bool) where
+  -- where none does, package p does not
+  pub package-passes : (xs : List ℕ) → anyPackage f xs ≡ false → (p : ℕ) → p < length xs → f (getD xs p 0) ≡ false
+  unfolding anyPackage
+  package-passes [] e p l = absurd (not-suc-le-zero l)
+  package-passes (x ∷ xs) e zero l = or-neither (f x) (anyPackage f xs) e .0
+  package-passes (x ∷ xs) e (suc p) l = package-passes xs (or-neither (f x) (anyPackage f xs) e .1) p (le-of-suc-le-suc l)
+
+  -- nor does any pass a test that asks more
+  pub none-stricter : (g : ℕ → Bool) → ((x : ℕ) → f x ≡ false → g x ≡ false) → (xs : List ℕ) → anyPackage f xs ≡ false → anyPackage g xs ≡ false
+  unfolding anyPackage
+  none-stricter g h [] e = refl
+  none-stricter g h (x ∷ xs) e = let b = or-neither (f x) (anyPackage f xs) e in ap₂ _||_ (h x (b .0)) (none-stricter g h xs (b .1))
 
 -- ---- 3
 

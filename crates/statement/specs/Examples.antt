@@ -1,5 +1,5 @@
--- Document 01's examples P1 to P8, and Figure 1 on items of three words, each as one record; `proofs/Examples.antt` proves them by computation.
--- Assumes nothing.
+-- Document 01's examples P1 to P8, Figure 1 on items of three words, and weeks with optional items, each as one record; `proofs/Examples.antt` proves them by
+-- computation. Assumes nothing.
 use mathlib.Core.Path.{_≡_}
 use mathlib.Core.List.{List, [], _∷_}
 use Prim.Native.Nat.{ℕ, _+_, _-_, _*_, _/_, _%_, _^_}
@@ -9,6 +9,7 @@ use Rattle.zdd.specs.Branches.{missing}
 use Rattle.exact_cover.specs.Problem.{Problem}
 use Rattle.exact_cover.specs.Cover.{covering}
 use Rattle.exact_cover.specs.Steps.{steps}
+use Rattle.statement.specs.Refusals.{checkRefusal, cheapestRefusal}
 use Rattle.statement.specs.Calls.{coverRefusal}
 
 -- all items below m
@@ -16,11 +17,11 @@ abbrev pub allItems : ℕ → ℕ
 allItems m = 2 ^ m - 1
 
 abbrev pub noPackages : Problem
-noPackages = record { packages = [] }
+noPackages = record { packages = []; optional = 0 }
 
 -- Figure 1 of document 000, numbered from 0: {0,1,2,4}, {0,1}, {3,5}, {2,3,5}, {2,4}
 abbrev pub figure1 : Problem
-figure1 = record { packages = 0b010111 ∷ 0b000011 ∷ 0b101000 ∷ 0b101100 ∷ 0b010100 ∷ [] }
+figure1 = record { packages = 0b010111 ∷ 0b000011 ∷ 0b101000 ∷ 0b101100 ∷ 0b010100 ∷ []; optional = 0 }
 
 -- an empty table that has room for c nodes
 abbrev pub emptyTable : ℕ → List ℕ
@@ -32,7 +33,7 @@ pub record PaperExamples : Type 0 where
   -- M 1, N 0: none
   pub p2 : covering noPackages (allItems 1) ≡ []
   -- packages {0}, {0}: two timetables, 0 then 1
-  pub p3 : covering (record { packages = 1 ∷ 1 ∷ [] }) (allItems 1) ≡ (0 ∷ []) ∷ (1 ∷ []) ∷ []
+  pub p3 : covering (record { packages = 1 ∷ 1 ∷ []; optional = 0 }) (allItems 1) ≡ (0 ∷ []) ∷ (1 ∷ []) ∷ []
   -- Figure 1: listing "0 2", "1 4 2"
   pub p4 : covering figure1 (allItems 6) ≡ (0 ∷ 2 ∷ []) ∷ (1 ∷ 4 ∷ 2 ∷ []) ∷ []
   -- the same, P = 64: 6 steps
@@ -60,6 +61,7 @@ wideFigure1 = record {
       ∷ (wideItem 2 + wideItem 3 + wideItem 5)
       ∷ (wideItem 2 + wideItem 4)
       ∷ [];
+  optional = 0;
 }
 
 abbrev pub wideFigure1Items : ℕ
@@ -86,3 +88,38 @@ pub record WideExamples : Type 0 where
   pub twenty-words : coverRefusal wideFigure1 130 (emptyTable 4) wideFigure1Items 6 20 ≡ 0
   -- an item of M or above in the highest word
   pub unknown-item : coverRefusal wideFigure1 130 (emptyTable 4) (2 ^ 130) 7 7 ≡ 7
+
+-- ---- optional items [document 02, No. 1]
+
+-- packages {0}, {0,2}, {1,2}, {1}; item 2 is optional
+abbrev pub publicSlot : Problem
+publicSlot = record { packages = 0b001 ∷ 0b101 ∷ 0b110 ∷ 0b010 ∷ []; optional = 0b100 }
+
+-- packages {1}, {0,2}; item 0 is optional, so the second package's lowest compulsory item is 2
+abbrev pub lateFirst : Problem
+lateFirst = record { packages = 0b010 ∷ 0b101 ∷ []; optional = 0b001 }
+
+-- the same packages, each of them inside the optional set, which has an item above the packages'
+abbrev pub allPublic : Problem
+allPublic = record { packages = 0b010 ∷ 0b101 ∷ []; optional = 0b1111 }
+
+pub record OptionalExamples : Type 0 where
+  -- listing "0 2", "0 3", "1 3", 6 steps, 4 nodes. A memo by the compulsory items alone would take {1,2} for the {1} that was searched before: 4 steps, and
+  -- "0 2" would be lost
+  pub lists : covering publicSlot 0b111 ≡ (0 ∷ 2 ∷ []) ∷ (0 ∷ 3 ∷ []) ∷ (1 ∷ 3 ∷ []) ∷ []
+  pub steps6 : steps publicSlot 64 0b111 ≡ 6
+  pub nodes4 : missing (nodesOf (emptyTable 0)) (covering publicSlot 0b111) ≡ 4
+  pub answers : coverRefusal publicSlot 3 (emptyTable 4) 0b111 6 256 ≡ 0
+  pub spent : coverRefusal publicSlot 3 (emptyTable 4) 0b111 5 256 ≡ 9
+  pub full : coverRefusal publicSlot 3 (emptyTable 3) 0b111 6 256 ≡ 10
+  -- a timetable is written by the lowest compulsory items: "0 1"
+  pub precedence : covering lateFirst 0b111 ≡ (0 ∷ 1 ∷ []) ∷ []
+  -- D empty, or all of it optional: the empty timetable, in one step
+  pub empty : covering publicSlot 0 ≡ [] ∷ []
+  pub empty-steps : steps publicSlot 64 0 ≡ 1
+  pub all-optional : covering publicSlot 0b100 ≡ [] ∷ []
+  pub all-optional-steps : steps publicSlot 64 0b100 ≡ 1
+  -- 29 before 30; 30 before 3 and 4
+  pub stray-optional : checkRefusal allPublic 3 [] ≡ 29
+  pub nothing-compulsory : checkRefusal allPublic 4 [] ≡ 30
+  pub before-costs : cheapestRefusal allPublic 4 [] [] 0 0 [] ≡ 30

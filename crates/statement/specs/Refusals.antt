@@ -1,6 +1,6 @@
 -- When each call is refused. A call's refusal is the number of the first test of its list that holds, 0 for none: each list is document 01's table
--- read down, with the lines that concern the call. The calls that make an answer have theirs in `Calls`. Q is the problem, m is M, t has the table's
--- words, and `words` is the number of working words. Assumes nothing.
+-- read down, with the lines that concern the call and, behind 2, those of document 02's No. 1. The calls that make an answer have theirs in `Calls`. Q is
+-- the problem, m is M, t has the table's words, and `words` is the number of working words. Assumes nothing.
 use mathlib.Core.Path.{_≡_}
 use mathlib.Core.Bool.{Bool, true, false, not, _||_}
 use mathlib.Core.List.{List, [], _∷_}
@@ -11,7 +11,7 @@ use Rattle.itemset.specs.Items.{belowb}
 use Rattle.itemset.specs.Words.{width}
 use Rattle.zdd.specs.Table.{Family, count, elem, soundb}
 use Rattle.zdd.specs.Branches.{noRoom}
-use Rattle.exact_cover.specs.Problem.{Problem}
+use Rattle.exact_cover.specs.Problem.{Problem, done}
 use Rattle.exact_cover.specs.Cover.{keysOf}
 use Rattle.exact_cover.specs.Steps.{steps}
 use Rattle.query.specs.Questions.{familyAt, nth, cheapest, anyUnknown, ascending}
@@ -23,16 +23,28 @@ firstOf (t ∷ ts) = elim (t .0) [ true ↦ t .1 | false ↦ firstOf ts ]
 -- ---- the tests, by their numbers
 
 -- 1 oversize: M above 192 or N above 512
-unfoldable pub oversize : ℕ → Problem → Bool
-oversize m Q = ltb width m || ltb 512 (length (Q .packages))
+unfoldable pub oversize : ℕ → List ℕ → Bool
+oversize m packages = ltb width m || ltb 512 (length packages)
+
+-- some package passes the test f
+unfoldable pub anyPackage : (ℕ → Bool) → List ℕ → Bool
+anyPackage f [] = false
+anyPackage f (x ∷ xs) = f x || anyPackage f xs
 
 -- 2 stray: an empty package, or an item of M or above in one
-unfoldable pub strayIn : ℕ → List ℕ → Bool
-strayIn m [] = false
-strayIn m (x ∷ xs) = (eqb x 0 || not (belowb x m)) || strayIn m xs
+abbrev pub strayPackage : ℕ → ℕ → Bool
+strayPackage m x = eqb x 0 || not (belowb x m)
 
-unfoldable pub stray : ℕ → Problem → Bool
-stray m Q = strayIn m (Q .packages)
+unfoldable pub stray : ℕ → List ℕ → Bool
+stray m packages = anyPackage (strayPackage m) packages
+
+-- 29: an optional item of M or above [document 02, No. 1]
+unfoldable pub strayOptional : ℕ → Problem → Bool
+strayOptional m Q = not (belowb (Q .optional) m)
+
+-- 30: a package without a compulsory item
+unfoldable pub nothingCompulsory : Problem → Bool
+nothingCompulsory Q = anyPackage (done Q) (Q .packages)
 
 -- 3 cost list: its length is not N
 unfoldable pub unpriced : Problem → List ℕ → Bool
@@ -93,9 +105,9 @@ shortPage page s = ltb (length page) (length s)
 
 -- ---- what every call tests first, in front of its own tests
 
--- 1 and 2: the packages
+-- 1 and 2, 29 and 30: the packages and the optional set
 abbrev pub packageTests : Problem → ℕ → List (Bool × ℕ) → List (Bool × ℕ)
-packageTests Q m ts = (oversize m Q, 1) ∷ (stray m Q, 2) ∷ ts
+packageTests Q m ts = (oversize m (Q .packages), 1) ∷ (stray m (Q .packages), 2) ∷ (strayOptional m Q, 29) ∷ (nothingCompulsory Q, 30) ∷ ts
 
 -- and 4: the table
 abbrev pub tableTests : Problem → ℕ → List ℕ → List (Bool × ℕ) → List (Bool × ℕ)
@@ -109,10 +121,12 @@ openTests Q m t a = tableTests Q m t ((unknownAnswer t a, 5) ∷ [])
 abbrev pub pricedTests : (Q : Problem) (m : ℕ) (C t : List ℕ) (a : ℕ) → List (Bool × ℕ)
 pricedTests Q m C t a = packageTests Q m ((unpriced Q C, 3) ∷ (unsound Q t, 4) ∷ (unknownAnswer t a, 5) ∷ [])
 
--- none of 1 and 2 applies
+-- none of 1, 2, 29 and 30 applies
 pub record Fit (Q : Problem) (m : ℕ) : Type 0 where
-  pub sized : oversize m Q ≡ false
-  pub clean : stray m Q ≡ false
+  pub sized : oversize m (Q .packages) ≡ false
+  pub clean : stray m (Q .packages) ≡ false
+  pub known : strayOptional m Q ≡ false
+  pub due : nothingCompulsory Q ≡ false
 
 -- ---- the questions
 
