@@ -2,96 +2,87 @@
 use mathlib.Core.Path.{_≡_, refl, sym, ap, _∙_}
 use mathlib.Core.Bool.{Bool, true, false, not, _||_}
 use mathlib.Core.List.{List, [], _∷_}
-use mathlib.Core.Logic.{⊎-elim}
-use Prim.Native.Nat.{ℕ, zero, suc, _+_, _≤_, _<_}
-use native.Mathlib.Nat.{not-suc-le-zero, le-of-suc-le-suc, eq-zero-or-pos}
+use Prim.Native.Nat.{ℕ, suc, _+_, _≤_, _<_}
 use native.Mathlib.Numerals.{add-one}
 use native.Mathlib.Omega.{arith}
-use lib.Dec.{eqb, ltb}
+use lib.Dec.{ltb}
 use lib.ListN.{length, getD, drop, replicate, length-replicate}
 use lib.Seq.{drop-cons, drop-length}
-use borrow.Author.Tests.{lt-ltb, le-ltb, eqb-false, not-false}
-use Rattle.itemset.specs.Items.{belowb}
+use borrow.Author.Tests.{lt-ltb, le-ltb, not-false}
 use Rattle.itemset.specs.Words.{width}
 use Rattle.zdd.specs.Table.{soundb}
 use Rattle.zdd.proofs.Tested.{sound-of}
-use Rattle.exact_cover.specs.Problem.{Problem, row, Rows}
+use Rattle.exact_cover.specs.Problem.{Problem, done, Rows}
 use Rattle.exact_cover.specs.Cover.{keysOf, Keyed}
-use Rattle.exact_cover.proofs.Lead.{pos-open}
 use Rattle.exact_cover.proofs.Order.{keys-apart}
 use Rattle.table.specs.State.{Checked}
 use Rattle.table.proofs.IndexLaws.{fresh}
-use Rattle.statement.specs.Refusals.{firstOf, oversize, strayIn, stray, unsound, packageTests, tableTests, Fit, checkRefusal}
-use Rattle.statement.proofs.FirstOf.{hit, none, front}
+use Rattle.statement.specs.Refusals.{firstOf, oversize, anyPackage, stray, strayOptional, nothingCompulsory, unsound, packageTests, tableTests, Fit, checkRefusal}
+use Rattle.statement.proofs.FirstOf.{pass, hit, none, front}
+use Rattle.statement.proofs.NoneOptional.{packages-as-before}
+use Rattle.statement.proofs.TestLaws.{package-passes}
 use Rattle.statement.proofs.Admission.{fit-passes, fit-of, fit-refused, packages-fit, table-passes}
-use Rattle.base.proofs.Bools.{never}
 use Rattle.guard.specs.Admitted.{Blank, Tested, Admitted}
 
--- ---- refusal 2, package by package
+-- ---- refusals 2 and 30, package by package
 
--- the packages before k are clean
-pub record Passed (m : ℕ) (xs : List ℕ) (k : ℕ) : Type 0 where
+-- of the packages before k none passes the test f
+pub record Passed (f : ℕ → Bool) (xs : List ℕ) (k : ℕ) : Type 0 where
   pub within : k ≤ length xs
-  pub rest : strayIn m xs ≡ strayIn m (drop k xs)
+  pub rest : anyPackage f xs ≡ anyPackage f (drop k xs)
 
-pub passed-start : (m : ℕ) (xs : List ℕ) → Passed m xs 0
-passed-start m xs = record { within = omega arith; rest = refl }
+pub passed-start : (f : ℕ → Bool) (xs : List ℕ) → Passed f xs 0
+passed-start f xs = record { within = omega arith; rest = refl }
 
 -- x is package k: it is looked at
-module _ {m : ℕ} {xs : List ℕ} {x : ℕ} (k : ℕ) (p : Passed m xs k) (l : k < length xs) (r : x ≡ getD xs k 0) where
-  here : strayIn m xs ≡ (eqb x 0 || not (belowb x m)) || strayIn m (drop (suc k) xs)
-  unfolding strayIn
-  here = p .rest ∙ rw r (ap (strayIn m) (drop-cons xs k 0 l))
+module _ {f : ℕ → Bool} {xs : List ℕ} {x : ℕ} (k : ℕ) (p : Passed f xs k) (l : k < length xs) (r : x ≡ getD xs k 0) where
+  here : anyPackage f xs ≡ f x || anyPackage f (drop (suc k) xs)
+  unfolding anyPackage
+  here = p .rest ∙ rw r (ap (anyPackage f) (drop-cons xs k 0 l))
 
-  pub stray-empty : eqb x 0 ≡ true → strayIn m xs ≡ true
-  stray-empty e = here ∙ rw e
+  pub passed-found : f x ≡ true → anyPackage f xs ≡ true
+  passed-found e = here ∙ rw e
 
-  pub stray-item : eqb x 0 ≡ false → belowb x m ≡ false → strayIn m xs ≡ true
-  stray-item f e = here ∙ rw (f, e)
-
-  pub passed-more : eqb x 0 ≡ false → belowb x m ≡ true → Passed m xs (k + 1)
-  passed-more f e = record {
+  pub passed-more : f x ≡ false → Passed f xs (k + 1)
+  passed-more e = record {
     within = omega arith;
-    rest = here ∙ rw (f, e) (ap (λ (j : ℕ). strayIn m (drop j xs)) (sym (add-one k)));
+    rest = here ∙ rw e (ap (λ (j : ℕ). anyPackage f (drop j xs)) (sym (add-one k)));
   }
 
-pub passed-all : {m : ℕ} {xs : List ℕ} (k : ℕ) → Passed m xs k → length xs ≤ k → strayIn m xs ≡ false
-unfolding strayIn
-passed-all {m} {xs} k p l =
+pub passed-all : {f : ℕ → Bool} {xs : List ℕ} (k : ℕ) → Passed f xs k → length xs ≤ k → anyPackage f xs ≡ false
+unfolding anyPackage
+passed-all {f} {xs} k p l =
     let e : k ≡ length xs = omega (arith, p .within) in
-    p .rest ∙ ap (λ (j : ℕ). strayIn m (drop j xs)) e ∙ ap (strayIn m) (drop-length xs)
+    p .rest ∙ ap (λ (j : ℕ). anyPackage f (drop j xs)) e ∙ ap (anyPackage f) (drop-length xs)
 
 -- ---- refusal 1
 
-pub many-items : (m : ℕ) (Q : Problem) → 192 < m → oversize m Q ≡ true
+pub many-items : (m : ℕ) (xs : List ℕ) → 192 < m → oversize m xs ≡ true
 unfolding oversize width
-many-items m Q h = rw (lt-ltb 192 m h)
+many-items m xs h = rw (lt-ltb 192 m h)
 
-pub few-items : (m : ℕ) (Q : Problem) → m ≤ 192 → oversize m Q ≡ ltb 512 (length (Q .packages))
+pub few-items : (m : ℕ) (xs : List ℕ) → m ≤ 192 → oversize m xs ≡ ltb 512 (length xs)
 unfolding oversize width
-few-items m Q h = rw (le-ltb 192 m h)
+few-items m xs h = rw (le-ltb 192 m h)
+
+-- ---- 1 and 2 pass
+
+module _ (Q : Problem) (m : ℕ) (a : oversize m (Q .packages) ≡ false) (b : stray m (Q .packages) ≡ false) where
+  -- 29 and 30 decide
+  pub clean-passes : (ts : List (Bool × ℕ)) → firstOf (packageTests Q m ts) ≡ firstOf ((strayOptional m Q, 29) ∷ (nothingCompulsory Q, 30) ∷ ts)
+  clean-passes ts = pass 1 _ a ∙ pass 2 _ b
+
+  -- and with nothing optional neither is said
+  pub none-optional : Q .optional ≡ 0 → firstOf (packageTests Q m []) ≡ 0
+  none-optional e =
+      ap (λ (o : ℕ). firstOf (packageTests (record { packages = Q .packages; optional = o }) m [])) e
+      ∙ packages-as-before (Q .packages) m [] ∙ pass 1 _ a ∙ pass 2 _ b ∙ none
 
 -- ---- the packages pass
 
--- no package is empty where none is stray
-some-items : (m : ℕ) (xs : List ℕ) → strayIn m xs ≡ false → (p : ℕ) → p < length xs → 0 < getD xs p 0
-unfolding strayIn
-some-items m [] e p l = absurd (not-suc-le-zero l)
-some-items m (x ∷ xs) e p l = go (eqb x 0) refl (belowb x m) p l e (some-items m xs)
-  where
-    pos : (x ≡ 0 → ⊥) → 0 < x
-    pos f = ⊎-elim (λ (z : x ≡ 0). absurd (f z)) (λ (z : 0 < x). z) (eq-zero-or-pos x)
-
-    go : (a : Bool) → eqb x 0 ≡ a → (b : Bool) (p : ℕ) → p < length (x ∷ xs) → ((a || not b) || strayIn m xs) ≡ false
-        → (strayIn m xs ≡ false → (p : ℕ) → p < length xs → 0 < getD xs p 0) → 0 < getD (x ∷ xs) p 0
-    go true q b p l e h = absurd (never refl e)
-    go false q false p l e h = absurd (never refl e)
-    go false q true zero l e h = pos (eqb-false x 0 q)
-    go false q true (suc p) l e h = h e p (le-of-suc-le-suc l)
-
 pub rows : {Q : Problem} {m : ℕ} → Fit Q m → Rows Q
-unfolding stray
-rows {Q} {m} f = record { some = λ p l. pos-open Q (row Q p) (some-items m (Q .packages) (f .clean) p l); few = packages-fit f }
+unfolding nothingCompulsory
+rows {Q} f = record { some = package-passes (done Q) (Q .packages) (f .due); few = packages-fit f }
 
 -- ---- the table
 

@@ -29,7 +29,7 @@ pub record Tested (Q : Problem) (t keys index : List ℕ) (ok : Bool) : Type 0 w
   pub says : ok ≡ not (unsound Q t)
   pub usable : ok ≡ true → Usable Q t keys index
 
--- r is the refusal of the soundness check: 1, 2, 4, or 0 for none
+-- r is the refusal of the soundness check: 1, 2, 29, 30, 4, or 0 for none
 pub record Admitted (Q : Problem) (m : ℕ) (t keys index : List ℕ) (r : ℕ) : Type 0 where
   pub says : r ≡ checkRefusal Q m t
   pub fit : r ≡ 0 → Fit Q m

@@ -1,14 +1,17 @@
-// Refusals 1 and 2 (the packages) and 4 (the table), which every call tests first; and with them the keys of the packages and the index of the nodes.
+// Refusals 1, 2, 29 and 30 (the packages and the optional set) and 4 (the table), which every call tests first; and with them the keys of the packages and the
+// index of the nodes.
 ghost use mathlib.Core.Path.{_≡_};
 ghost use mathlib.Core.Bool.{not};
 ghost use mathlib.Core.List.{[], _∷_};
+ghost use Rattle.itemset.specs.Words.{value, setsOf};
 ghost use Rattle.exact_cover.specs.Problem.{problemOf, Rows};
-ghost use Rattle.statement.specs.Refusals.{firstOf, oversize, stray, packageTests};
+ghost use Rattle.statement.specs.Refusals.{firstOf, oversize, stray, nothingCompulsory, packageTests};
 ghost use Rattle.guard.specs.Admitted.{Blank, Tested, Admitted};
+use itemset::Items;
 
 // Whether no package is empty and none has an item of m or above.
 fn clean(m: u32, packages: &[u64]) -> bool
-    ensures { λ r. ⌜ r ≡ not (stray m (problemOf (now (packages .entry)))) ⌝ }
+    ensures { λ r. ⌜ r ≡ not (stray m (setsOf (now (packages .entry)))) ⌝ }
 {
     let n = exact_cover::number(packages);
     let mut k: usize = 0;
@@ -27,7 +30,7 @@ fn clean(m: u32, packages: &[u64]) -> bool
 
 // Whether M or N is above its limit.
 fn too_large(m: u32, packages: &[u64]) -> bool
-    ensures { λ r. ⌜ r ≡ oversize m (problemOf (now (packages .entry))) ⌝ }
+    ensures { λ r. ⌜ r ≡ oversize m (setsOf (now (packages .entry))) ⌝ }
 {
     if m > 192 {
         return true;
@@ -35,9 +38,25 @@ fn too_large(m: u32, packages: &[u64]) -> bool
     exact_cover::number(packages) > 512
 }
 
-// Refusal 1 or 2; 0 for neither.
-pub fn packages_refusal(m: u32, packages: &[u64]) -> u8
-    ensures { λ r. ⌜ r ≡ firstOf (packageTests (problemOf (now (packages .entry))) m []) ⌝ }
+// Whether every package has a compulsory item.
+fn all_due(packages: &[u64], optional: Items) -> bool
+    ensures { λ r. ⌜ r ≡ not (nothingCompulsory (problemOf (now (packages .entry)) (value optional))) ⌝ }
+{
+    let n = exact_cover::number(packages);
+    let mut p: usize = 0;
+    while p < n {
+        let x = exact_cover::items(packages, p);
+        if exact_cover::is_done(x, optional) {
+            return false;
+        }
+        p += 1;
+    }
+    true
+}
+
+// Refusal 1, 2, 29 or 30; 0 for none of them. (With nothing optional a package without a compulsory item is empty: 2 was said.)
+pub fn packages_refusal(m: u32, packages: &[u64], optional: Items) -> u8
+    ensures { λ r. ⌜ r ≡ firstOf (packageTests (problemOf (now (packages .entry)) (value optional)) m []) ⌝ }
 {
     if too_large(m, packages) {
         return 1;
@@ -45,30 +64,52 @@ pub fn packages_refusal(m: u32, packages: &[u64]) -> u8
     if !clean(m, packages) {
         return 2;
     }
+    if itemset::is_empty(optional) {
+        return 0;
+    }
+    if !itemset::below(optional, m) {
+        return 29;
+    }
+    if !all_due(packages, optional) {
+        return 30;
+    }
     0
 }
 
 // Whether the table is sound; where it is, the keys and the index are ready.
-fn usable(packages: &[u64], t: &[u32], keys: &mut [u32], index: &mut [u16; 131072]) -> bool
-    requires { ⌜ Rows (problemOf (now packages)) ⌝ }
+fn usable(
+    packages: &[u64],
+    optional: Items,
+    t: &[u32],
+    keys: &mut [u32],
+    index: &mut [u16; 131072],
+) -> bool
+    requires { ⌜ Rows (problemOf (now packages) (value optional)) ⌝ }
     requires { ⌜ Blank (now keys) (now index) ⌝ }
-    ensures { λ r. ⌜ Tested (problemOf (now (packages .entry))) (now (t .entry)) (now (keys .exit)) (now (index .exit)) r ⌝ }
+    ensures { λ r. ⌜ Tested (problemOf (now (packages .entry)) (value optional)) (now (t .entry)) (now (keys .exit)) (now (index .exit)) r ⌝ }
 {
-    exact_cover::keys(packages, keys);
+    exact_cover::keys(packages, optional, keys);
     let n = exact_cover::number(packages);
     table::check(t, &keys[..n], index)
 }
 
-// Refusal 1, 2 or 4; 0 where none applies, and then the keys and the index are ready.
-pub fn admit(m: u32, packages: &[u64], t: &[u32], keys: &mut [u32], index: &mut [u16; 131072]) -> u8
+// Refusal 1, 2, 29, 30 or 4; 0 where none applies, and then the keys and the index are ready.
+pub fn admit(
+    m: u32,
+    packages: &[u64],
+    optional: Items,
+    t: &[u32],
+    keys: &mut [u32],
+    index: &mut [u16; 131072],
+) -> u8
     requires { ⌜ Blank (now keys) (now index) ⌝ }
-    ensures { λ r. ⌜ Admitted (problemOf (now (packages .entry))) m (now (t .entry)) (now (keys .exit)) (now (index .exit)) r ⌝ }
+    ensures { λ r. ⌜ Admitted (problemOf (now (packages .entry)) (value optional)) m (now (t .entry)) (now (keys .exit)) (now (index .exit)) r ⌝ }
 {
-    let r = packages_refusal(m, packages);
+    let r = packages_refusal(m, packages, optional);
     if r != 0 {
         return r;
     }
-    if !usable(packages, t, keys, index) {
+    if !usable(packages, optional, t, keys, index) {
         return 4;
     }
     0
