@@ -63,8 +63,8 @@ returns-5 c =
     (refuses 10 (no-room _ _ e (omega (arith, if3 .left)) (cover′ .ensures) (if4 .left) (c .before .if5 .taken))
     (λ z. omega arith) (cover′ .ensures .back-full (c .before .if5 .taken)) (c .declined5 .ensures))
 
-cast-t26 : tie.Need-cast-t26
-cast-t26 c =
+cast-t27 : tie.Need-cast-t27
+cast-t27 c =
     let if4 = c .before .before .if4 in
     let cover′ = c .before .before .before .before .before .before .before .cover in
     let if3 = c .before .before .before .before .before .before .before .before .before .before .before .if3 in
@@ -94,5 +94,5 @@ cover-spec =
     tie.close
     (tie.spec (λ c. search needs) admit-requires (λ c κs. search needs) (λ c. search needs) returns (λ c κs. search needs) (λ c κs. search needs)
     (λ c. search needs) returns-2 (λ c κs. search needs) (λ c. search needs) returns-3 cover-requires (λ c κs. search needs) (λ c. search needs)
-    (λ c. search needs) returns-4 (λ c κs. search needs) (λ c. search needs) (λ c. search needs) returns-5 cast-t26 (λ c. search needs)
+    (λ c. search needs) returns-4 (λ c κs. search needs) (λ c. search needs) (λ c. search needs) returns-5 cast-t27 (λ c. search needs)
     (λ c. search needs) returns-6)
