@@ -4,6 +4,7 @@ ghost use mathlib.Core.Path.{_≡_};
 ghost use mathlib.Core.Bool.{true};
 ghost use Prim.Native.Nat.{ℕ, _/_, _<_};
 ghost use lib.ListN.{length, set, replicate};
+ghost use Rattle.itemset.specs.Words.{value};
 ghost use Rattle.zdd.specs.Table.{count};
 ghost use Rattle.statement.specs.Replies.{gives, outcomeReply};
 ghost use Rattle.exact_cover.specs.Problem.{problemOf};
@@ -163,15 +164,22 @@ fn call_of(kind: u64, x: Items, y: u32) -> Call
 }
 
 // Call i of the script, on as many working words as it asks.
-fn call(packages: &[u64], t: &mut [u32], work: &mut [u64], script: &[u64], i: usize) -> Report
+fn call(
+    packages: &[u64],
+    optional: Items,
+    t: &mut [u32],
+    work: &mut [u64],
+    script: &[u64],
+    i: usize,
+) -> Report
     requires { ⌜ i < length (now script) / 7 ⌝ }
     requires { ⌜ possible (length (now work)) (requestAt (now script) i) ≡ true ⌝ }
-    ensures { λ r. ⌜ Step (problemOf (now (packages .entry))) (now (t .entry)) (callAt (now (script .entry)) i) r (now (t .exit)) ⌝ }
+    ensures { λ r. ⌜ Step (problemOf (now (packages .entry)) (value optional)) (now (t .entry)) (callAt (now (script .entry)) i) r (now (t .exit)) ⌝ }
 {
     let q = asked(script, i);
     let words = q.words as usize;
     let c = call_of(q.kind, q.x, q.y as u32);
-    engine::answer(q.m as u32, packages, t, c, &mut work[..words])
+    engine::answer(q.m as u32, packages, optional, t, c, &mut work[..words])
 }
 
 // The word of an outcome.
@@ -217,15 +225,18 @@ fn mark_first(given: &mut [u8; 65536])
     given[0] = 1;
 }
 
-// Runs the calls of the script, from an empty table, while the next one may be run; returns how many it ran. out has the reports.
+// Runs the calls of the script, from an empty table, while the next one may be run; returns how many it ran. One optional set is lent to all of them. out
+// has the reports.
 pub fn run(
     packages: &[u64],
+    optional: Items,
     t: &mut [u32],
     work: &mut [u64],
     script: &[u64],
     out: &mut [u64],
 ) -> usize
-    ensures { λ n. ⌜ Ran (problemOf (now (packages .entry))) (now (script .entry)) (length (now (work .entry))) (now (t .entry)) (now (out .entry)) n (now (t .exit)) (now (out .exit)) ⌝ }
+    ensures { λ n. ⌜ Ran (problemOf (now (packages .entry)) (value optional)) (now (script .entry)) (length (now (work .entry)))
+        (now (t .entry)) (now (out .entry)) n (now (t .exit)) (now (out .exit)) ⌝ }
 {
     clear(t);
     let mut given = [0u8; 65536];
@@ -234,7 +245,7 @@ pub fn run(
     let room = work.len();
     let mut i: usize = 0;
     while ready(script, places, room, i, &given, t) {
-        let r = call(packages, t, work, script, i);
+        let r = call(packages, optional, t, work, script, i);
         let o = r.outcome;
         store(out, i, r);
         mark(&mut given, o);
