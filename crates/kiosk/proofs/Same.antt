@@ -18,9 +18,12 @@ use Rattle.exact_cover.specs.Cover.{keysOf}
 use Rattle.statement.specs.declared.Soundness.{Soundness}
 use Rattle.statement.specs.declared.Counted.{Counted}
 use Rattle.statement.specs.Replies.{Reply, reply}
-use Rattle.statement.specs.Refusals.{firstOf, oversize, stray, unsound, unknownAnswer, shortWork, uncountable, checkRefusal, countRefusal}
+use Rattle.statement.specs.Refusals.{firstOf, packageTests, unsound, unknownAnswer, shortWork, uncountable, checkRefusal, countRefusal}
 use Rattle.statement.specs.Postconditions.{CheckPost, CountPost}
 use Rattle.statement.specs.Kiosk.{wordsOf, tableOf, KioskCheckPost, KioskCountPost}
+use Rattle.statement.proofs.FirstOf.{hit, front}
+use Rattle.statement.proofs.Admission.{fit-of}
+use Rattle.statement.proofs.TestLaws.{reply-refused}
 use Rattle.statement.proofs.Kiosk.{too-many, over-limit, triple-left}
 use Rattle.kiosk.specs.declared.Node.{Node}
 use Rattle.kiosk.specs.Triples.{nodeIn, nodesIn}
@@ -66,16 +69,17 @@ no-room K u e = is-false (soundb K u) (λ h. let s = sound-of K u h in omega (ar
 check-alike : {Q : Problem} {m : ℕ} {u v : List ℕ} {r : Soundness} → Alike (keysOf Q) u v → CheckPost Q m u r → CheckPost Q m v r
 unfolding checkRefusal unsound
 check-alike {Q} {m} {u} {v} {r} a p = record {
-  result = p .result ∙ ap (λ (b : Bool). reply (firstOf ((oversize m Q, 1) ∷ (stray m Q, 2) ∷ (not b, 4) ∷ [])) tt) (a .sound);
+  result = p .result ∙ ap (λ (b : Bool). reply (firstOf (packageTests Q m ((not b, 4) ∷ []))) tt) (a .sound);
 }
 
 -- refused by 4 or before it, whatever stands behind
-shut : (o s : Bool) (ts ts′ : List (Bool × ℕ)) (x x′ : ℕ)
-    → reply (firstOf ((o, 1) ∷ (s, 2) ∷ (true, 4) ∷ ts)) x ≡ reply (firstOf ((o, 1) ∷ (s, 2) ∷ (true, 4) ∷ ts′)) x′
-unfolding firstOf
-shut true s ts ts′ x x′ = refl
-shut false true ts ts′ x x′ = refl
-shut false false ts ts′ x x′ = refl
+shut : (Q : Problem) (m : ℕ) (ts ts′ : List (Bool × ℕ)) (x x′ : ℕ)
+    → reply (firstOf (packageTests Q m ((true, 4) ∷ ts))) x ≡ reply (firstOf (packageTests Q m ((true, 4) ∷ ts′))) x′
+shut Q m ts ts′ x x′ =
+    let some : firstOf (packageTests Q m ((true, 4) ∷ [])) ≡ 0 → ⊥ = λ e. omega (arith, sym (fit-of ((true, 4) ∷ []) e .1) ∙ hit 4 [] refl) in
+    let k = firstOf (packageTests Q m ((true, 4) ∷ [])) in
+    sym (reply-refused k x (front (packageTests Q m ((true, 4) ∷ [])) ts some) some)
+    ∙ reply-refused k x′ (front (packageTests Q m ((true, 4) ∷ [])) ts′ some) some
 
 count-alike : {Q : Problem} {m : ℕ} {u v : List ℕ} {a words : ℕ} {r : Counted} → Alike (keysOf Q) u v → CountPost Q m u a words r → CountPost Q m v a words r
 unfolding countRefusal unsound unknownAnswer
@@ -86,14 +90,14 @@ count-alike {Q} {m} {u} {v} {a} {words} {r} k p = record { result = p .result �
 
     -- what count says where the table is sound or not, and has c nodes, ns
     says : Bool → ℕ → List TableNode → Reply ℕ
-    says b c ns = reply (firstOf ((oversize m Q, 1) ∷ (stray m Q, 2) ∷ (not b, 4) ∷ behind c ns)) (length (family ns a))
+    says b c ns = reply (firstOf (packageTests Q m ((not b, 4) ∷ behind c ns))) (length (family ns a))
 
     good : soundb (keysOf Q) u ≡ true → says (soundb (keysOf Q) u) (count u) (nodesOf u) ≡ says (soundb (keysOf Q) v) (count v) (nodesOf v)
     good e = λ i. says (k .sound i) (k .counts e i) (k .nodes e i)
 
     bad : soundb (keysOf Q) u ≡ false → says (soundb (keysOf Q) u) (count u) (nodesOf u) ≡ says (soundb (keysOf Q) v) (count v) (nodesOf v)
     bad e =
-        ap (λ (b : Bool). says b (count u) (nodesOf u)) e ∙ shut (oversize m Q) (stray m Q) (behind (count u) (nodesOf u)) (behind (count v) (nodesOf v))
+        ap (λ (b : Bool). says b (count u) (nodesOf u)) e ∙ shut Q m (behind (count u) (nodesOf u)) (behind (count v) (nodesOf v))
         (length (family (nodesOf u) a)) (length (family (nodesOf v) a))
         ∙ ap (λ (b : Bool). says b (count v) (nodesOf v)) (sym e ∙ k .sound)
 

@@ -4,11 +4,13 @@
 // The three functions that take a `&[Node]` are walks by hand: `flatten`, `check` and `count`. What is decided is decided below them, on words.
 ghost use mathlib.Core.Path.{_≡_};
 ghost use lib.ListN.{length};
+ghost use Rattle.itemset.specs.Words.{value};
 ghost use Rattle.exact_cover.specs.Problem.{problemOf};
 ghost use Rattle.statement.specs.Postconditions.{CheckPost, CountPost};
 ghost use Rattle.statement.specs.Kiosk.{KioskCheckPost, KioskCountPost};
 ghost use Rattle.kiosk.specs.Triples.{nodesIn};
 ghost use Rattle.kiosk.specs.Flat.{blankb, put3, filled, numbered, headed};
+use itemset::Items;
 use statement::Counted;
 use statement::Soundness;
 
@@ -81,50 +83,68 @@ fn head(words: &mut [u32; 196603], n: u32, len: usize)
 }
 
 // The soundness check of the words.
-fn check_words(m: u32, packages: &[u64], n: u32, len: usize, words: &mut [u32; 196603]) -> Soundness
-    ensures { λ r. ⌜ CheckPost (problemOf (now (packages .entry))) m (headed (now (words .entry)) n len) r ⌝ }
+fn check_words(
+    m: u32,
+    packages: &[u64],
+    optional: Items,
+    n: u32,
+    len: usize,
+    words: &mut [u32; 196603],
+) -> Soundness
+    ensures { λ r. ⌜ CheckPost (problemOf (now (packages .entry)) (value optional)) m (headed (now (words .entry)) n len) r ⌝ }
 {
     head(&mut *words, n, len);
-    engine::check(m, packages, &words[..])
+    engine::check(m, packages, optional, &words[..])
 }
 
 // Count on the words.
 fn count_words(
     m: u32,
     packages: &[u64],
+    optional: Items,
     n: u32,
     len: usize,
     words: &mut [u32; 196603],
     answer: u32,
     work: &mut [u64],
 ) -> Counted
-    ensures { λ r. ⌜ CountPost (problemOf (now (packages .entry))) m (headed (now (words .entry)) n len) answer (length (now (work .entry))) r ⌝ }
+    ensures { λ r. ⌜ CountPost (problemOf (now (packages .entry)) (value optional)) m (headed (now (words .entry)) n len) answer (length (now (work .entry))) r ⌝ }
 {
     head(&mut *words, n, len);
-    engine::count(m, packages, &words[..], answer, work)
+    engine::count(m, packages, optional, &words[..], answer, work)
 }
 
-// The soundness check: 1, 2, 4 or sound.
-pub fn check(m: u32, packages: &[u64], n: u32, nodes: &[Node]) -> Soundness
-    ensures { λ r. ⌜ KioskCheckPost (problemOf (now (packages .entry))) m n (nodesIn (now (nodes .entry))) r ⌝ }
+// The soundness check: 1, 2, 29, 30, 4 or sound.
+pub fn check(m: u32, packages: &[u64], optional: Items, n: u32, nodes: &[Node]) -> Soundness
+    ensures { λ r. ⌜ KioskCheckPost (problemOf (now (packages .entry)) (value optional)) m n (nodesIn (now (nodes .entry))) r ⌝ }
 {
     let mut words = [0u32; 196603];
     flatten(nodes, &mut words);
-    check_words(m, packages, n, nodes.len(), &mut words)
+    check_words(m, packages, optional, n, nodes.len(), &mut words)
 }
 
 // How many timetables the answer holds.
 pub fn count(
     m: u32,
     packages: &[u64],
+    optional: Items,
     n: u32,
     nodes: &[Node],
     answer: u32,
     work: &mut [u64],
 ) -> Counted
-    ensures { λ r. ⌜ KioskCountPost (problemOf (now (packages .entry))) m n (nodesIn (now (nodes .entry))) answer (length (now (work .entry))) r ⌝ }
+    ensures { λ r. ⌜ KioskCountPost (problemOf (now (packages .entry)) (value optional)) m n (nodesIn (now (nodes .entry))) answer (length (now (work .entry))) r ⌝ }
 {
     let mut words = [0u32; 196603];
     flatten(nodes, &mut words);
-    count_words(m, packages, n, nodes.len(), &mut words, answer, work)
+    count_words(
+        m,
+        packages,
+        optional,
+        n,
+        nodes.len(),
+        &mut words,
+        answer,
+        work,
+    )
 }

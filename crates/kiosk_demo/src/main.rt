@@ -1,8 +1,10 @@
-// The kiosk's two calls on lists of triples, good and damaged: Figure 1 of document 000, whose answer is number 5 and holds two timetables.
+// The kiosk's two calls on lists of triples, good and damaged, and with optional items: Figure 1 of document 000, whose answer is number 5 and holds two timetables.
 ghost use lib.ListN.{length};
+ghost use Rattle.itemset.specs.Words.{value};
 ghost use Rattle.exact_cover.specs.Problem.{problemOf};
 ghost use Rattle.statement.specs.Kiosk.{KioskCheckPost, KioskCountPost};
 ghost use Rattle.kiosk.specs.Triples.{nodesIn};
+use itemset::Items;
 use kiosk::Node;
 use statement::Counted;
 use statement::Soundness;
@@ -16,24 +18,25 @@ fn node(label: u32, lo: u32, hi: u32) -> Node {
 }
 
 // A list of six triples is lent to the soundness check.
-fn check_list(m: u32, packages: &[u64], n: u32, list: [Node; 6]) -> Soundness
-    ensures { λ r. ⌜ KioskCheckPost (problemOf (now (packages .entry))) m n (nodesIn list) r ⌝ }
+fn check_list(m: u32, packages: &[u64], optional: Items, n: u32, list: [Node; 6]) -> Soundness
+    ensures { λ r. ⌜ KioskCheckPost (problemOf (now (packages .entry)) (value optional)) m n (nodesIn list) r ⌝ }
 {
-    kiosk::check(m, packages, n, &list)
+    kiosk::check(m, packages, optional, n, &list)
 }
 
 // And to count.
 fn count_list(
     m: u32,
     packages: &[u64],
+    optional: Items,
     n: u32,
     list: [Node; 6],
     answer: u32,
     work: &mut [u64],
 ) -> Counted
-    ensures { λ r. ⌜ KioskCountPost (problemOf (now (packages .entry))) m n (nodesIn list) answer (length (now (work .entry))) r ⌝ }
+    ensures { λ r. ⌜ KioskCountPost (problemOf (now (packages .entry)) (value optional)) m n (nodesIn list) answer (length (now (work .entry))) r ⌝ }
 {
-    kiosk::count(m, packages, n, &list, answer, work)
+    kiosk::count(m, packages, optional, n, &list, answer, work)
 }
 
 fn narrow(n: u8) -> u64 {
@@ -74,21 +77,35 @@ fn figure1() -> [u64; 15] {
     [23, 0, 0, 3, 0, 0, 40, 0, 0, 44, 0, 0, 20, 0, 0]
 }
 
-// The two calls on a list, with m items and n nodes.
-fn say(name: &[u8], m: u32, n: u32, list: [Node; 6], answer: u32) {
+// The two calls on a list, with m items, these of them optional, and n nodes.
+fn say_with(name: &[u8], m: u32, optional: Items, n: u32, list: [Node; 6], answer: u32) {
     let packages = figure1();
     let mut work = [0u64; 6];
     io::write_all(1, name);
     io::write_all(1, b": check ");
-    let s = check_list(m, &packages, n, list);
+    let s = check_list(m, &packages, optional, n, list);
     say_soundness(s);
     io::write_all(1, name);
     io::write_all(1, b": count ");
-    let c = count_list(m, &packages, n, list, answer, &mut work);
+    let c = count_list(m, &packages, optional, n, list, answer, &mut work);
     say_counted(c);
 }
 
-// Number 2 holds {2} and number 3 {4, 2}: the first two triples of every list but one.
+// A set of items below 64.
+fn low(word: u64) -> Items {
+    Items {
+        w0: word,
+        w1: 0,
+        w2: 0,
+    }
+}
+
+// The two calls with nothing optional.
+fn say(name: &[u8], m: u32, n: u32, list: [Node; 6], answer: u32) {
+    say_with(name, m, low(0), n, list, answer);
+}
+
+// Number 2 holds {2} and number 3 {4, 2}: the first two triples of every list but two.
 fn list(third: Node, fourth: Node, fifth: Node, sixth: Node) -> [Node; 6] {
     [node(2, 0, 1), node(4, 0, 2), third, fourth, fifth, sixth]
 }
@@ -156,8 +173,54 @@ fn damaged() {
     say(b"oversize", 193, 4, four, 5);
 }
 
+// The figure's triples with packages 2 and 4 exchanged: 2 comes before 4.
+fn exchanged() -> [Node; 6] {
+    let zero = node(0, 0, 0);
+    [
+        node(4, 0, 1),
+        node(2, 0, 2),
+        node(1, 0, 3),
+        node(0, 4, 2),
+        zero,
+        zero,
+    ]
+}
+
+// Packages come in the order of their lowest compulsory items. Item 4 is no package's lowest item; without item 2, package 4 has item 4 alone, and is last.
+fn optional() {
+    let zero = node(0, 0, 0);
+    let four = figure(zero, zero);
+    let other = exchanged();
+    say_with(b"item 4 optional", 6, low(16), 4, four, 5);
+    say_with(b"item 2 optional", 6, low(4), 4, four, 5);
+    say_with(b"2 before 4, item 2 optional", 6, low(4), 4, other, 5);
+    say(b"2 before 4, nothing optional", 6, 4, other, 5);
+}
+
+const ITEM_191: Items = Items {
+    w0: 0,
+    w1: 0,
+    w2: 9223372036854775808,
+};
+
+// 29 and 30 come behind 1 and 2, 30 behind 29, and 4 behind both: all but two of the lists have a wrong number of nodes. Package 4 is {2, 4}.
+fn optional_refused() {
+    let zero = node(0, 0, 0);
+    let four = figure(zero, zero);
+    say_with(b"items 2 and 4 optional", 6, low(20), 4, four, 5);
+    say_with(b"items 2 and 4 optional, damaged", 6, low(20), 5, four, 5);
+    say_with(b"items 2, 4 and 6 optional, M 6", 6, low(84), 5, four, 5);
+    say_with(b"items 2, 4 and 6 optional, M 7", 7, low(84), 5, four, 5);
+    say_with(b"items 2, 4 and 6 optional, M 5", 5, low(84), 5, four, 5);
+    say_with(b"item 191 optional, M 192", 192, ITEM_191, 4, four, 5);
+    say_with(b"item 191 optional, M 191", 191, ITEM_191, 5, four, 5);
+    say_with(b"item 191 optional, M 193", 193, ITEM_191, 5, four, 5);
+}
+
 fn main() {
     good();
     misnumbered();
     damaged();
+    optional();
+    optional_refused();
 }
