@@ -62,7 +62,7 @@ files =
     []
 
 refusals : map refusal files ≡ (0 ∷ 20 ∷ 21 ∷ 22 ∷ 24 ∷ 20 ∷ 20 ∷ 23 ∷ 25 ∷ 26 ∷ 26 ∷ 27 ∷ 0 ∷ 0 ∷ 0 ∷ [])
-unfolding width belowb firstOf engine.oversize engine.strayIn engine.stray word16At word32At word64At fnvFrom fnv first some listed
+unfolding width belowb firstOf engine.oversize engine.anyPackage engine.stray word16At word32At word64At fnvFrom fnv first some listed
     markb sameSchool samePackage schoolIn packageIn schoolOf slotsOf costOf itemsOf packagesOf costsOf
     cut unmarked otherVersion oversize wrongLength wrongCheck schoolTwice strayb stray packageTwice unfit refusal
 refusals = refl

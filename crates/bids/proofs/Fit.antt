@@ -40,8 +40,8 @@ getD-listed f (suc n) k p = go (ℕ-discrete k n) (λ q. getD-listed f n k q)
     go (no e) ih = List·getD-append (listed f n) (f n ∷ []) 0 k (omega (arith, length-listed f n)) ∙ ih (omega arith)
 
 -- the engine's refusal 2, package by package
-all-fit : (m : ℕ) (xs : List ℕ) → ((k : ℕ) → k < length xs → (0 < getD xs k 0) × (getD xs k 0 < 2 ^ m)) → engine.strayIn m xs ≡ false
-unfolding engine.strayIn belowb
+all-fit : (m : ℕ) (xs : List ℕ) → ((k : ℕ) → k < length xs → (0 < getD xs k 0) × (getD xs k 0 < 2 ^ m)) → engine.stray m xs ≡ false
+unfolding engine.anyPackage engine.stray belowb
 all-fit m [] f = refl
 all-fit m (x ∷ xs) f =
     let h = f 0 (omega arith) in
@@ -73,7 +73,7 @@ module _ (b : List ℕ) (listed-all : stray b (schools b) (slots b) (packages b)
 
   -- 28 never applies
   pub fit : {s t n : ℕ} → Sized b s t n → unfit b ≡ false
-  unfolding unfit engine.oversize engine.stray packagesOf
+  unfolding unfit engine.oversize packagesOf
   fit p =
       let l = length-listed (itemsOf b (schools b)) (packages b) in
       rw (

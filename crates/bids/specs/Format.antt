@@ -78,9 +78,9 @@ packagesOf b = listed (itemsOf b (schools b)) (packages b)
 unfoldable pub costsOf : List ℕ → List ℕ
 costsOf b = listed (costOf b (schools b)) (packages b)
 
--- the problem that the file states: its packages' item sets
+-- the problem that the file states: its packages' item sets, and no item is optional
 abbrev pub problemIn : List ℕ → Problem
-problemIn b = record { packages = packagesOf b }
+problemIn b = record { packages = packagesOf b; optional = 0 }
 
 -- ---- refusals
 
@@ -125,7 +125,7 @@ packageTwice b s n = some (λ k. ltb (packageIn b s k (packageAt s k)) k) n
 
 -- 28 unfit: the engine says 1 or 2, with M = S + T. These are its own two tests; proofs/Engine: `engine::check` says 1 or 2 exactly where they hold
 unfoldable pub unfit : List ℕ → Bool
-unfit b = engine.oversize (schools b + slots b) (problemIn b) || engine.stray (schools b + slots b) (problemIn b)
+unfit b = engine.oversize (schools b + slots b) (packagesOf b) || engine.stray (schools b + slots b) (packagesOf b)
 
 -- the tests of the header
 abbrev pub headerTests : List ℕ → List (Bool × ℕ)

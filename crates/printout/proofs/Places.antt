@@ -1,6 +1,6 @@
 -- THEOREM: for a file of at most nine items the program prints what it printed when its 3604 working words were 1802 places of two words and M ended at
 -- 64: each item set has a place of its own then, among 901 as among 1802. Assumes nothing.
-use mathlib.Core.Path.{_≡_, refl, sym, ap, ap₂, _∙_}
+use mathlib.Core.Path.{_≡_, ap, ap₂, _∙_}
 use mathlib.Core.Bool.{Bool, _||_}
 use mathlib.Core.List.{List, [], _∷_}
 use Prim.Native.Nat.{ℕ, _+_, _-_, _^_, _≤_, _<_}
@@ -19,10 +19,16 @@ use Rattle.exact_cover.proofs.Roomy.{steps-roomy}
 use Rattle.statement.specs.Examples.{allItems}
 use Rattle.statement.specs.Calls.{coverRefusal}
 use Rattle.statement.specs.Refusals.{firstOf, oversize, stray, unsound, unknownItem, shortWork, spent, full}
-use Rattle.bids.specs.Format.{schools, slots, problemIn, costsOf, refusal}
+use Rattle.exact_cover.proofs.NoneOptional.{noneOptional}
+use Rattle.statement.proofs.NoneOptional.{packages-as-before}
+use Rattle.bids.specs.Format.{schools, slots, packagesOf, costsOf, refusal}
 use Rattle.printout.specs.Program.{unless, answerText, blank, solved, printed}
 
-module _ (s t : ℕ) (Q : Problem) (C : List ℕ) where
+module _ (s t : ℕ) (ps C : List ℕ) where
+  -- these packages, and no optional item
+  abbrev Q : Problem
+  Q = noneOptional ps
+
   -- the items to cover
   abbrev D : ℕ
   D = allItems (s + t)
@@ -31,8 +37,8 @@ module _ (s t : ℕ) (Q : Problem) (C : List ℕ) where
   abbrev oldRefusal : ℕ
   oldRefusal =
       firstOf (
-      (ltb 64 (s + t) || ltb 512 (length (Q .packages)), 1) ∷
-      (stray (s + t) Q, 2) ∷
+      (ltb 64 (s + t) || ltb 512 (length ps), 1) ∷
+      (stray (s + t) ps, 2) ∷
       (unsound Q blank, 4) ∷
       (unknownItem (s + t) D, 7) ∷
       (shortWork 2 3604, 8) ∷
@@ -41,7 +47,7 @@ module _ (s t : ℕ) (Q : Problem) (C : List ℕ) where
       [])
 
   abbrev pub oldSolved : List ℕ
-  oldSolved = unless oldRefusal (answerText s t (length (Q .packages)) C (covering Q D) (missing (nodesOf blank) (covering Q D)) (steps Q 1802 D))
+  oldSolved = unless oldRefusal (answerText s t (length ps) C (covering Q D) (missing (nodesOf blank) (covering Q D)) (steps Q 1802 D))
 
   module _ (few : s + t ≤ 9) where
     small : D < 901
@@ -52,13 +58,13 @@ module _ (s t : ℕ) (Q : Problem) (C : List ℕ) where
 
     same-refusal : coverRefusal Q (s + t) blank D 1000000 3604 ≡ oldRefusal
     unfolding oversize spent shortWork width
-    same-refusal = rw (le-ltb 192 (s + t) (omega arith), le-ltb 64 (s + t) (omega arith), same-steps)
+    same-refusal = packages-as-before ps (s + t) _ ∙ rw (le-ltb 192 (s + t) (omega arith), le-ltb 64 (s + t) (omega arith), same-steps)
 
     same-solved : solved s t Q C ≡ oldSolved
     unfolding solved
     same-solved =
-        ap₂ (λ (r n : ℕ). unless r (answerText s t (length (Q .packages)) C (covering Q D) (missing (nodesOf blank) (covering Q D)) n)) same-refusal same-steps
+        ap₂ (λ (r n : ℕ). unless r (answerText s t (length ps) C (covering Q D) (missing (nodesOf blank) (covering Q D)) n)) same-refusal same-steps
 
-pub printed-as-before : (b : List ℕ) → schools b + slots b ≤ 9 → printed b ≡ unless (refusal b) (oldSolved (schools b) (slots b) (problemIn b) (costsOf b))
+pub printed-as-before : (b : List ℕ) → schools b + slots b ≤ 9 → printed b ≡ unless (refusal b) (oldSolved (schools b) (slots b) (packagesOf b) (costsOf b))
 unfolding printed
-printed-as-before b few = ap (unless (refusal b)) (same-solved (schools b) (slots b) (problemIn b) (costsOf b) few)
+printed-as-before b few = ap (unless (refusal b)) (same-solved (schools b) (slots b) (packagesOf b) (costsOf b) few)

@@ -122,7 +122,7 @@ read-refusal b =
 pub record Read (b : List ℕ) (s t n : ℕ) (p c : List ℕ) : Type 0 where
   pub few : n ≤ 512
   pub small : s + t ≤ 64
-  pub problem : problemOf (take (3 * n) p) ≡ problemIn b
+  pub problem : problemOf (take (3 * n) p) 0 ≡ problemIn b
   pub costs : take n c ≡ costsOf b
   pub same-long : length (costsOf b) ≡ length (packagesOf b)
   pub text : solved s t (problemIn b) (costsOf b) ≡ printed b
@@ -156,7 +156,7 @@ module _ {b : List ℕ} {r : Reading} {p c : List ℕ} (R : ReadPost b r (zeros 
       record {
         few = omega (arith, en, k .few);
         small = omega (arith, es, et, k .items);
-        problem = ap problemOf (page-left (spread 3 (packagesOf b)) (zeros 1536) l3 (q .0) (R .items)) ∙ packed-problem b z;
+        problem = ap (λ (w : List ℕ). problemOf w 0) (page-left (spread 3 (packagesOf b)) (zeros 1536) l3 (q .0) (R .items)) ∙ packed-problem b z;
         costs = page-left (costsOf b) (zeros 512) (en ∙ sym lk) (q .0) (R .costs);
         same-long = lk ∙ sym li;
         text = rw (es, et) (unsaid _ z);

@@ -4,6 +4,7 @@ ghost use mathlib.Core.Path.{_≡_};
 ghost use mathlib.Core.List.{[], _∷_, _++_};
 ghost use Prim.Native.Nat.{ℕ, suc, _+_, _^_, _<_, _≤_, min};
 ghost use lib.ListN.{length, getD};
+ghost use Rattle.itemset.specs.Words.{value, setsOf};
 ghost use Rattle.exact_cover.specs.Problem.{problemOf};
 ghost use Rattle.query.specs.Questions.{familyAt, nth, cost};
 ghost use Rattle.printout.specs.Text.{decimalIn, decimal, field, head, packagesText, timetableLine, refusedLine};
@@ -11,6 +12,7 @@ ghost use Rattle.printout.specs.Written.{Puts, Holds, Whole};
 ghost use Rattle.printout.specs.Program.{timetableLines, lastLine, sheet, answerText, solved, printed, Askable, Listable};
 ghost use Rattle.statement.specs.Replies.{gives, pickReply, placeReply, cheapestReply};
 use bids::Reading;
+use itemset::Items;
 use statement::Counted;
 use statement::Outcome;
 use statement::Picked;
@@ -182,6 +184,7 @@ fn placed(p: Placed) -> u64
 fn put_nth(
     m: u32,
     packages: &[u64],
+    optional: Items,
     costs: &[u16],
     t: &[u32],
     a: u32,
@@ -190,12 +193,12 @@ fn put_nth(
     out: &mut [u8],
     at: usize,
 ) -> usize
-    requires { ⌜ Listable (problemOf (now packages)) m (now t) a (length (now work)) ⌝ }
+    requires { ⌜ Listable (problemOf (now packages) (value optional)) m (now t) a (length (now work)) ⌝ }
     requires { ⌜ k < length (familyAt (now t) a) ⌝ }
     ensures { λ r. ⌜ Puts (now (out .entry)) at (now (out .exit)) r (timetableLine (now (costs .entry)) k (nth (familyAt (now (t .entry)) a) k)) ⌝ }
 {
     let mut page = [0u16; 64];
-    let p = engine::pick(m, packages, t, a, k, work, &mut page);
+    let p = engine::pick(m, packages, optional, t, a, k, work, &mut page);
     let n = picked(p);
     put_timetable(out, at, k, &page[..n], costs)
 }
@@ -204,6 +207,7 @@ fn put_nth(
 fn put_timetables(
     m: u32,
     packages: &[u64],
+    optional: Items,
     costs: &[u16],
     t: &[u32],
     a: u32,
@@ -212,14 +216,14 @@ fn put_timetables(
     out: &mut [u8],
     at: usize,
 ) -> usize
-    requires { ⌜ Listable (problemOf (now packages)) m (now t) a (length (now work)) ⌝ }
+    requires { ⌜ Listable (problemOf (now packages) (value optional)) m (now t) a (length (now work)) ⌝ }
     requires { ⌜ n ≤ length (familyAt (now t) a) ⌝ }
     ensures { λ r. ⌜ Puts (now (out .entry)) at (now (out .exit)) r (timetableLines (now (costs .entry)) (familyAt (now (t .entry)) a) n) ⌝ }
 {
     let mut to = at;
     let mut k: u64 = 0;
     while k < n {
-        to = put_nth(m, packages, costs, t, a, k, work, out, to);
+        to = put_nth(m, packages, optional, costs, t, a, k, work, out, to);
         k += 1;
     }
     to
@@ -229,6 +233,7 @@ fn put_timetables(
 fn put_last(
     m: u32,
     packages: &[u64],
+    optional: Items,
     costs: &[u16],
     t: &[u32],
     a: u32,
@@ -237,8 +242,8 @@ fn put_last(
     out: &mut [u8],
     at: usize,
 ) -> usize
-    requires { ⌜ Listable (problemOf (now packages)) m (now t) a (length (now work)) ⌝ }
-    requires { ⌜ length (now costs) ≡ length (problemOf (now packages) .packages) ⌝ }
+    requires { ⌜ Listable (problemOf (now packages) (value optional)) m (now t) a (length (now work)) ⌝ }
+    requires { ⌜ length (now costs) ≡ length (setsOf (now packages)) ⌝ }
     requires { ⌜ count ≡ length (familyAt (now t) a) ⌝ }
     ensures { λ r. ⌜ Puts (now (out .entry)) at (now (out .exit)) r (lastLine (now (costs .entry)) (familyAt (now (t .entry)) a)) ⌝ }
 {
@@ -246,9 +251,9 @@ fn put_last(
         return put_text(out, at, b"cheapest none\n");
     }
     let mut page = [0u16; 64];
-    let p = engine::cheapest(m, packages, costs, t, a, work, &mut page);
+    let p = engine::cheapest(m, packages, optional, costs, t, a, work, &mut page);
     let n = priced(p);
-    let q = engine::place(m, packages, t, a, &page[..n], work);
+    let q = engine::place(m, packages, optional, t, a, &page[..n], work);
     let k = placed(q);
     let to = put_field(out, at, b"cheapest ", k);
     put_text(out, to, b"\n")
@@ -273,17 +278,18 @@ fn least(a: u64, b: u64) -> u64
 fn put_sheet(
     c: Compiled,
     packages: &[u64],
+    optional: Items,
     costs: &[u16],
     table: &[u32],
     count: u64,
     work: &mut [u64],
     out: &mut [u8],
 ) -> usize
-    requires { ⌜ Listable (problemOf (now packages)) (c .s + c .t) (now table) (c .answer) (length (now work)) ⌝ }
-    requires { ⌜ length (now costs) ≡ length (problemOf (now packages) .packages) ⌝ }
+    requires { ⌜ Listable (problemOf (now packages) (value optional)) (c .s + c .t) (now table) (c .answer) (length (now work)) ⌝ }
+    requires { ⌜ length (now costs) ≡ length (setsOf (now packages)) ⌝ }
     requires { ⌜ count ≡ length (familyAt (now table) (c .answer)) ⌝ }
     requires { ⌜ c .s + c .t ≤ 64 ⌝ }
-    ensures { λ r. ⌜ Holds (now (out .exit)) r (sheet (c .s) (c .t) (length (problemOf (now (packages .entry)) .packages)) (now (costs .entry))
+    ensures { λ r. ⌜ Holds (now (out .exit)) r (sheet (c .s) (c .t) (length (setsOf (now (packages .entry)))) (now (costs .entry))
         (familyAt (now (table .entry)) (c .answer)) (c .made) (c .steps)) ⌝ }
 {
     let m = c.s + c.t;
@@ -300,45 +306,53 @@ fn put_sheet(
         count,
     );
     let lines = least(count, 10);
-    at = put_timetables(m, packages, costs, table, a, lines, work, out, at);
-    put_last(m, packages, costs, table, a, count, work, out, at)
+    at = put_timetables(m, packages, optional, costs, table, a, lines, work, out, at);
+    put_last(m, packages, optional, costs, table, a, count, work, out, at)
 }
 
 // The text of cover's answer.
 fn put_answer(
     c: Compiled,
     packages: &[u64],
+    optional: Items,
     costs: &[u16],
     table: &[u32],
     work: &mut [u64],
     out: &mut [u8],
 ) -> usize
-    requires { ⌜ Askable (problemOf (now packages)) (c .s + c .t) (now table) (c .answer) (length (now work)) ⌝ }
-    requires { ⌜ length (now costs) ≡ length (problemOf (now packages) .packages) ⌝ }
+    requires { ⌜ Askable (problemOf (now packages) (value optional)) (c .s + c .t) (now table) (c .answer) (length (now work)) ⌝ }
+    requires { ⌜ length (now costs) ≡ length (setsOf (now packages)) ⌝ }
     requires { ⌜ c .s + c .t ≤ 64 ⌝ }
-    ensures { λ r. ⌜ Holds (now (out .exit)) r (answerText (c .s) (c .t) (length (problemOf (now (packages .entry)) .packages)) (now (costs .entry))
+    ensures { λ r. ⌜ Holds (now (out .exit)) r (answerText (c .s) (c .t) (length (setsOf (now (packages .entry)))) (now (costs .entry))
         (familyAt (now (table .entry)) (c .answer)) (c .made) (c .steps)) ⌝ }
 {
     let m = c.s + c.t;
     let a = c.answer;
-    let counted = engine::count(m, packages, table, a, work);
+    let counted = engine::count(m, packages, optional, table, a, work);
     match counted {
         Counted::Refused(number) => put_refused(out, 0, number),
-        Counted::Count(count) => put_sheet(c, packages, costs, table, count, work, out),
+        Counted::Count(count) => put_sheet(c, packages, optional, costs, table, count, work, out),
     }
 }
 
 // The text for s schools and t slots.
-fn put_solution(s: u32, t: u32, packages: &[u64], costs: &[u16], out: &mut [u8]) -> usize
-    requires { ⌜ length (now costs) ≡ length (problemOf (now packages) .packages) ⌝ }
+fn put_solution(
+    s: u32,
+    t: u32,
+    packages: &[u64],
+    optional: Items,
+    costs: &[u16],
+    out: &mut [u8],
+) -> usize
+    requires { ⌜ length (now costs) ≡ length (setsOf (now packages)) ⌝ }
     requires { ⌜ s + t ≤ 64 ⌝ }
-    ensures { λ r. ⌜ Holds (now (out .exit)) r (solved s t (problemOf (now (packages .entry))) (now (costs .entry))) ⌝ }
+    ensures { λ r. ⌜ Holds (now (out .exit)) r (solved s t (problemOf (now (packages .entry)) (value optional)) (now (costs .entry))) ⌝ }
 {
     let mut table = [0u32; 5401];
     let mut work = [0u64; 3604];
     let m = s + t;
     let d = itemset::all_below(m);
-    let report = engine::cover(m, packages, &mut table, d, 1000000, &mut work);
+    let report = engine::cover(m, packages, optional, &mut table, d, 1000000, &mut work);
     let outcome = report.outcome;
     match outcome {
         Outcome::Refused(number) => put_refused(out, 0, number),
@@ -350,7 +364,7 @@ fn put_solution(s: u32, t: u32, packages: &[u64], costs: &[u16], out: &mut [u8])
                 made: report.made,
                 steps: report.steps,
             };
-            put_answer(c, packages, costs, &table, &mut work, out)
+            put_answer(c, packages, optional, costs, &table, &mut work, out)
         }
     }
 }
@@ -363,12 +377,18 @@ pub fn lines(file: &[u8], out: &mut [u8; 16384]) -> usize
     let mut packages = [0u64; 1536];
     let mut costs = [0u16; 512];
     let reading = bids::read(file, &mut packages, &mut costs);
+    // Such a file has no optional items.
+    let none = Items {
+        w0: 0,
+        w1: 0,
+        w2: 0,
+    };
     match reading {
         Reading::Refused(number) => put_refused(out, 0, number),
         Reading::Accepted {
             schools,
             slots,
             packages: n,
-        } => put_solution(schools, slots, &packages[..3 * n], &costs[..n], out),
+        } => put_solution(schools, slots, &packages[..3 * n], none, &costs[..n], out),
     }
 }

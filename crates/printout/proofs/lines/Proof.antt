@@ -5,6 +5,7 @@ use native.Mathlib.Omega.{arith}
 use mathlib.Core.Path.{sym, ap, ap₂, _∙_}
 use Rattle.printout.proofs.Sheets.{from-start, holds-same, read-said, read-gave}
 use Rattle.printout.proofs.Room.{whole}
+use Rattle.itemset.specs.Words.{valueOf}
 use Rattle.printout.specs.Program.{solved}
 use borrow.Author.Needs.{needs}
 use Rattle.printout.proofs.lines.Statement.{statement}
@@ -47,6 +48,7 @@ returns c =
     (holds-same (read-said (c .before .before .before .before .before .before .before .read .ensures) (c .before .before .before .reading .given .1)) (from-start (c .put-refused .ensures)))
 
 returns-2 : tie.Need-returns-2
+unfolding valueOf
 returns-2 c =
     let g = read-gave (c .before .before .before .before .before .before .before .before .before .read .ensures) (c .before .before .before .before .before .reading2 .given .1) in
     whole _ (omega (arith, c .put-solution .kept)) (holds-same (ap₂ (solved _ _) (g .problem) (g .costs) ∙ g .text) (c .put-solution .ensures))

@@ -1,4 +1,5 @@
 use Rattle.exact_cover.specs.Problem.{problemOf}
+use Rattle.itemset.specs.Words.{value}
 use Rattle.printout.proofs.Sheets.{from-start, holds-same, said, unsaid, few-of}
 use Rattle.printout.proofs.Asking.{count-left}
 use Rattle.printout.specs.Program.{answerText, sheet, Askable}
@@ -16,7 +17,7 @@ use Rattle.printout.proofs.put_answer.Tie as tie
 put-sheet-requires : tie.Need-put-sheet-requires
 put-sheet-requires c κs =
     let here = c .before .before .before .before .before .before .before .before .before .before .before .before .before .before .before in let a = here .args in let pre = here .pre in
-    let Q = problemOf (a .packages .now) in
+    let Q = problemOf (a .packages .now) (value (a .optional)) in
     let k = count-left (pre .0) in
     let q = was-given _ (countRefusal Q (a .c .s + a .c .t) (a .table .now) (a .c .answer) (length (a .work .now))) (length (familyAt (a .table .now) (a .c .answer)))
     (sym (ap countReply (c .before .before .before .counted2 .given .1)) ∙ c .before .before .before .before .before .before .before .count .ensures .result) in (
@@ -33,7 +34,7 @@ unfolding answerText
 returns c =
     let here = c .before .before .before .before .before .before .before .before .before .before .before .before .before .before .before .before .before in let a = here .args in
     let pre = here .pre in
-    let Q = problemOf (a .packages .now) in
+    let Q = problemOf (a .packages .now) (value (a .optional)) in
     let k = count-left (pre .0) in
     let q = was-refused _ (countRefusal Q (a .c .s + a .c .t) (a .table .now) (a .c .answer) (length (a .work .now))) (length (familyAt (a .table .now) (a .c .answer)))
     (sym (ap countReply (c .before .before .before .before .before .counted .given .1)) ∙ c .before .before .before .before .before .before .before .before .before .count .ensures .result) in
@@ -45,7 +46,7 @@ unfolding answerText
 returns-2 c =
     let here = c .before .before .before .before .before .before .before .before .before .before .before .before in let count = here .count in
     let a = here .before .before .before .before .before .before .before .before .args in let pre = here .before .before .before .before .before .before .before .before .pre in
-    let Q = problemOf (a .packages .now) in
+    let Q = problemOf (a .packages .now) (value (a .optional)) in
     let k = count-left (pre .0) in
     let q = was-given _ (countRefusal Q (a .c .s + a .c .t) (a .table .now) (a .c .answer) (length (a .work .now))) (length (familyAt (a .table .now) (a .c .answer)))
     (sym (ap countReply (c .before .before .before .before .before .before .before .before .counted2 .given .1)) ∙ count .ensures .result) in

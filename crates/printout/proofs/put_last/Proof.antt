@@ -32,7 +32,7 @@ slice-aggregate-place c =
     let pre = here .before .before .before .before .before .before .before .before .before .pre in
     let l : 0 < length (familyAt (args .t .now) (args .a)) = omega (arith, c .before .before .before .before .before .before .before .before .if1 .left, pre .1 .1) in
     let g = priced-page (pre .0) (args .costs .now) (pre .1 .0) l (omega arith) (cheapest′ .ensures) (c .before .priced .ensures) in
-    sym (length-take-le (c .before .priced .result) (cheapest′ .last .1 .1 .1 .1 .1 .1 .0) (omega (arith, g .0, c .before .before .page2 .given)))
+    sym (length-take-le (c .before .priced .result) (cheapest′ .last .1 .1 .1 .1 .1 .1 .1 .0) (omega (arith, g .0, c .before .before .page2 .given)))
 
 returns-2 : tie.Need-returns-2
 unfolding cheapestLine

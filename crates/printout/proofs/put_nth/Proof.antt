@@ -20,14 +20,14 @@ slice-aggregate-put-timetable c =
     let picked = c .before .before .picked in let pick = c .before .before .before .before .before .before .pick in
     let pre = c .before .before .before .before .before .before .before .before .before .before .before .before .before .before .pre in
     let g = picked-page (pre .0) (pre .1) (omega arith) (pick .ensures) (picked .ensures) in sym
-    (length-take-le (picked .result) (pick .last .1 .1 .1 .1 .1 .1 .0) (omega (arith, g .0, c .before .before .before .page2 .given)))
+    (length-take-le (picked .result) (pick .last .1 .1 .1 .1 .1 .1 .1 .0) (omega (arith, g .0, c .before .before .before .page2 .given)))
 
 put-timetable-requires : tie.Need-put-timetable-requires
 put-timetable-requires c κs =
     let picked = c .before .before .picked in let page2 = c .before .before .before .page2 in let pick = c .before .before .before .before .before .before .pick in
     let pre = c .before .before .before .before .before .before .before .before .before .before .before .before .before .before .pre in
     let g = picked-page (pre .0) (pre .1) (omega arith) (pick .ensures) (picked .ensures) in omega
-    (arith, g .0, page2 .given, length-take-le (picked .result) (pick .last .1 .1 .1 .1 .1 .1 .0) (omega (arith, g .0, page2 .given)))
+    (arith, g .0, page2 .given, length-take-le (picked .result) (pick .last .1 .1 .1 .1 .1 .1 .1 .0) (omega (arith, g .0, page2 .given)))
 
 returns : tie.Need-returns
 returns c =

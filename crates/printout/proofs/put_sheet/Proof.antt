@@ -1,4 +1,5 @@
 use Rattle.exact_cover.specs.Problem.{problemOf}
+use Rattle.itemset.specs.Words.{value, setsOf}
 use Rattle.printout.proofs.Sheets.{from-start, holds-same, sheet-parts}
 use Rattle.printout.proofs.Putting.{puts-then, puts-same}
 use Rattle.printout.specs.Program.{timetableLines, Listable}
@@ -22,7 +23,8 @@ put-last-requires c κs =
     let least = c .before .before .before .before .before .before .before .before .before in
     let here = least .before .before .before .before .before .before .before .before .before .before .before .before .before .before .before .before in
     let args = here .args in let pre = here .pre in (
-      subst⁻¹ (λ (w : ℕ). Listable (problemOf (args .packages .now)) (args .c .s + args .c .t) (args .table .now) (args .c .answer) w) (c .before .before .before .before .before .work .given)
+      subst⁻¹ (λ (w : ℕ). Listable (problemOf (args .packages .now) (value (args .optional))) (args .c .s + args .c .t) (args .table .now) (args .c .answer) w)
+          (c .before .before .before .before .before .work .given)
           (pre .0),
       (pre .1 .0, pre .1 .1 .0),
     )
@@ -39,7 +41,7 @@ returns c =
     let q = puts-then (timetableLines C F (min (a .count) 10))
     (puts-same (ap (timetableLines C F) (least .ensures)) (c .before .before .before .before .before .before .before .before .before .before .before .put-timetables .ensures))
     (c .before .before .before .before .put-last .ensures) in
-    holds-same (sheet-parts C F (a .c .s) (a .c .t) (length (problemOf (a .packages .now) .packages)) (a .c .made) (a .c .steps) (number .ensures) (pre .1 .1 .0))
+    holds-same (sheet-parts C F (a .c .s) (a .c .t) (length (setsOf (a .packages .now))) (a .c .made) (a .c .steps) (number .ensures) (pre .1 .1 .0))
     (from-start (puts-then (head (a .c .s) (a .c .t) (number .result) (a .c .made) (a .c .steps) (a .count)) (put-head .ensures) q))
 
 pub put-sheet-spec : {M : Type 1} → statement M

@@ -1,4 +1,5 @@
 use Rattle.exact_cover.specs.Problem.{problemOf}
+use Rattle.itemset.specs.Words.{value}
 use borrow.Author.Needs.{needs}
 use Rattle.printout.proofs.Sheets.{lines-none, lines-more}
 use Rattle.printout.proofs.Putting.{puts-none, puts-then, puts-same}
@@ -13,10 +14,11 @@ use Rattle.printout.proofs.put_timetables.Statement.{statement}
 use Rattle.printout.proofs.put_timetables.Tie as tie
 
 abbrev Inv-loop : tie.InvT-loop
-Inv-loop m packages costs t a n work₀ out₀ at to₀ k₀ work out to k = (k ≤ n) × (length work ≡ length work₀) × (length out ≡ length out₀) × Puts out₀ at out to (timetableLines costs (familyAt t a) k)
+Inv-loop m packages optional costs t a n work₀ out₀ at to₀ k₀ work out to k =
+    (k ≤ n) × (length work ≡ length work₀) × (length out ≡ length out₀) × Puts out₀ at out to (timetableLines costs (familyAt t a) k)
 
 abbrev μ-loop : tie.MeasureT-loop
-μ-loop m packages costs t a n work₀ out₀ at to₀ k₀ work out to k = n - k
+μ-loop m packages optional costs t a n work₀ out₀ at to₀ k₀ work out to k = n - k
 
 loop-holds : tie.Need-loop-holds Inv-loop μ-loop
 loop-holds c =
@@ -25,8 +27,10 @@ loop-holds c =
 
 put-nth-requires : tie.Need-put-nth-requires Inv-loop μ-loop
 put-nth-requires c κs =
-    let here = c .before .before .before .before .before .before .before .before .before in let args = here .args in let pre = here .pre in
-    (subst⁻¹ (λ (w : ℕ). Listable (problemOf (args .packages .now)) (args .m) (args .t .now) (args .a) w) (c .before .before .before .loop .inv .1) (pre .0), omega (arith, pre .1))
+    let here = c .before .before .before .before .before .before .before .before .before in let args = here .args in let pre = here .pre in (
+      subst⁻¹ (λ (w : ℕ). Listable (problemOf (args .packages .now) (value (args .optional))) (args .m) (args .t .now) (args .a) w) (c .before .before .before .loop .inv .1) (pre .0),
+      omega (arith, pre .1),
+    )
 
 loop-again : tie.Need-loop-again Inv-loop μ-loop
 loop-again c =
