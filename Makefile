@@ -1,7 +1,9 @@
-# What a caller from C needs. The gate is .ci/run; nothing here is part of it. `rt`, a C compiler and, for test-rust and bench, cargo are on the path.
+# What a caller from C needs. The gate is .ci/run; nothing here is part of it. `rt`, a C compiler, for test-c one of C++ and, for test-rust
+# and bench, cargo are on the path.
 PREFIX ?= /usr/local
-VERSION = 0.2.0
+VERSION = 0.3.0
 CC ?= cc
+CXX ?= c++
 CFLAGS ?= -O2
 WARN = -std=c11 -Wall -Wextra -pedantic
 CARGO ?= cargo
@@ -13,7 +15,7 @@ build = target/c
 archive = target/staticlib/libcapi.a
 header = include/mogedorn.h
 
-.PHONY: lib install example stack test-rust bench picks words bucket clean-c
+.PHONY: lib install example stack test-c test-rust bench picks words bucket clean-c
 
 # Proves the library and writes the archive. Its functions are set to start at multiples of 64 bytes, for speed: see docs/PERFORMANCE.md.
 define write-archive
@@ -39,6 +41,11 @@ example: $(build)/week
 	sed -n '/^Expected output:/,$${/^Expected output:/d;/^\*\//d;p}' examples/week.c | diff - $(build)/week.out
 	cat $(build)/week.out
 
+# The header's inline functions beside the entries that they call, as C99 and as C++11.
+test-c: $(build)/week-c99 $(build)/week-c++11
+	$(build)/week-c99
+	$(build)/week-c++11
+
 # The stack that each entry takes.
 stack: $(build)/stack
 	$(build)/stack
@@ -47,7 +54,7 @@ stack: $(build)/stack
 test-rust: $(archive)
 	MOGEDORN_LIB='$(abspath target/staticlib)' $(CARGO) run --quiet --release --manifest-path tests/rust/Cargo.toml --target-dir target/tests-rust -- $(SEED) $(CALLS)
 
-# The benchmarks. OLD is an earlier archive to stand beside this one, whose item sets are single words; its functions are set to multiples of 64 bytes too. Rust's
+# The benchmarks. OLD is an earlier archive to stand beside this one, whose calls take no optional items; its functions are set to multiples of 64 bytes too. Rust's
 # loops start at multiples of 32, where they were fastest.
 bench_run = MOGEDORN_LIB='$(abspath target/staticlib)' $(if $(OLD),MOGEDORN_OLD='$(abspath $(OLD))') RUSTFLAGS='-C llvm-args=-align-loops=32' $(CARGO) run --quiet --release --manifest-path bench/Cargo.toml --target-dir target/bench
 
@@ -70,6 +77,14 @@ bucket: $(archive)
 $(build)/week: examples/week.c $(header) $(archive)
 	mkdir -p $(build)
 	$(CC) $(CFLAGS) $(WARN) -Iinclude -o $@ examples/week.c $(archive)
+
+$(build)/week-c99: tests/c/week.c $(header) $(archive)
+	mkdir -p $(build)
+	$(CC) $(CFLAGS) -std=c99 -Wall -Wextra -pedantic -Iinclude -o $@ tests/c/week.c $(archive)
+
+$(build)/week-c++11: tests/c/week.c $(header) $(archive)
+	mkdir -p $(build)
+	$(CXX) $(CFLAGS) -std=c++11 -Wall -Wextra -pedantic -Iinclude -o $@ -x c++ tests/c/week.c -x none $(archive)
 
 $(build)/stack: tests/c/stack.c $(header) $(archive)
 	mkdir -p $(build)

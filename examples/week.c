@@ -1,5 +1,5 @@
 /* A week at the pool: two schools and two slots, six packages, as document 01's example has them. Builds the bids file, reads it, covers all items, and
-   asks what the desk would ask. `make example` builds and runs it. */
+   asks what the desk would ask; then once more with a slot that may go to the public. `make example` builds and runs it. */
 #include <stdint.h>
 #include <stdio.h>
 #include <stdlib.h>
@@ -9,8 +9,10 @@
 
 enum { NODES = 1800, PLACES = 1801, PAGE = 64 };
 
-static uint32_t table[1 + 3 * NODES]; /* all zeros: an empty table */
-static uint64_t work[4 * PLACES];
+enum { TABLE = 1 + 3 * NODES, WORK = 4 * PLACES };
+
+static uint32_t table[TABLE], public_table[TABLE]; /* all zeros: empty tables */
+static uint64_t work[WORK];
 static uint64_t packages[3 * 512]; /* three words a package */
 static uint16_t costs[512];
 static uint16_t page[PAGE];
@@ -50,11 +52,6 @@ static size_t make_file(uint8_t *file) {
 
 /* ---- the questions */
 
-static uint32_t items(void) { return bids.schools + bids.slots; }
-
-/* the packages' words */
-static size_t words(void) { return 3 * bids.packages; }
-
 static void stop(const char *call, uint32_t refusal) {
     printf("%s: refused %u\n", call, (unsigned)refusal);
     exit(1);
@@ -73,12 +70,47 @@ static void timetable(const char *what, mogedorn_timetable t) {
     printf("\n");
 }
 
-static void list(uint32_t a) {
-    mogedorn_number c = mogedorn_count(items(), packages, words(), table, sizeof table / 4, a, work, 4 * PLACES);
+static void list(const mogedorn_week *week, const uint32_t *t, uint32_t a) {
+    mogedorn_number c = mogedorn_week_count(week, t, TABLE, a, work, WORK);
     if (c.refusal) stop("count", c.refusal);
     printf("  %llu timetables\n", (unsigned long long)c.value);
-    for (uint64_t k = 0; k < c.value; k++)
-        timetable("  packages", mogedorn_pick(items(), packages, words(), table, sizeof table / 4, a, k, work, 4 * PLACES, page, PAGE));
+    for (uint64_t k = 0; k < c.value; k++) timetable("  packages", mogedorn_week_pick(week, t, TABLE, a, k, work, WORK, page, PAGE));
+}
+
+/* What if package 1 is certain, and what if it falls out? */
+static void with_and_without(const mogedorn_week *week, uint32_t all) {
+    uint32_t with1 = answer("with 1", mogedorn_week_with(week, table, TABLE, all, 1, work, WORK));
+    list(week, table, with1);
+    uint32_t without1 = answer("without 1", mogedorn_week_without(week, table, TABLE, all, 1, work, WORK));
+    list(week, table, without1);
+    /* the two together are the week again: the same number, and no node; and all but the first are the second */
+    uint32_t again = answer("either", mogedorn_week_either(week, table, TABLE, with1, without1, work, WORK));
+    printf("the same set: %s\n", again == all ? "yes" : "no");
+    answer("both", mogedorn_week_both(week, table, TABLE, with1, without1, work, WORK));
+    answer("only", mogedorn_week_only(week, table, TABLE, all, with1, work, WORK));
+}
+
+/* The page that the last timetable needs, and a shorter one; a refusal has its number and changes nothing. */
+static void pages(const mogedorn_week *week, uint32_t all) {
+    mogedorn_number last = mogedorn_week_measure(week, table, TABLE, all, 2, work, WORK);
+    if (last.refusal) stop("measure", last.refusal);
+    printf("measure 2: %llu packages\n", (unsigned long long)last.value);
+    mogedorn_timetable shorter = mogedorn_week_pick(week, table, TABLE, all, 2, work, WORK, page, last.value - 1);
+    printf("pick 2 on a shorter page: refused %u\n", (unsigned)shorter.refusal);
+    mogedorn_timetable past = mogedorn_week_pick(week, table, TABLE, all, 3, work, WORK, page, PAGE);
+    printf("pick past the end: refused %u\n", (unsigned)past.refusal);
+}
+
+/* The same bids where slot 1 may go to the public: at most one package has it. Another optional set, so another table. */
+static void open_swimming(const mogedorn_week *school_week, const uint64_t everything[3]) {
+    mogedorn_week week = *school_week;
+    uint32_t slot = bids.schools + 1; /* slot 1 as an item */
+    week.optional[slot / 64] |= 1ull << slot % 64;
+    uint32_t all = answer("cover with slot 1 optional", mogedorn_week_cover(&week, public_table, TABLE, everything, 1000000, work, WORK));
+    list(&week, public_table, all); /* new is 0 5: neither school takes slot 1 */
+    /* a package must have a compulsory item, here its school */
+    memcpy(week.optional, everything, sizeof week.optional);
+    printf("all items optional: refused %u\n", (unsigned)mogedorn_week_check(&week, public_table, TABLE));
 }
 
 int main(void) {
@@ -87,34 +119,21 @@ int main(void) {
     bids = mogedorn_read_bids(file, length, packages, 3 * 512, costs, 512);
     if (bids.refusal) stop("read", bids.refusal);
     printf("%u schools, %u slots, %u packages\n", (unsigned)bids.schools, (unsigned)bids.slots, (unsigned)bids.packages);
+    /* the fields that are not named are zeros: no slot is optional */
+    const mogedorn_week week = {.m = bids.schools + bids.slots, .packages = packages, .packages_len = 3 * bids.packages};
     uint64_t everything[3];
-    mogedorn_all_items(items(), everything);
-    const size_t n = words(), t = sizeof table / 4, w = 4 * PLACES;
+    mogedorn_week_all(&week, everything);
 
-    uint32_t week = answer("cover", mogedorn_cover(items(), packages, n, table, t, everything, 1000000, work, w));
-    list(week);
-    mogedorn_timetable least = mogedorn_cheapest(items(), packages, n, costs, bids.packages, table, t, week, work, w, page, PAGE);
+    uint32_t all = answer("cover", mogedorn_week_cover(&week, table, TABLE, everything, 1000000, work, WORK));
+    list(&week, table, all);
+    mogedorn_timetable least = mogedorn_week_cheapest(&week, costs, bids.packages, table, TABLE, all, work, WORK, page, PAGE);
     timetable("cheapest", least);
     printf("  cost %u\n", (unsigned)least.cost);
-    mogedorn_number k = mogedorn_place(items(), packages, n, table, t, week, page, least.packages, work, w);
+    mogedorn_number k = mogedorn_week_place(&week, table, TABLE, all, page, least.packages, work, WORK);
     printf("  place %llu\n", (unsigned long long)k.value);
-
-    /* what if package 1 is certain, and what if it falls out? */
-    uint32_t with1 = answer("with 1", mogedorn_with(items(), packages, n, table, t, week, 1, work, w));
-    list(with1);
-    uint32_t without1 = answer("without 1", mogedorn_without(items(), packages, n, table, t, week, 1, work, w));
-    list(without1);
-    /* the two together are the week again: the same number, and no node */
-    uint32_t again = answer("either", mogedorn_either(items(), packages, n, table, t, with1, without1, work, w));
-    printf("the same set: %s\n", again == week ? "yes" : "no");
-    /* the page that the last timetable needs, and a shorter one */
-    mogedorn_number last = mogedorn_measure(items(), packages, n, table, t, week, 2, work, w);
-    if (last.refusal) stop("measure", last.refusal);
-    printf("measure 2: %llu packages\n", (unsigned long long)last.value);
-    printf("pick 2 on a shorter page: refused %u\n",
-           (unsigned)mogedorn_pick(items(), packages, n, table, t, week, 2, work, w, page, last.value - 1).refusal);
-    /* a refusal has its number and changes nothing */
-    printf("pick past the end: refused %u\n", (unsigned)mogedorn_pick(items(), packages, n, table, t, week, 3, work, w, page, PAGE).refusal);
+    with_and_without(&week, all);
+    pages(&week, all);
+    open_swimming(&week, everything);
     return 0;
 }
 
@@ -138,7 +157,16 @@ without 1: answer 9, 0 steps, 1 nodes made
   packages: 4 5
 either: answer 7, 0 steps, 0 nodes made
 the same set: yes
+both: answer 0, 0 steps, 0 nodes made
+only: answer 9, 0 steps, 0 nodes made
 measure 2: 2 packages
 pick 2 on a shorter page: refused 15
 pick past the end: refused 12
+cover with slot 1 optional: answer 7, 9 steps, 6 nodes made
+  4 timetables
+  packages: 0 2
+  packages: 0 5
+  packages: 1 3
+  packages: 4 5
+all items optional: refused 30
 */

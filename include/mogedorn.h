@@ -4,7 +4,8 @@
  *
  * Every entry is proved to do what the crate `engine` (or `bids`) promises, for any values of its arguments: see docs/STATEMENTS.md. What a C caller owes,
  * since nothing can check it here:
- *   - a pointer is not null, also where its length is 0; it is aligned for its type and points to as many elements as the length after it says, and d to three;
+ *   - a pointer is not null, also where its length is 0; it is aligned for its type and points to as many elements as the length after it says, optional and d
+ *     to three;
  *   - what an entry writes to (a pointer without const) overlaps nothing else that the same call is lent;
  *   - while a call runs, no other thread writes to what it is lent, and none reads what it may write to;
  *   - the thread has the stack that a call needs, see below.
@@ -15,10 +16,19 @@
  *
  * An item set is three 64-bit words, lowest first: item i is bit i % 64 of word i / 64.
  *
+ * Optional items. A slot that no school takes may go to the public: every call is lent a set of optional items, and all other items are compulsory. A timetable
+ * covers an item set D when its packages lie inside D, each compulsory item of D is in just one of them and each optional item of D in at most one. With an
+ * empty optional set that is an exact cover. Precedence: package p comes before q when p's lowest compulsory item is lower, or these are equal and p is lower.
+ * So the optional set also decides in which order packages are written and timetables listed, and whether a table is sound. Lend one optional set to all calls
+ * on a table, as one list of packages: what is promised of a history of calls is promised of such.
+ *
+ * Most callers will keep m, packages and optional set in one struct and call the inline functions at the end, mogedorn_week_cover and so on.
+ *
  * The arguments that most entries share, by document 01's names:
  *   m                        M, the number of items: 0 to 192
  *   packages, packages_len   the N packages, 0 to 512, as item sets of three words each, and none is empty. packages_len counts the words: N is
  *                            packages_len / 3 rounded down, and one or two words left over mean nothing
+ *   optional                 the optional items, three words: items below M (29), and each package has an item that is not among them (30)
  *   table, table_len         the node table, all zeros at first; c nodes need 1 + 3 c words, and no more than 65534 nodes count. Keep it as the calls
  *                            leave it. Every call checks the whole table first and reads every word: lend no longer a table than is needed
  *   work, work_len           working words: their contents mean nothing before and after a call. With too few the call is refused (8)
@@ -46,10 +56,12 @@ extern "C" {
 /* The stack in bytes that suffices for every entry. */
 #define MOGEDORN_STACK 786432
 
-/* The refusals [document 01's numbers]. */
+/* The refusals [the numbers of documents 01 and 02]. Of those that the calls on a table give, the first one here that applies is given. */
 enum {
     MOGEDORN_OVERSIZE = 1,         /* M above 192 or N above 512 */
     MOGEDORN_STRAY = 2,            /* an empty package, or an item of M or above in one */
+    MOGEDORN_STRAY_OPTIONAL = 29,  /* an optional item of M or above */
+    MOGEDORN_ALL_OPTIONAL = 30,    /* a package without a compulsory item */
     MOGEDORN_COST_LIST = 3,        /* its length is not N */
     MOGEDORN_SPOILT = 4,           /* the table is not sound */
     MOGEDORN_UNKNOWN_ANSWER = 5,   /* an operand that the table does not know */
@@ -104,19 +116,20 @@ typedef struct {
     uint64_t packages; /* N */
 } mogedorn_bids;
 
-/* Whether the table is sound: 0, or the refusal 1, 2 or 4. Stack: 265 KB. */
-uint32_t mogedorn_check(uint32_t m, const uint64_t *packages, size_t packages_len, const uint32_t *table, size_t table_len);
+/* Whether the table is sound: 0, or the refusal 1, 2, 29, 30 or 4. Stack: 265 KB. */
+uint32_t mogedorn_check(uint32_t m, const uint64_t *packages, size_t packages_len, const uint64_t optional[3], const uint32_t *table, size_t table_len);
 
 /* Writes the set of all items below m to d, what cover of a whole week takes; of an m above 192 the set of 192 items. Stack: 1 KB. */
 void mogedorn_all_items(uint32_t m, uint64_t d[3]);
 
-/* The timetables that cover the item set d. At most `limit` steps. Four working words are one place of the memo, three for a set and one for its answer: at
-   least 4, P is work_len / 4 rounded down, and the more places the fewer steps. Lend an odd, best a prime number of places: a set's place is its value as a
-   192-bit number modulo P. Refusals 1, 2, 4, 7, 8, 9, 10. Stack: 338 KB. */
-mogedorn_report mogedorn_cover(uint32_t m, const uint64_t *packages, size_t packages_len, uint32_t *table, size_t table_len, const uint64_t d[3],
-                               uint32_t limit, uint64_t *work, size_t work_len);
+/* The timetables that cover the item set d; where d has no compulsory item that is the empty one alone (answer 1). At most `limit` steps. Search tries the
+   packages of the lowest compulsory item left, and the memo goes by all items left. Four working words are one place of it, three for a set and one for its
+   answer: at least 4, P is work_len / 4 rounded down, and the more places the fewer steps. Lend an odd, best a prime number of places: a set's place is its
+   value as a 192-bit number modulo P. Refusals 1, 2, 29, 30, 4, 7, 8, 9, 10. Stack: 338 KB. */
+mogedorn_report mogedorn_cover(uint32_t m, const uint64_t *packages, size_t packages_len, const uint64_t optional[3], uint32_t *table, size_t table_len,
+                               const uint64_t d[3], uint32_t limit, uint64_t *work, size_t work_len);
 
-/* The timetables of a or b; of a and b; of a and not of b. At least 2 working words. Refusals 1, 2, 4, 5, 8, 10. Stack: 642 KB.
+/* The timetables of a or b; of a and b; of a and not of b. At least 2 working words. Refusals 1, 2, 29, 30, 4, 5, 8, 10. Stack: 642 KB.
    Results of pairs of nodes are remembered in the working words where these are 131,072 or more, two results a word, otherwise in 65,536 places of the
    call's own. With too few for two large answers results are computed again and again. Lend a * b / 2p words or more, and 131,072 at least, where a and b
    are here the nodes of the two answers and p the packages on them. Measured by `make words` on answers made to meet in as many pairs as they can, seconds of `both`, - is over 5:
@@ -126,46 +139,134 @@ mogedorn_report mogedorn_cover(uint32_t m, const uint64_t *packages, size_t pack
                 14878         -     0.32      0.04      0.06      0.12
                 29214         -     0.60      0.13      0.10      0.22
                 57886         -     0.95      0.15      0.20      0.42 */
-mogedorn_report mogedorn_either(uint32_t m, const uint64_t *packages, size_t packages_len, uint32_t *table, size_t table_len, uint32_t a, uint32_t b,
-                                uint64_t *work, size_t work_len);
-mogedorn_report mogedorn_both(uint32_t m, const uint64_t *packages, size_t packages_len, uint32_t *table, size_t table_len, uint32_t a, uint32_t b,
-                              uint64_t *work, size_t work_len);
-mogedorn_report mogedorn_only(uint32_t m, const uint64_t *packages, size_t packages_len, uint32_t *table, size_t table_len, uint32_t a, uint32_t b,
-                              uint64_t *work, size_t work_len);
+mogedorn_report mogedorn_either(uint32_t m, const uint64_t *packages, size_t packages_len, const uint64_t optional[3], uint32_t *table, size_t table_len,
+                                uint32_t a, uint32_t b, uint64_t *work, size_t work_len);
+mogedorn_report mogedorn_both(uint32_t m, const uint64_t *packages, size_t packages_len, const uint64_t optional[3], uint32_t *table, size_t table_len,
+                              uint32_t a, uint32_t b, uint64_t *work, size_t work_len);
+mogedorn_report mogedorn_only(uint32_t m, const uint64_t *packages, size_t packages_len, const uint64_t optional[3], uint32_t *table, size_t table_len,
+                              uint32_t a, uint32_t b, uint64_t *work, size_t work_len);
 
-/* The timetables of a that hold the package p; that do not. At least 2 working words. Refusals 1, 2, 4, 5, 6, 8, 10. Stack: 470 KB. */
-mogedorn_report mogedorn_with(uint32_t m, const uint64_t *packages, size_t packages_len, uint32_t *table, size_t table_len, uint32_t a, uint32_t p,
-                              uint64_t *work, size_t work_len);
-mogedorn_report mogedorn_without(uint32_t m, const uint64_t *packages, size_t packages_len, uint32_t *table, size_t table_len, uint32_t a, uint32_t p,
-                                 uint64_t *work, size_t work_len);
+/* The timetables of a that hold the package p; that do not. At least 2 working words. Refusals 1, 2, 29, 30, 4, 5, 6, 8, 10. Stack: 470 KB. */
+mogedorn_report mogedorn_with(uint32_t m, const uint64_t *packages, size_t packages_len, const uint64_t optional[3], uint32_t *table, size_t table_len,
+                              uint32_t a, uint32_t p, uint64_t *work, size_t work_len);
+mogedorn_report mogedorn_without(uint32_t m, const uint64_t *packages, size_t packages_len, const uint64_t optional[3], uint32_t *table, size_t table_len,
+                                 uint32_t a, uint32_t p, uint64_t *work, size_t work_len);
 
-/* How many timetables the answer holds. At least answer + 1 working words. Refusals 1, 2, 4, 5, 8, 11. Stack: 265 KB. */
-mogedorn_number mogedorn_count(uint32_t m, const uint64_t *packages, size_t packages_len, const uint32_t *table, size_t table_len, uint32_t answer,
-                               uint64_t *work, size_t work_len);
+/* How many timetables the answer holds. At least answer + 1 working words. Refusals 1, 2, 29, 30, 4, 5, 8, 11. Stack: 265 KB. */
+mogedorn_number mogedorn_count(uint32_t m, const uint64_t *packages, size_t packages_len, const uint64_t optional[3], const uint32_t *table, size_t table_len,
+                               uint32_t answer, uint64_t *work, size_t work_len);
 
 /* How many packages the k-th timetable has, in listing order, from 0: what pick returns on a page with so many places or more; on a shorter one pick is
-   refused (15). At least answer + 1 working words. Refusals 1, 2, 4, 5, 8, 11, 12. Stack: 265 KB. */
-mogedorn_number mogedorn_measure(uint32_t m, const uint64_t *packages, size_t packages_len, const uint32_t *table, size_t table_len, uint32_t answer,
-                                 uint64_t k, uint64_t *work, size_t work_len);
+   refused (15). At least answer + 1 working words. Refusals 1, 2, 29, 30, 4, 5, 8, 11, 12. Stack: 265 KB. */
+mogedorn_number mogedorn_measure(uint32_t m, const uint64_t *packages, size_t packages_len, const uint64_t optional[3], const uint32_t *table, size_t table_len,
+                                 uint32_t answer, uint64_t k, uint64_t *work, size_t work_len);
 
-/* The k-th timetable in listing order, from 0, written to the page. At least answer + 1 working words. Refusals 1, 2, 4, 5, 8, 11, 12, 15.
+/* The k-th timetable in listing order, from 0, written to the page. At least answer + 1 working words. Refusals 1, 2, 29, 30, 4, 5, 8, 11, 12, 15.
    Stack: 265 KB. */
-mogedorn_timetable mogedorn_pick(uint32_t m, const uint64_t *packages, size_t packages_len, const uint32_t *table, size_t table_len, uint32_t answer,
-                                 uint64_t k, uint64_t *work, size_t work_len, uint16_t *page, size_t page_len);
+mogedorn_timetable mogedorn_pick(uint32_t m, const uint64_t *packages, size_t packages_len, const uint64_t optional[3], const uint32_t *table, size_t table_len,
+                                 uint32_t answer, uint64_t k, uint64_t *work, size_t work_len, uint16_t *page, size_t page_len);
 
-/* The k of a timetable, given as its packages in precedence. At least answer + 1 working words. Refusals 1, 2, 4, 5, 6, 8, 11, 14. Stack: 265 KB. */
-mogedorn_number mogedorn_place(uint32_t m, const uint64_t *packages, size_t packages_len, const uint32_t *table, size_t table_len, uint32_t answer,
-                               const uint16_t *list, size_t list_len, uint64_t *work, size_t work_len);
+/* The k of a timetable, given as its packages in precedence. At least answer + 1 working words. Refusals 1, 2, 29, 30, 4, 5, 6, 8, 11, 14. Stack: 265 KB. */
+mogedorn_number mogedorn_place(uint32_t m, const uint64_t *packages, size_t packages_len, const uint64_t optional[3], const uint32_t *table, size_t table_len,
+                               uint32_t answer, const uint16_t *list, size_t list_len, uint64_t *work, size_t work_len);
 
 /* The timetable of least cost, the first listed of equals, written to the page. `costs` has one cost for each package. At least answer + 1 working words.
-   Refusals 1, 2, 3, 4, 5, 8, 13, 15. Stack: 265 KB. */
-mogedorn_timetable mogedorn_cheapest(uint32_t m, const uint64_t *packages, size_t packages_len, const uint16_t *costs, size_t costs_len,
-                                     const uint32_t *table, size_t table_len, uint32_t answer, uint64_t *work, size_t work_len, uint16_t *page,
-                                     size_t page_len);
+   Refusals 1, 2, 29, 30, 3, 4, 5, 8, 13, 15. Stack: 265 KB. */
+mogedorn_timetable mogedorn_cheapest(uint32_t m, const uint64_t *packages, size_t packages_len, const uint64_t optional[3], const uint16_t *costs,
+                                     size_t costs_len, const uint32_t *table, size_t table_len, uint32_t answer, uint64_t *work, size_t work_len,
+                                     uint16_t *page, size_t page_len);
 
 /* Reads a bids file: its N packages as item sets, three words each, and their costs, to the start of the buffers, whose rest is unchanged. The buffers have at
-   least 3 N words and N costs (15). M is then schools + slots, at most 64. Refusals 20 to 27, and 15. Stack: 1 KB. */
+   least 3 N words and N costs (15). M is then schools + slots, at most 64. The file names no optional items. Refusals 20 to 27, and 15. Stack: 1 KB. */
 mogedorn_bids mogedorn_read_bids(const uint8_t *file, size_t file_len, uint64_t *packages, size_t packages_len, uint16_t *costs, size_t costs_len);
+
+/* What every call on a table is lent besides it, in one struct. Later versions may add fields, and a field of zeros will mean what held before there was one. So
+   start from zeros and name the fields that you set: mogedorn_week week = {.m = .., .packages = .., .packages_len = ..}; in C++ before C++20 mogedorn_week
+   week = {}; and then week.m = .., and so on. */
+typedef struct {
+    uint32_t m;
+    const uint64_t *packages; /* may be null where packages_len is 0 */
+    size_t packages_len;
+    uint64_t optional[3];     /* all zeros: no item is optional */
+} mogedorn_week;
+
+/* The entries with a week in place of m, packages and optional set. Only the entries are proved. These functions just pass on what they are lent, and a word of
+   their own where the pointer to packages is null; each returns what its entry returns. */
+
+static inline const uint64_t *mogedorn_week_packages(const mogedorn_week *week) {
+    static const uint64_t none = 0;
+    return week->packages ? week->packages : &none;
+}
+
+/* The arguments that a week stands for. */
+#define MOGEDORN_LENT(week) (week)->m, mogedorn_week_packages(week), (week)->packages_len, (week)->optional
+
+static inline uint32_t mogedorn_week_check(const mogedorn_week *week, const uint32_t *table, size_t table_len) {
+    return mogedorn_check(MOGEDORN_LENT(week), table, table_len);
+}
+
+/* Writes the set of all items of the week to d. */
+static inline void mogedorn_week_all(const mogedorn_week *week, uint64_t d[3]) {
+    mogedorn_all_items(week->m, d);
+}
+
+static inline mogedorn_report mogedorn_week_cover(const mogedorn_week *week, uint32_t *table, size_t table_len, const uint64_t d[3], uint32_t limit,
+                                                  uint64_t *work, size_t work_len) {
+    return mogedorn_cover(MOGEDORN_LENT(week), table, table_len, d, limit, work, work_len);
+}
+
+static inline mogedorn_report mogedorn_week_either(const mogedorn_week *week, uint32_t *table, size_t table_len, uint32_t a, uint32_t b, uint64_t *work,
+                                                   size_t work_len) {
+    return mogedorn_either(MOGEDORN_LENT(week), table, table_len, a, b, work, work_len);
+}
+
+static inline mogedorn_report mogedorn_week_both(const mogedorn_week *week, uint32_t *table, size_t table_len, uint32_t a, uint32_t b, uint64_t *work,
+                                                 size_t work_len) {
+    return mogedorn_both(MOGEDORN_LENT(week), table, table_len, a, b, work, work_len);
+}
+
+static inline mogedorn_report mogedorn_week_only(const mogedorn_week *week, uint32_t *table, size_t table_len, uint32_t a, uint32_t b, uint64_t *work,
+                                                 size_t work_len) {
+    return mogedorn_only(MOGEDORN_LENT(week), table, table_len, a, b, work, work_len);
+}
+
+static inline mogedorn_report mogedorn_week_with(const mogedorn_week *week, uint32_t *table, size_t table_len, uint32_t a, uint32_t p, uint64_t *work,
+                                                 size_t work_len) {
+    return mogedorn_with(MOGEDORN_LENT(week), table, table_len, a, p, work, work_len);
+}
+
+static inline mogedorn_report mogedorn_week_without(const mogedorn_week *week, uint32_t *table, size_t table_len, uint32_t a, uint32_t p, uint64_t *work,
+                                                    size_t work_len) {
+    return mogedorn_without(MOGEDORN_LENT(week), table, table_len, a, p, work, work_len);
+}
+
+static inline mogedorn_number mogedorn_week_count(const mogedorn_week *week, const uint32_t *table, size_t table_len, uint32_t answer, uint64_t *work,
+                                                  size_t work_len) {
+    return mogedorn_count(MOGEDORN_LENT(week), table, table_len, answer, work, work_len);
+}
+
+static inline mogedorn_number mogedorn_week_measure(const mogedorn_week *week, const uint32_t *table, size_t table_len, uint32_t answer, uint64_t k,
+                                                    uint64_t *work, size_t work_len) {
+    return mogedorn_measure(MOGEDORN_LENT(week), table, table_len, answer, k, work, work_len);
+}
+
+static inline mogedorn_timetable mogedorn_week_pick(const mogedorn_week *week, const uint32_t *table, size_t table_len, uint32_t answer, uint64_t k,
+                                                    uint64_t *work, size_t work_len, uint16_t *page, size_t page_len) {
+    return mogedorn_pick(MOGEDORN_LENT(week), table, table_len, answer, k, work, work_len, page, page_len);
+}
+
+static inline mogedorn_number mogedorn_week_place(const mogedorn_week *week, const uint32_t *table, size_t table_len, uint32_t answer, const uint16_t *list,
+                                                  size_t list_len, uint64_t *work, size_t work_len) {
+    return mogedorn_place(MOGEDORN_LENT(week), table, table_len, answer, list, list_len, work, work_len);
+}
+
+static inline mogedorn_timetable mogedorn_week_cheapest(const mogedorn_week *week, const uint16_t *costs, size_t costs_len, const uint32_t *table,
+                                                        size_t table_len, uint32_t answer, uint64_t *work, size_t work_len, uint16_t *page,
+                                                        size_t page_len) {
+    return mogedorn_cheapest(MOGEDORN_LENT(week), costs, costs_len, table, table_len, answer, work, work_len, page, page_len);
+}
+
+#undef MOGEDORN_LENT
 
 #ifdef __cplusplus
 }

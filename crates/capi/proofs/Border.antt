@@ -4,7 +4,8 @@ use mathlib.Core.List.{List}
 use Prim.Native.Nat.{ℕ, zero, suc, _+_}
 use native.Mathlib.Omega.{arith}
 use lib.ListN.{length, take, drop}
-use lib.Seq.{take-all, sets, length-sets}
+use lib.Seq.{sets, length-sets}
+use Rattle.itemset.proofs.Stored.{whole-set}
 use Rattle.itemset.specs.Words.{valueOf}
 use Rattle.itemset.proofs.Stored.{sets-read}
 use Rattle.zdd.specs.Table.{Family, count}
@@ -101,9 +102,6 @@ shows-read {b} {p} {p′} {c} r h q = record {
 }
 
 -- ---- a set in an array of three words
-
-pub whole-set : (ds : List ℕ) → length ds ≡ 3 → valueOf (take 3 (drop 0 ds)) ≡ valueOf ds
-whole-set ds l = ap valueOf (take-all 3 ds (omega arith))
 
 pub written-set : (vs ds : List ℕ) → length vs ≡ 3 → length ds ≡ 3 → valueOf (sets ds 0 vs) ≡ valueOf vs
 written-set vs ds k l =

@@ -201,10 +201,11 @@ fn reading(b: Reading) -> Bids
 // The entries.
 
 #[no_mangle]
-pub extern "C" fn mogedorn_check(m: u32, packages: &[u64], t: &[u32]) -> u32
-    ensures { λ r. ⌜ CheckPost (problemOf (now (packages .entry))) m (now (t .entry)) (soundnessOf r) ⌝ }
+pub extern "C" fn mogedorn_check(m: u32, packages: &[u64], optional: &[u64; 3], t: &[u32]) -> u32
+    ensures { λ r. ⌜ CheckPost (problemOf (now (packages .entry)) (valueOf (now (optional .entry)))) m (now (t .entry)) (soundnessOf r) ⌝ }
 {
-    let s = engine::check(m, packages, t);
+    let o = itemset::of_words(optional);
+    let s = engine::check(m, packages, o, t);
     soundness(s)
 }
 
@@ -212,14 +213,16 @@ pub extern "C" fn mogedorn_check(m: u32, packages: &[u64], t: &[u32]) -> u32
 pub extern "C" fn mogedorn_count(
     m: u32,
     packages: &[u64],
+    optional: &[u64; 3],
     t: &[u32],
     answer: u32,
     work: &mut [u64],
 ) -> Number
-    ensures { λ r. ⌜ CountPost (problemOf (now (packages .entry))) m (now (t .entry)) answer (length (now (work .entry))) (countedOf r) ⌝ }
+    ensures { λ r. ⌜ CountPost (problemOf (now (packages .entry)) (valueOf (now (optional .entry)))) m (now (t .entry)) answer (length (now (work .entry))) (countedOf r) ⌝ }
     ensures { λ r. ⌜ BlankNumber r ⌝ }
 {
-    let c = engine::count(m, packages, t, answer, work);
+    let o = itemset::of_words(optional);
+    let c = engine::count(m, packages, o, t, answer, work);
     counted(c)
 }
 
@@ -227,15 +230,17 @@ pub extern "C" fn mogedorn_count(
 pub extern "C" fn mogedorn_measure(
     m: u32,
     packages: &[u64],
+    optional: &[u64; 3],
     t: &[u32],
     answer: u32,
     k: u64,
     work: &mut [u64],
 ) -> Number
-    ensures { λ r. ⌜ MeasurePost (problemOf (now (packages .entry))) m (now (t .entry)) answer k (length (now (work .entry))) (measuredOf r) ⌝ }
+    ensures { λ r. ⌜ MeasurePost (problemOf (now (packages .entry)) (valueOf (now (optional .entry)))) m (now (t .entry)) answer k (length (now (work .entry))) (measuredOf r) ⌝ }
     ensures { λ r. ⌜ BlankNumber r ⌝ }
 {
-    let p = engine::measure(m, packages, t, answer, k, work);
+    let o = itemset::of_words(optional);
+    let p = engine::measure(m, packages, o, t, answer, k, work);
     measured(p)
 }
 
@@ -243,16 +248,19 @@ pub extern "C" fn mogedorn_measure(
 pub extern "C" fn mogedorn_pick(
     m: u32,
     packages: &[u64],
+    optional: &[u64; 3],
     t: &[u32],
     answer: u32,
     k: u64,
     work: &mut [u64],
     page: &mut [u16],
 ) -> Timetable
-    ensures { λ r. ⌜ PickPost (problemOf (now (packages .entry))) m (now (t .entry)) answer k (length (now (work .entry))) (now (page .entry)) (pickedOf r) (now (page .exit)) ⌝ }
+    ensures { λ r. ⌜ PickPost (problemOf (now (packages .entry)) (valueOf (now (optional .entry)))) m (now (t .entry)) answer k (length (now (work .entry)))
+        (now (page .entry)) (pickedOf r) (now (page .exit)) ⌝ }
     ensures { λ r. ⌜ BlankPick r ⌝ }
 {
-    let p = engine::pick(m, packages, t, answer, k, work, page);
+    let o = itemset::of_words(optional);
+    let p = engine::pick(m, packages, o, t, answer, k, work, page);
     picked(p)
 }
 
@@ -260,15 +268,17 @@ pub extern "C" fn mogedorn_pick(
 pub extern "C" fn mogedorn_place(
     m: u32,
     packages: &[u64],
+    optional: &[u64; 3],
     t: &[u32],
     answer: u32,
     list: &[u16],
     work: &mut [u64],
 ) -> Number
-    ensures { λ r. ⌜ PlacePost (problemOf (now (packages .entry))) m (now (t .entry)) answer (now (list .entry)) (length (now (work .entry))) (placedOf r) ⌝ }
+    ensures { λ r. ⌜ PlacePost (problemOf (now (packages .entry)) (valueOf (now (optional .entry)))) m (now (t .entry)) answer (now (list .entry)) (length (now (work .entry))) (placedOf r) ⌝ }
     ensures { λ r. ⌜ BlankNumber r ⌝ }
 {
-    let p = engine::place(m, packages, t, answer, list, work);
+    let o = itemset::of_words(optional);
+    let p = engine::place(m, packages, o, t, answer, list, work);
     placed(p)
 }
 
@@ -276,17 +286,19 @@ pub extern "C" fn mogedorn_place(
 pub extern "C" fn mogedorn_cheapest(
     m: u32,
     packages: &[u64],
+    optional: &[u64; 3],
     costs: &[u16],
     t: &[u32],
     answer: u32,
     work: &mut [u64],
     page: &mut [u16],
 ) -> Timetable
-    ensures { λ r. ⌜ CheapestPost (problemOf (now (packages .entry))) m (now (costs .entry))
+    ensures { λ r. ⌜ CheapestPost (problemOf (now (packages .entry)) (valueOf (now (optional .entry)))) m (now (costs .entry))
         (now (t .entry)) answer (length (now (work .entry))) (now (page .entry)) (pricedOf r) (now (page .exit)) ⌝ }
     ensures { λ r. ⌜ BlankTimetable r ⌝ }
 {
-    let p = engine::cheapest(m, packages, costs, t, answer, work, page);
+    let o = itemset::of_words(optional);
+    let p = engine::cheapest(m, packages, o, costs, t, answer, work, page);
     priced(p)
 }
 
@@ -294,16 +306,19 @@ pub extern "C" fn mogedorn_cheapest(
 pub extern "C" fn mogedorn_cover(
     m: u32,
     packages: &[u64],
+    optional: &[u64; 3],
     t: &mut [u32],
     d: &[u64; 3],
     limit: u32,
     work: &mut [u64],
 ) -> Report
-    ensures { λ r. ⌜ CoverPost (problemOf (now (packages .entry))) m (now (t .entry)) (valueOf (now (d .entry))) limit (length (now (work .entry))) (reportOf r) (now (t .exit)) ⌝ }
+    ensures { λ r. ⌜ CoverPost (problemOf (now (packages .entry)) (valueOf (now (optional .entry)))) m (now (t .entry)) (valueOf (now (d .entry))) limit
+        (length (now (work .entry))) (reportOf r) (now (t .exit)) ⌝ }
     ensures { λ r. ⌜ BlankReport r ⌝ }
 {
-    let items = itemset::read(d, 0);
-    let r = engine::cover(m, packages, t, items, limit, work);
+    let o = itemset::of_words(optional);
+    let items = itemset::of_words(d);
+    let r = engine::cover(m, packages, o, t, items, limit, work);
     shown(r)
 }
 
@@ -311,15 +326,17 @@ pub extern "C" fn mogedorn_cover(
 pub extern "C" fn mogedorn_either(
     m: u32,
     packages: &[u64],
+    optional: &[u64; 3],
     t: &mut [u32],
     a: u32,
     b: u32,
     work: &mut [u64],
 ) -> Report
-    ensures { λ r. ⌜ EitherPost (problemOf (now (packages .entry))) m (now (t .entry)) a b (length (now (work .entry))) (reportOf r) (now (t .exit)) ⌝ }
+    ensures { λ r. ⌜ EitherPost (problemOf (now (packages .entry)) (valueOf (now (optional .entry)))) m (now (t .entry)) a b (length (now (work .entry))) (reportOf r) (now (t .exit)) ⌝ }
     ensures { λ r. ⌜ BlankReport r ⌝ }
 {
-    let r = engine::either(m, packages, t, a, b, work);
+    let o = itemset::of_words(optional);
+    let r = engine::either(m, packages, o, t, a, b, work);
     shown(r)
 }
 
@@ -327,15 +344,17 @@ pub extern "C" fn mogedorn_either(
 pub extern "C" fn mogedorn_both(
     m: u32,
     packages: &[u64],
+    optional: &[u64; 3],
     t: &mut [u32],
     a: u32,
     b: u32,
     work: &mut [u64],
 ) -> Report
-    ensures { λ r. ⌜ BothPost (problemOf (now (packages .entry))) m (now (t .entry)) a b (length (now (work .entry))) (reportOf r) (now (t .exit)) ⌝ }
+    ensures { λ r. ⌜ BothPost (problemOf (now (packages .entry)) (valueOf (now (optional .entry)))) m (now (t .entry)) a b (length (now (work .entry))) (reportOf r) (now (t .exit)) ⌝ }
     ensures { λ r. ⌜ BlankReport r ⌝ }
 {
-    let r = engine::both(m, packages, t, a, b, work);
+    let o = itemset::of_words(optional);
+    let r = engine::both(m, packages, o, t, a, b, work);
     shown(r)
 }
 
@@ -343,15 +362,17 @@ pub extern "C" fn mogedorn_both(
 pub extern "C" fn mogedorn_only(
     m: u32,
     packages: &[u64],
+    optional: &[u64; 3],
     t: &mut [u32],
     a: u32,
     b: u32,
     work: &mut [u64],
 ) -> Report
-    ensures { λ r. ⌜ OnlyPost (problemOf (now (packages .entry))) m (now (t .entry)) a b (length (now (work .entry))) (reportOf r) (now (t .exit)) ⌝ }
+    ensures { λ r. ⌜ OnlyPost (problemOf (now (packages .entry)) (valueOf (now (optional .entry)))) m (now (t .entry)) a b (length (now (work .entry))) (reportOf r) (now (t .exit)) ⌝ }
     ensures { λ r. ⌜ BlankReport r ⌝ }
 {
-    let r = engine::only(m, packages, t, a, b, work);
+    let o = itemset::of_words(optional);
+    let r = engine::only(m, packages, o, t, a, b, work);
     shown(r)
 }
 
@@ -359,15 +380,17 @@ pub extern "C" fn mogedorn_only(
 pub extern "C" fn mogedorn_with(
     m: u32,
     packages: &[u64],
+    optional: &[u64; 3],
     t: &mut [u32],
     a: u32,
     p: u32,
     work: &mut [u64],
 ) -> Report
-    ensures { λ r. ⌜ WithPost (problemOf (now (packages .entry))) m (now (t .entry)) a p (length (now (work .entry))) (reportOf r) (now (t .exit)) ⌝ }
+    ensures { λ r. ⌜ WithPost (problemOf (now (packages .entry)) (valueOf (now (optional .entry)))) m (now (t .entry)) a p (length (now (work .entry))) (reportOf r) (now (t .exit)) ⌝ }
     ensures { λ r. ⌜ BlankReport r ⌝ }
 {
-    let r = engine::with(m, packages, t, a, p, work);
+    let o = itemset::of_words(optional);
+    let r = engine::with(m, packages, o, t, a, p, work);
     shown(r)
 }
 
@@ -375,15 +398,17 @@ pub extern "C" fn mogedorn_with(
 pub extern "C" fn mogedorn_without(
     m: u32,
     packages: &[u64],
+    optional: &[u64; 3],
     t: &mut [u32],
     a: u32,
     p: u32,
     work: &mut [u64],
 ) -> Report
-    ensures { λ r. ⌜ WithoutPost (problemOf (now (packages .entry))) m (now (t .entry)) a p (length (now (work .entry))) (reportOf r) (now (t .exit)) ⌝ }
+    ensures { λ r. ⌜ WithoutPost (problemOf (now (packages .entry)) (valueOf (now (optional .entry)))) m (now (t .entry)) a p (length (now (work .entry))) (reportOf r) (now (t .exit)) ⌝ }
     ensures { λ r. ⌜ BlankReport r ⌝ }
 {
-    let r = engine::without(m, packages, t, a, p, work);
+    let o = itemset::of_words(optional);
+    let r = engine::without(m, packages, o, t, a, p, work);
     shown(r)
 }
 

@@ -4,8 +4,10 @@ use Rattle.capi.proofs.mogedorn_both.Statement.{statement}
 use Rattle.capi.proofs.mogedorn_both.Tie as tie
 
 returns : tie.Need-returns
-returns c = (shows-makes (c .shown .result) (c .shown .ensures) (c .before .before .before .before .before .both .ensures), c .shown .ensures .blank)
+returns c =
+    let optional = c .before .before .before .before .before .before .before .before .of-words in
+    (rw (optional .ensures) at (shows-makes (c .shown .result) (c .shown .ensures) (c .before .before .before .before .before .both .ensures)), c .shown .ensures .blank)
 
 pub mogedorn-both-spec : {M : Type 1} → statement M
 mogedorn-both-spec =
-    tie.close (tie.spec (λ c κs. search needs) (λ c κs. search needs) (λ c. search needs) (λ c. search needs) returns)
+    tie.close (tie.spec (λ c κs. search needs) (λ c κs. search needs) (λ c κs. search needs) (λ c. search needs) (λ c. search needs) returns)

@@ -1,0 +1,102 @@
+/* The inline functions of the header beside their entries: they give the same, table and page included. Each side has a table and a page of its own. The text
+   is C99 and C++11 alike; `make test-c` builds and runs it as both. */
+#include <stdio.h>
+#include <string.h>
+
+#include "mogedorn.h"
+
+enum { TABLE = 31, WORK = 4 * 64 + 3, PAGE = 5 };
+
+/* {0}, {0, 2}, {1, 2}, {1}, item 2 optional; the word behind them is no package */
+static const uint64_t packages[13] = {1, 0, 0, 5, 0, 0, 6, 0, 0, 2, 0, 0, 9};
+static const uint16_t costs[4] = {7, 1, 1, 3};
+static mogedorn_week week;
+
+static uint32_t table[TABLE], entry_table[TABLE];
+static uint64_t work[WORK];
+static uint16_t page[PAGE], entry_page[PAGE];
+static int failed;
+
+/* What an entry takes for the week. */
+#define LENT 3, packages, 13, week.optional
+
+static void expect(const char *what, int holds) {
+    if (!holds) printf("%s: not as expected\n", what);
+    failed |= !holds;
+}
+
+static uint32_t report(const char *what, mogedorn_report x, mogedorn_report entry) {
+    expect(what, x.refusal == entry.refusal && x.answer == entry.answer && x.steps == entry.steps && x.made == entry.made);
+    expect(what, memcmp(table, entry_table, sizeof table) == 0);
+    return x.answer;
+}
+
+static void number(const char *what, mogedorn_number x, mogedorn_number entry, uint64_t value) {
+    expect(what, x.refusal == 0 && entry.refusal == 0 && x.value == value && entry.value == value);
+}
+
+static void timetable(const char *what, mogedorn_timetable x, mogedorn_timetable entry, uint16_t first, uint16_t second) {
+    expect(what, x.refusal == entry.refusal && x.cost == entry.cost && x.packages == entry.packages);
+    expect(what, memcmp(page, entry_page, sizeof page) == 0);
+    expect(what, x.refusal == 0 && x.packages == 2 && page[0] == first && page[1] == second);
+}
+
+static uint32_t cover(void) {
+    uint64_t d[3], all[3];
+    mogedorn_week_all(&week, d);
+    mogedorn_all_items(3, all);
+    expect("all", memcmp(d, all, sizeof d) == 0 && d[0] == 7);
+    mogedorn_report spent = mogedorn_week_cover(&week, table, TABLE, d, 5, work, WORK);
+    expect("cover", spent.refusal == MOGEDORN_SPENT);
+    mogedorn_report x = mogedorn_week_cover(&week, table, TABLE, d, 6, work, WORK);
+    expect("cover", x.refusal == 0 && x.steps == 6 && x.made == 4);
+    return report("cover", x, mogedorn_cover(LENT, entry_table, TABLE, d, 6, work, WORK));
+}
+
+static void operations(uint32_t all) {
+    uint32_t a = report("with", mogedorn_week_with(&week, table, TABLE, all, 0, work, WORK), mogedorn_with(LENT, entry_table, TABLE, all, 0, work, WORK));
+    uint32_t b =
+        report("without", mogedorn_week_without(&week, table, TABLE, all, 2, work, WORK), mogedorn_without(LENT, entry_table, TABLE, all, 2, work, WORK));
+    report("either", mogedorn_week_either(&week, table, TABLE, a, b, work, WORK), mogedorn_either(LENT, entry_table, TABLE, a, b, work, WORK));
+    report("both", mogedorn_week_both(&week, table, TABLE, a, b, work, WORK), mogedorn_both(LENT, entry_table, TABLE, a, b, work, WORK));
+    report("only", mogedorn_week_only(&week, table, TABLE, a, b, work, WORK), mogedorn_only(LENT, entry_table, TABLE, a, b, work, WORK));
+}
+
+/* The listing is 0 2, 0 3, 1 3; the last is the cheapest. */
+static void questions(uint32_t all) {
+    static const uint16_t second[2] = {0, 3};
+    expect("check", mogedorn_week_check(&week, table, TABLE) == 0 && mogedorn_check(LENT, table, TABLE) == 0);
+    number("count", mogedorn_week_count(&week, table, TABLE, all, work, WORK), mogedorn_count(LENT, table, TABLE, all, work, WORK), 3);
+    number("measure", mogedorn_week_measure(&week, table, TABLE, all, 1, work, WORK), mogedorn_measure(LENT, table, TABLE, all, 1, work, WORK), 2);
+    number("place", mogedorn_week_place(&week, table, TABLE, all, second, 2, work, WORK), mogedorn_place(LENT, table, TABLE, all, second, 2, work, WORK), 1);
+    timetable("pick", mogedorn_week_pick(&week, table, TABLE, all, 1, work, WORK, page, PAGE),
+              mogedorn_pick(LENT, table, TABLE, all, 1, work, WORK, entry_page, PAGE), 0, 3);
+    timetable("cheapest", mogedorn_week_cheapest(&week, costs, 4, table, TABLE, all, work, WORK, page, PAGE),
+              mogedorn_cheapest(LENT, costs, 4, table, TABLE, all, work, WORK, entry_page, PAGE), 1, 3);
+}
+
+/* A week of zeros has no item and no package, and its pointer to packages is null: the empty timetable covers the empty set, in one step. */
+static void zeros(void) {
+    mogedorn_week none;
+    uint32_t empty[1] = {0};
+    uint64_t d[3];
+    memset(&none, 0, sizeof none);
+    mogedorn_week_all(&none, d);
+    expect("check of zeros", mogedorn_week_check(&none, empty, 1) == 0);
+    mogedorn_report x = mogedorn_week_cover(&none, empty, 1, d, 1, work, 4);
+    expect("cover of zeros", x.refusal == 0 && x.answer == 1 && x.steps == 1 && x.made == 0);
+    none.optional[2] = 1;
+    expect("check of an optional item of M or above", mogedorn_week_check(&none, empty, 1) == MOGEDORN_STRAY_OPTIONAL);
+}
+
+int main(void) {
+    week.m = 3, week.packages = packages, week.packages_len = 13, week.optional[0] = 4;
+    uint32_t all = cover();
+    operations(all);
+    questions(all);
+    zeros();
+    week.optional[0] = 6;
+    expect("check of a package without a compulsory item", mogedorn_week_check(&week, table, TABLE) == MOGEDORN_ALL_OPTIONAL);
+    if (!failed) printf("week.c: the inline functions and their entries agree\n");
+    return failed;
+}
