@@ -3,6 +3,7 @@
 //
 // Tables and packages go by value, and cases are rows of a table: a proof is as long as there are borrows and calls.
 ghost use Prim.Native.Nat.{_≤_, _<_};
+use itemset::Items;
 use statement::Counted;
 use statement::Outcome;
 use statement::Report;
@@ -82,6 +83,13 @@ fn print_sum(sum: u64) {
 
 // ---- one call
 
+// Nothing is optional.
+const NO_ITEMS: Items = Items {
+    w0: 0,
+    w1: 0,
+    w2: 0,
+};
+
 // The second operand of with and without is a package.
 fn call(
     m: u32,
@@ -93,18 +101,18 @@ fn call(
     work: &mut [u64],
 ) -> Report {
     if op == 0 {
-        return engine::either(m, packages, t, a, b, work);
+        return engine::either(m, packages, NO_ITEMS, t, a, b, work);
     }
     if op == 1 {
-        return engine::both(m, packages, t, a, b, work);
+        return engine::both(m, packages, NO_ITEMS, t, a, b, work);
     }
     if op == 2 {
-        return engine::only(m, packages, t, a, b, work);
+        return engine::only(m, packages, NO_ITEMS, t, a, b, work);
     }
     if op == 3 {
-        return engine::with(m, packages, t, a, b, work);
+        return engine::with(m, packages, NO_ITEMS, t, a, b, work);
     }
-    engine::without(m, packages, t, a, b, work)
+    engine::without(m, packages, NO_ITEMS, t, a, b, work)
 }
 
 // M, how many packages and words of the table are lent, the call with its operands, and how many working words.
@@ -320,7 +328,14 @@ fn print_count(packages: [u64; 1539], t: [u32; 12001], q: Question, answer: u32)
     let n = least(q.packages, 513);
     let room = least(q.room, 12001);
     let mut tally = [0u64; 4096];
-    let c = engine::count(q.m, &packages[0..3 * n], &t[0..room], answer, &mut tally);
+    let c = engine::count(
+        q.m,
+        &packages[0..3 * n],
+        NO_ITEMS,
+        &t[0..room],
+        answer,
+        &mut tally,
+    );
     text(COUNT);
     counted(c);
     mark(b'\n');

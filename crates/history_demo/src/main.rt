@@ -1,5 +1,7 @@
 // Runs a script of calls on Figure 1 of document 000 through the runner, on tables and working words of several lengths, and prints each report.
+// A second script has calls on four packages one of whose items is optional.
 ghost use Prim.Native.Nat.{_≤_};
+use itemset::Items;
 
 // Seven words a call: kind (0 cover, 1 either, 2 both, 3 only, 4 with, 5 without), M, two arguments, the first of three words, working words.
 const SCRIPT: [u64; 147] = [
@@ -173,6 +175,47 @@ fn figure() -> [u64; 15] {
     ]
 }
 
+// Nothing is optional.
+const NO_ITEMS: Items = Items {
+    w0: 0,
+    w1: 0,
+    w2: 0,
+};
+
+// {0}, {0, 2}, {1, 2}, {1}, numbered from 0.
+const SLOTS: [u64; 12] = [1, 0, 0, 5, 0, 0, 6, 0, 0, 2, 0, 0];
+
+const ITEM_2: Items = Items {
+    w0: 4,
+    w1: 0,
+    w2: 0,
+};
+
+// The calls on them, a row each. The timetables of all items are 0 2, 0 3 and 1 3, of which the second leaves item 2 out.
+const SLOT_CALLS: [[u64; 7]; 9] = [
+    [0, 3, 7, 0, 0, 6, 256], // cover all items
+    [0, 3, 7, 0, 0, 5, 256], // B too small
+    [0, 3, 4, 0, 0, 1, 256], // item 2 alone: nothing has to be covered
+    [0, 3, 0, 0, 0, 1, 256], // no item: the same set, the same number
+    [4, 3, 5, 0, 0, 0, 2], // with package 0
+    [5, 3, 5, 0, 0, 0, 2], // without it
+    [1, 3, 6, 0, 0, 3, 2], // either of the two: the number of all three again
+    [0, 3, 3, 0, 0, 3, 256], // items 0 and 1: 0 3 alone
+    [2, 3, 6, 0, 0, 7, 2], // what both have: 0 3 again
+];
+
+// The rows, one after the other.
+fn slot_script() -> [u64; 63] {
+    let mut script = [0u64; 63];
+    let mut i: usize = 0;
+    while i < 63 {
+        let row = SLOT_CALLS[i / 7];
+        script[i] = row[i % 7];
+        i += 1;
+    }
+    script
+}
+
 // How a call ended, by the first word of its report.
 fn show_outcome(word: u64) {
     if word < 4294967296 {
@@ -206,6 +249,18 @@ fn show_reports(out: &[u64; 63], n: usize) {
     }
 }
 
+// What was run: its reports, and how many there are of so many calls.
+fn show_run(what: &[u8], out: &[u64; 63], n: usize, calls: u64) {
+    io::write_all(1, what);
+    io::write_all(1, b"\n");
+    show_reports(out, n);
+    io::write_all(1, b"ran ");
+    io::print_decimal(1, n as u64);
+    io::write_all(1, b" of ");
+    io::print_decimal(1, calls);
+    io::write_all(1, b"\n");
+}
+
 // The script on a table that is not empty yet, with `room` working words and `places` places for reports.
 fn scenario(what: &[u8], t: &mut [u32], room: usize, places: usize)
     requires { ⌜ room ≤ 256 ⌝ }
@@ -214,13 +269,24 @@ fn scenario(what: &[u8], t: &mut [u32], room: usize, places: usize)
     let mut work = [7u64; 256];
     let mut out = [0u64; 63];
     let words = 3 * places;
-    let n = history::run(&figure(), t, &mut work[..room], &SCRIPT, &mut out[..words]);
-    io::write_all(1, what);
-    io::write_all(1, b"\n");
-    show_reports(&out, n);
-    io::write_all(1, b"ran ");
-    io::print_decimal(1, n as u64);
-    io::write_all(1, b" of 21\n");
+    let n = history::run(
+        &figure(),
+        NO_ITEMS,
+        t,
+        &mut work[..room],
+        &SCRIPT,
+        &mut out[..words],
+    );
+    show_run(what, &out, n, 21);
+}
+
+// The second script, on a table of 8 nodes.
+fn optional_scenario() {
+    let mut t = [7u32; 25];
+    let mut work = [7u64; 256];
+    let mut out = [0u64; 63];
+    let n = history::run(&SLOTS, ITEM_2, &mut t, &mut work, &slot_script(), &mut out);
+    show_run(b"item 2 optional", &out, n, 9);
 }
 
 fn main() {
@@ -229,4 +295,5 @@ fn main() {
     scenario(b"no word", &mut [7u32; 0], 256, 21);
     scenario(b"places for 2 reports", &mut [7u32; 25], 256, 2);
     scenario(b"fewer working words", &mut [7u32; 25], 200, 21);
+    optional_scenario();
 }

@@ -2,6 +2,7 @@
 // with the answers that it is below. A table with room for just the nodes made answers as a longer one does, and with room for one fewer a call is refused.
 // Among the calls is one that is refused always: a search cut short by its limit, whose nodes are gone again.
 ghost use Prim.Native.Nat.{_≤_, _<_};
+use itemset::Items;
 
 // Seven words a call: kind (0 cover, 1 either, 2 both, 3 only, 4 with, 5 without), M, two arguments, the first of three words, working words.
 const SCRIPT: [u64; 70] = [
@@ -100,6 +101,13 @@ fn packages() -> [u64; 18] {
         0,
     ]
 }
+
+// Nothing is optional.
+const NO_ITEMS: Items = Items {
+    w0: 0,
+    w1: 0,
+    w2: 0,
+};
 
 // Whether k is below a in the table: the numbers below a are marked, from a down to the children of the nodes marked.
 fn is_below(t: &[u32; 61], a: usize, k: usize) -> bool
@@ -212,7 +220,14 @@ fn scenario(what: &[u8], words: usize)
     let mut t = [7u32; 61];
     let mut work = [7u64; 128];
     let mut out = [0u64; 30];
-    let n = history::run(&packages(), &mut t[..words], &mut work, &SCRIPT, &mut out);
+    let n = history::run(
+        &packages(),
+        NO_ITEMS,
+        &mut t[..words],
+        &mut work,
+        &SCRIPT,
+        &mut out,
+    );
     io::write_all(1, what);
     io::write_all(1, b"\n");
     show_reports(&out, n);

@@ -5,6 +5,7 @@
 // holds all 2^(j - 1) subsets of the last j - 1 packages, and number 67 + i the 2^i - 1 non-empty ones of the last i, for i from 1 to 65. The third is one path
 // over 512 packages: number 513 holds the one timetable of them all.
 ghost use Prim.Native.Nat.{_≤_};
+use itemset::Items;
 use statement::Counted;
 use statement::Measured;
 use statement::Picked;
@@ -110,10 +111,10 @@ fn numbers(list: [u16; 66], n: usize) {
 
 // ---- the cases
 
-// A row, by its digits: the call; the table (0 the figure's, 1 a spoilt one, 2 the chains, 3 the path); M; the answer; the working words; the length of the page;
-// and of pick and measure which of KS, of place how many packages and these, of cheapest how many costs and which of COSTS. On the path cheapest has a page
-// of 512 and costs of 65535.
-const CASES: [u64; 91] = [
+// A row, by its digits: the call; the table (0 the figure's, 1 a spoilt one, 2 the chains, 3 the path, 4 the spoilt one with optional items); M; the answer;
+// the working words; the length of the page; and of pick and measure which of KS, of place how many packages and these, of cheapest how many costs and which
+// of COSTS. On the path cheapest has a page of 512 and costs of 65535.
+const CASES: [u64; 101] = [
     // Count: each known number with the least words; then each refusal, where those behind it apply too.
     0_0_006_000_001_00_0_00_00_0,
     0_0_006_001_002_00_0_00_00_0,
@@ -211,6 +212,17 @@ const CASES: [u64; 91] = [
     2_2_064_131_132_00_1_65_00_0,
     2_2_064_131_132_00_0_00_00_0,
     2_2_064_065_066_00_1_00_00_0,
+    // 29 and 30 of each call, where those behind them apply too.
+    0_4_006_006_000_00_0_00_00_0,
+    0_4_007_006_000_00_0_00_00_0,
+    1_4_006_006_000_00_0_00_00_2,
+    1_4_007_006_000_00_0_00_00_2,
+    4_4_006_006_000_00_0_00_00_2,
+    4_4_007_006_000_00_0_00_00_2,
+    2_4_006_006_000_00_1_05_00_0,
+    2_4_007_006_000_00_1_05_00_0,
+    3_4_006_006_000_00_1_00_00_4,
+    3_4_007_006_000_00_1_00_00_4,
 ];
 
 const KS: [u64; 7] = [
@@ -242,7 +254,7 @@ struct Case {
 }
 
 fn row(i: usize) -> Case {
-    let x = CASES[i % 91];
+    let x = CASES[i % 101];
     Case {
         call: (x / 1000000000000000000 % 10) as usize,
         table: (x / 100000000000000000 % 10) as usize,
@@ -272,20 +284,20 @@ fn costs(rest: usize) -> [u16; 5] {
 
 // ---- the calls
 
-fn count(packages: &[u64], t: &[u32], c: Case) {
+fn count(packages: &[u64], optional: Items, t: &[u32], c: Case) {
     let words = least(c.words, 264);
     let mut work = [7u64; 264];
-    let r = engine::count(c.m, packages, t, c.answer, &mut work[0..words]);
+    let r = engine::count(c.m, packages, optional, t, c.answer, &mut work[0..words]);
     mark(b':');
     tell_counted(r);
 }
 
-fn measure(packages: &[u64], t: &[u32], c: Case, k: u64) {
+fn measure(packages: &[u64], optional: Items, t: &[u32], c: Case, k: u64) {
     number(k);
     mark(b':');
     let words = least(c.words, 264);
     let mut work = [7u64; 264];
-    let r = engine::measure(c.m, packages, t, c.answer, k, &mut work[0..words]);
+    let r = engine::measure(c.m, packages, optional, t, c.answer, k, &mut work[0..words]);
     tell_measured(r);
 }
 
@@ -298,7 +310,7 @@ fn page_after(first: [u16; 5]) {
     half(first[4]);
 }
 
-fn pick(packages: &[u64], t: &[u32], c: Case, k: u64) {
+fn pick(packages: &[u64], optional: Items, t: &[u32], c: Case, k: u64) {
     number(k);
     mark(b':');
     let words = least(c.words, 264);
@@ -308,6 +320,7 @@ fn pick(packages: &[u64], t: &[u32], c: Case, k: u64) {
     let r = engine::pick(
         c.m,
         packages,
+        optional,
         t,
         c.answer,
         k,
@@ -318,18 +331,26 @@ fn pick(packages: &[u64], t: &[u32], c: Case, k: u64) {
     page_after([page[0], page[1], page[2], page[3], page[4]]);
 }
 
-fn place(packages: &[u64], t: &[u32], c: Case, list: [u16; 66]) {
+fn place(packages: &[u64], optional: Items, t: &[u32], c: Case, list: [u16; 66]) {
     let n = least(c.rest / 100000, 66);
     mark(b',');
     numbers(list, n);
     mark(b':');
     let words = least(c.words, 264);
     let mut work = [7u64; 264];
-    let r = engine::place(c.m, packages, t, c.answer, &list[0..n], &mut work[0..words]);
+    let r = engine::place(
+        c.m,
+        packages,
+        optional,
+        t,
+        c.answer,
+        &list[0..n],
+        &mut work[0..words],
+    );
     tell_placed(r);
 }
 
-fn cheapest(packages: &[u64], t: &[u32], c: Case, costs: [u16; 5]) {
+fn cheapest(packages: &[u64], optional: Items, t: &[u32], c: Case, costs: [u16; 5]) {
     mark(b':');
     let n = least(c.rest / 100000, 5);
     let words = least(c.words, 264);
@@ -339,6 +360,7 @@ fn cheapest(packages: &[u64], t: &[u32], c: Case, costs: [u16; 5]) {
     let r = engine::cheapest(
         c.m,
         packages,
+        optional,
         &costs[0..n],
         t,
         c.answer,
@@ -349,33 +371,51 @@ fn cheapest(packages: &[u64], t: &[u32], c: Case, costs: [u16; 5]) {
     page_after([page[0], page[1], page[2], page[3], page[4]]);
 }
 
-fn ask(packages: &[u64], t: &[u32], c: Case) {
+fn ask(packages: &[u64], optional: Items, t: &[u32], c: Case) {
     if c.call == 0 {
-        return count(packages, t, c);
+        return count(packages, optional, t, c);
     }
     if c.call == 1 {
-        return pick(packages, t, c, key(c.rest));
+        return pick(packages, optional, t, c, key(c.rest));
     }
     if c.call == 2 {
-        return place(packages, t, c, list(c.rest));
+        return place(packages, optional, t, c, list(c.rest));
     }
     if c.call == 3 {
-        return cheapest(packages, t, c, costs(c.rest));
+        return cheapest(packages, optional, t, c, costs(c.rest));
     }
-    measure(packages, t, c, key(c.rest))
+    measure(packages, optional, t, c, key(c.rest))
 }
 
 // ---- the tables
 
+// Nothing is optional.
+const NO_ITEMS: Items = Items {
+    w0: 0,
+    w1: 0,
+    w2: 0,
+};
+
 fn on_figure(c: Case) {
     let packages = [23u64, 0, 0, 3, 0, 0, 40, 0, 0, 44, 0, 0, 20, 0, 0];
     let t = [4u32, 2, 0, 1, 4, 0, 2, 1, 0, 3, 0, 4, 2, 0, 0, 0];
-    ask(&packages, &t, c);
+    ask(&packages, NO_ITEMS, &t, c);
 }
 
 fn on_spoilt(c: Case) {
     let packages = [23u64, 0, 0, 3, 0, 0, 40, 0, 0, 44, 0, 0, 20, 0, 0];
-    ask(&packages, &[1, 0, 0, 0], c);
+    ask(&packages, NO_ITEMS, &[1, 0, 0, 0], c);
+}
+
+// Items 2, 4 and 6 are optional: the last package has no other.
+fn on_optional(c: Case) {
+    let packages = [23u64, 0, 0, 3, 0, 0, 40, 0, 0, 44, 0, 0, 20, 0, 0];
+    let optional = Items {
+        w0: 84,
+        w1: 0,
+        w2: 0,
+    };
+    ask(&packages, optional, &[1, 0, 0, 0], c);
 }
 
 // Item 0 in packages 0, 1 and 2; item i in package i + 2: precedence is the order of the numbers.
@@ -410,7 +450,7 @@ fn chains() -> [u32; 394] {
 fn on_chains(c: Case) {
     let packages = chain_packages();
     let t = chains();
-    ask(&packages, &t, c);
+    ask(&packages, NO_ITEMS, &t, c);
 }
 
 // Node i has the number i + 2.
@@ -437,6 +477,7 @@ fn on_path(c: Case) {
     let r = engine::cheapest(
         c.m,
         &[1; 1536],
+        NO_ITEMS,
         &[65535; 512],
         &t,
         c.answer,
@@ -459,12 +500,15 @@ fn run(c: Case) {
     if c.table == 2 {
         return on_chains(c);
     }
-    on_path(c)
+    if c.table == 3 {
+        return on_path(c);
+    }
+    on_optional(c)
 }
 
 fn main() {
     let mut i: usize = 0;
-    while i < 91 {
+    while i < 101 {
         run(row(i));
         mark(b'\n');
         i += 1;

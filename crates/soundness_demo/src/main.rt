@@ -2,6 +2,7 @@
 //
 // Cases are rows of a table that one loop goes through, and packages and tables go by value: a proof grows with the calls and what each borrows.
 ghost use Prim.Native.Nat.{_≤_, _<_};
+use itemset::Items;
 use statement::Soundness;
 
 // ---- the packages
@@ -54,6 +55,39 @@ fn packages(kind: u32) -> [u64; 1539] {
         i += 1;
     }
     p
+}
+
+// ---- the optional items
+
+const NO_ITEM: u32 = 0;
+
+const ITEM_4: u32 = 1;
+
+const ITEM_2: u32 = 2;
+
+const ITEMS_2_4: u32 = 3;
+
+const ITEMS_2_4_6: u32 = 4;
+
+const ITEM_191: u32 = 5;
+
+// The sets of optional items, three words each.
+const OPTIONAL: [[u64; 3]; 6] = [
+    [0, 0, 0],
+    [16, 0, 0], // the figure's lowest compulsory items are its lowest ones
+    [4, 0, 0], // its package 2 comes before 4
+    [20, 0, 0], // its package 4 has no compulsory item
+    [84, 0, 0],
+    [0, 0, LAST],
+];
+
+fn optional(kind: u32) -> Items {
+    let words = OPTIONAL[base::wide(kind) % 6];
+    Items {
+        w0: words[0],
+        w1: words[1],
+        w2: words[2],
+    }
 }
 
 // ---- the tables
@@ -134,58 +168,69 @@ fn part(i: u32, k: u32, label: u32, width: u32) -> u32
 // No word is changed: it is behind the last.
 const NONE: u32 = 196613;
 
-// M; how many packages, and of which kind; how many words, and of which table; the word that is changed in it, and what it becomes.
-const CASES: [[u32; 7]; 38] = [
-    [6, 5, FIGURE, 16, DIAGRAM, NONE, 0],
-    [6, 5, FIGURE, 16, ZEROS, NONE, 0],
-    [6, 5, FIGURE, 1, ZEROS, NONE, 0],
-    [6, 5, FIGURE, 0, DIAGRAM, NONE, 0],
-    [6, 5, FIGURE, 10, TWICE, NONE, 0],
+// M; how many packages, and of which kind; which items are optional; how many words, and of which table; the word that is changed in it, and what it becomes.
+const CASES: [[u32; 8]; 48] = [
+    [6, 5, FIGURE, NO_ITEM, 16, DIAGRAM, NONE, 0],
+    [6, 5, FIGURE, NO_ITEM, 16, ZEROS, NONE, 0],
+    [6, 5, FIGURE, NO_ITEM, 1, ZEROS, NONE, 0],
+    [6, 5, FIGURE, NO_ITEM, 0, DIAGRAM, NONE, 0],
+    [6, 5, FIGURE, NO_ITEM, 10, TWICE, NONE, 0],
     // Each clause broken once. n above the nodes written, above the capacity, of 32 bits, and below the nodes.
-    [6, 5, FIGURE, 16, DIAGRAM, 0, 5],
-    [6, 5, FIGURE, 16, DIAGRAM, 0, 6],
-    [6, 5, FIGURE, 16, DIAGRAM, 0, 4294967295],
-    [6, 5, FIGURE, 16, DIAGRAM, 0, 3],
+    [6, 5, FIGURE, NO_ITEM, 16, DIAGRAM, 0, 5],
+    [6, 5, FIGURE, NO_ITEM, 16, DIAGRAM, 0, 6],
+    [6, 5, FIGURE, NO_ITEM, 16, DIAGRAM, 0, 4294967295],
+    [6, 5, FIGURE, NO_ITEM, 16, DIAGRAM, 0, 3],
     // Label N.
-    [6, 5, FIGURE, 16, DIAGRAM, 1, 5],
+    [6, 5, FIGURE, NO_ITEM, 16, DIAGRAM, 1, 5],
     // lo the node itself, and a later number.
-    [6, 5, FIGURE, 16, DIAGRAM, 11, 5],
-    [6, 5, FIGURE, 16, DIAGRAM, 11, 6],
+    [6, 5, FIGURE, NO_ITEM, 16, DIAGRAM, 11, 5],
+    [6, 5, FIGURE, NO_ITEM, 16, DIAGRAM, 11, 6],
     // hi the node itself, and 0.
-    [6, 5, FIGURE, 16, DIAGRAM, 12, 5],
-    [6, 5, FIGURE, 16, DIAGRAM, 12, 0],
+    [6, 5, FIGURE, NO_ITEM, 16, DIAGRAM, 12, 5],
+    [6, 5, FIGURE, NO_ITEM, 16, DIAGRAM, 12, 0],
     // lo with the same label, and an earlier one; hi with an earlier label.
-    [6, 5, FIGURE, 16, DIAGRAM, 10, 1],
-    [6, 5, FIGURE, 16, DIAGRAM, 10, 2],
-    [6, 5, FIGURE, 16, DIAGRAM, 7, 2],
+    [6, 5, FIGURE, NO_ITEM, 16, DIAGRAM, 10, 1],
+    [6, 5, FIGURE, NO_ITEM, 16, DIAGRAM, 10, 2],
+    [6, 5, FIGURE, NO_ITEM, 16, DIAGRAM, 7, 2],
     // A nonzero word behind the last node, and at the end.
-    [6, 5, FIGURE, 16, DIAGRAM, 13, 1],
-    [6, 5, FIGURE, 16, DIAGRAM, 14, 1],
-    [6, 5, FIGURE, 16, DIAGRAM, 15, 1],
+    [6, 5, FIGURE, NO_ITEM, 16, DIAGRAM, 13, 1],
+    [6, 5, FIGURE, NO_ITEM, 16, DIAGRAM, 14, 1],
+    [6, 5, FIGURE, NO_ITEM, 16, DIAGRAM, 15, 1],
     // Refusals 1 and 2 come before 4, and 1 before 2. Label 511 is the last that 512 packages have.
-    [192, 1, HIGHEST, 4, LEAF, NONE, 0],
-    [193, 1, HIGHEST, 4, LEAF, NONE, 0],
-    [193, 1, EMPTY, 4, TWOS, NONE, 0],
-    [1, 512, ONES, 4, LEAF, 1, 511],
-    [1, 513, ONES, 4, LEAF, 1, 511],
-    [1, 513, EMPTY, 4, TWOS, NONE, 0],
-    [6, 3, GAP, 4, TWOS, NONE, 0],
-    [6, 3, STRAY, 4, TWOS, NONE, 0],
-    [7, 3, STRAY, 4, TWOS, NONE, 0],
-    [0, 0, EMPTY, 4, ZEROS, NONE, 0],
-    [0, 1, ONES, 4, ZEROS, NONE, 0],
+    [192, 1, HIGHEST, NO_ITEM, 4, LEAF, NONE, 0],
+    [193, 1, HIGHEST, NO_ITEM, 4, LEAF, NONE, 0],
+    [193, 1, EMPTY, NO_ITEM, 4, TWOS, NONE, 0],
+    [1, 512, ONES, NO_ITEM, 4, LEAF, 1, 511],
+    [1, 513, ONES, NO_ITEM, 4, LEAF, 1, 511],
+    [1, 513, EMPTY, NO_ITEM, 4, TWOS, NONE, 0],
+    [6, 3, GAP, NO_ITEM, 4, TWOS, NONE, 0],
+    [6, 3, STRAY, NO_ITEM, 4, TWOS, NONE, 0],
+    [7, 3, STRAY, NO_ITEM, 4, TWOS, NONE, 0],
+    [0, 0, EMPTY, NO_ITEM, 4, ZEROS, NONE, 0],
+    [0, 1, ONES, NO_ITEM, 4, ZEROS, NONE, 0],
     // A table of 65,534 nodes, in a slice that is just long enough and in longer ones. A scan of the table for each node would take seconds.
-    [1, 512, ONES, 196603, FULL, NONE, 0],
-    [1, 512, ONES, 196602, FULL, NONE, 0],
-    [1, 512, ONES, 196613, FULL, NONE, 0],
-    [1, 512, ONES, 196613, FULL, 196612, 7],
-    [1, 512, ONES, 196613, FULL, 0, 65535],
-    [1, 512, ONES, 196613, FULL, 0, 65533],
-    [1, 512, ONES, 196613, FULL, 196602, 254],
+    [1, 512, ONES, NO_ITEM, 196603, FULL, NONE, 0],
+    [1, 512, ONES, NO_ITEM, 196602, FULL, NONE, 0],
+    [1, 512, ONES, NO_ITEM, 196613, FULL, NONE, 0],
+    [1, 512, ONES, NO_ITEM, 196613, FULL, 196612, 7],
+    [1, 512, ONES, NO_ITEM, 196613, FULL, 0, 65535],
+    [1, 512, ONES, NO_ITEM, 196613, FULL, 0, 65533],
+    [1, 512, ONES, NO_ITEM, 196613, FULL, 196602, 254],
+    // A table is sound by the lowest compulsory items. 29 comes behind 1 and 2, 30 behind 29, and 4 behind both.
+    [6, 5, FIGURE, ITEM_4, 16, DIAGRAM, NONE, 0],
+    [6, 5, FIGURE, ITEM_2, 16, DIAGRAM, NONE, 0],
+    [6, 5, FIGURE, ITEMS_2_4, 16, DIAGRAM, NONE, 0],
+    [6, 5, FIGURE, ITEMS_2_4, 16, DIAGRAM, 0, 5],
+    [6, 5, FIGURE, ITEMS_2_4_6, 16, DIAGRAM, 0, 5],
+    [7, 5, FIGURE, ITEMS_2_4_6, 16, DIAGRAM, 0, 5],
+    [6, 3, STRAY, ITEMS_2_4_6, 16, DIAGRAM, 0, 5],
+    [192, 5, FIGURE, ITEM_191, 16, DIAGRAM, NONE, 0],
+    [191, 5, FIGURE, ITEM_191, 16, DIAGRAM, NONE, 0],
+    [193, 5, FIGURE, ITEM_191, 16, DIAGRAM, NONE, 0],
 ];
 
 // What the cases are called, a line for each.
-const NAMES: [u8; 668] = *b"the diagram of figure 1
+const NAMES: [u8; 971] = *b"the diagram of figure 1
 all zeros
 one word
 no word
@@ -223,20 +268,30 @@ ten words more, the last not 0
 65535 nodes
 65533 nodes and one behind them
 65534 nodes, the last as an earlier one
+figure 1 with item 4 optional
+figure 1 with item 2 optional
+a package of optional items
+the same and word 0 set to 5
+the same and an optional item of M
+the same with M one more
+an item of M optional and in a package
+item 191 optional with M 192
+item 191 optional with M 191
+item 191 optional with M 193
 ";
 
 // Word i of the table of this case.
-fn word(c: [u32; 7], i: u32) -> u32 {
-    if i == c[5] {
-        return c[6];
+fn word(c: [u32; 8], i: u32) -> u32 {
+    if i == c[6] {
+        return c[7];
     }
-    if c[4] == FULL {
+    if c[5] == FULL {
         return full(i);
     }
-    small(c[4], base::wide(i))
+    small(c[5], base::wide(i))
 }
 
-fn table(c: [u32; 7]) -> [u32; 196613] {
+fn table(c: [u32; 8]) -> [u32; 196613] {
     let mut t = [0u32; 196613];
     let mut i: u32 = 0;
     while i < 196613 {
@@ -257,33 +312,35 @@ fn least(x: u32, y: usize) -> usize
     y
 }
 
-fn check(c: [u32; 7]) -> Soundness {
+fn check(c: [u32; 8]) -> Soundness {
     let p = packages(c[2]);
     let t = table(c);
     let n = least(c[1], 513);
-    let words = least(c[3], 196613);
-    engine::check(c[0], &p[0..3 * n], &t[0..words])
+    let words = least(c[4], 196613);
+    engine::check(c[0], &p[0..3 * n], optional(c[3]), &t[0..words])
 }
 
-// 0 for sound, or the number of the refusal, which is below 10.
-fn digit(s: Soundness) -> u8 {
+// 0 for sound, or the number of the refusal.
+fn number(s: Soundness) -> u64 {
     match s {
-        Soundness::Sound => b'0',
-        Soundness::Refused(number) => b'0' + number % 10,
+        Soundness::Sound => 0,
+        Soundness::Refused(n) => n as u64,
     }
 }
 
-fn row(i: usize) -> [u32; 7] {
-    CASES[i % 38]
+fn row(i: usize) -> [u32; 8] {
+    CASES[i % 48]
 }
 
 fn answer(i: usize) {
     let s = check(row(i));
-    io::write_all(1, &[b':', b' ', digit(s), b'\n']);
+    io::write_all(1, b": ");
+    io::print_decimal(1, number(s));
+    io::write_all(1, b"\n");
 }
 
 fn letter(i: usize) -> u8 {
-    NAMES[i % 668]
+    NAMES[i % 971]
 }
 
 fn mark(c: u8) {
@@ -294,7 +351,7 @@ fn mark(c: u8) {
 fn main() {
     let mut i: usize = 0;
     let mut at: usize = 0;
-    while at < 668 {
+    while at < 971 {
         let c = letter(at);
         at += 1;
         if c != b'\n' {

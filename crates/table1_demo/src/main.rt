@@ -1,4 +1,5 @@
 // Three instances of document 000's Table 1, covered and counted by the public calls: nodes made, steps, timetables.
+use itemset::Items;
 use statement::Counted;
 use statement::Outcome;
 
@@ -45,6 +46,13 @@ fn dominoes(packages: &mut [u64]) {
     }
 }
 
+// Nothing is optional.
+const NO_ITEMS: Items = Items {
+    w0: 0,
+    w1: 0,
+    w2: 0,
+};
+
 fn print(word: &[u8], n: u64) {
     io::write_all(1, word);
     io::print_decimal(1, n);
@@ -65,7 +73,7 @@ fn print_count(c: Counted) {
 fn print_timetables(m: u32, packages: &[u64], t: &[u32], work: &mut [u64], outcome: Outcome) {
     match outcome {
         Outcome::Answer(a) => {
-            let c = engine::count(m, packages, t, a, work);
+            let c = engine::count(m, packages, NO_ITEMS, t, a, work);
             print_count(c)
         }
         Outcome::Refused(n) => print(b" refused ", n as u64),
@@ -77,7 +85,7 @@ fn run(name: &[u8], m: u32, packages: &[u64]) {
     let mut t = [0u32; 196603];
     let mut work = [0u64; 262084];
     let items = itemset::all_below(m);
-    let report = engine::cover(m, packages, &mut t, items, 4294967295, &mut work);
+    let report = engine::cover(m, packages, NO_ITEMS, &mut t, items, 4294967295, &mut work);
     print_word(name, report.made);
     print_word(b" steps ", report.steps);
     let outcome = report.outcome;

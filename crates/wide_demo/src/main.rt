@@ -17,6 +17,13 @@ fn least(x: usize, y: usize) -> usize
     y
 }
 
+// Nothing is optional.
+const NO_ITEMS: Items = Items {
+    w0: 0,
+    w1: 0,
+    w2: 0,
+};
+
 // ---- what is printed
 
 fn print(word: &[u8], n: u64) {
@@ -42,7 +49,7 @@ fn print_report(m: u32, packages: &[u64], t: &[u32], r: Report) {
         Outcome::Answer(a) => {
             print(b" nodes ", r.made as u64);
             print(b" steps ", r.steps as u64);
-            let c = engine::count(m, packages, t, a, &mut [0u64; 65536]);
+            let c = engine::count(m, packages, NO_ITEMS, t, a, &mut [0u64; 65536]);
             print_count(c)
         }
         Outcome::Refused(n) => print_refused(n),
@@ -54,7 +61,15 @@ fn run(m: u32, packages: &[u64], d: Items, words: usize) {
     let mut t = [0u32; 196603];
     let mut work = [0u64; 262084];
     let lent = least(words, 262084);
-    let report = engine::cover(m, packages, &mut t, d, 4294967295, &mut work[0..lent]);
+    let report = engine::cover(
+        m,
+        packages,
+        NO_ITEMS,
+        &mut t,
+        d,
+        4294967295,
+        &mut work[0..lent],
+    );
     print_report(m, packages, &t, report);
     io::write_all(1, b"\n");
 }

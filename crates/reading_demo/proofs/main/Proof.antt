@@ -4,10 +4,10 @@ use Rattle.reading_demo.proofs.main.Statement.{statement}
 use Rattle.reading_demo.proofs.main.Tie as tie
 
 abbrev Inv-loop : tie.InvT-loop
-Inv-loop i₀ i = i ≤ 91
+Inv-loop i₀ i = i ≤ 101
 
 abbrev μ-loop : tie.MeasureT-loop
-μ-loop i₀ i = 91 - i
+μ-loop i₀ i = 101 - i
 
 pub main-spec : {M : Type 1} → statement M
 main-spec =
