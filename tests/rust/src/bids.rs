@@ -22,7 +22,7 @@ pub fn some_files(rng: &mut Rng, outcomes: &mut [u64; 32]) -> u64 {
                 assert_eq!(got, ffi::Bids { refusal: 0, schools: f.schools, slots: f.slots, packages: n as u64 }, "file {file:?}");
                 assert_eq!((&packages[..words], &costs[..n]), (&lent(&f.packages)[..], &f.costs[..]), "file {file:?}");
                 assert_eq!((&packages[words..], &costs[n..]), (&packages_before[words..], &costs_before[n..]), "file {file:?}");
-                assert_eq!(ffi::check(f.schools + f.slots, &packages[..words], &[0]), 0, "file {file:?}");
+                assert_eq!(ffi::check(ffi::Week::plain(f.schools + f.slots, &packages[..words]), &[0]), 0, "file {file:?}");
             }
             other => {
                 let refusal = other.err().unwrap_or(15);

@@ -1,7 +1,7 @@
 //! A random history of calls, each compared with the model.
 
 use crate::ffi;
-use crate::model::{below, capacity, lent, Family, Packages, Set, ITEMS};
+use crate::model::{below, capacity, lent, Family, Set, Week, ITEMS};
 use crate::rng::Rng;
 use std::collections::HashSet;
 
@@ -10,12 +10,29 @@ const MOST: u64 = 9;
 /// The greatest number of steps that the model counts.
 const STEPS: u64 = 20_000;
 
-pub struct History {
-    rng: Rng,
+/// What the calls of a history are lent besides the table.
+#[derive(Clone)]
+struct Lent {
     m: u32,
     sets: Vec<Set>,
     /// The packages as they are lent: words that do not make up a package may follow.
     words: Vec<u64>,
+    optional: Set,
+}
+
+impl Lent {
+    fn model(&self) -> Week<'_> {
+        Week::new(self.m, &self.sets, self.optional)
+    }
+
+    fn week(&self) -> ffi::Week<'_> {
+        ffi::Week { m: self.m, packages: &self.words, optional: &self.optional.0 }
+    }
+}
+
+pub struct History {
+    rng: Rng,
+    lent: Lent,
     table: Vec<u32>,
     /// The working words as the last cover left them.
     left: Vec<u64>,
@@ -50,8 +67,10 @@ impl History {
         if rng.once_in(3) {
             words.extend((0..rng.from(1, 2)).map(|_| rng.next()).collect::<Vec<u64>>());
         }
+        let optional = random_optional(&mut rng, m, &sets);
+        let lent = Lent { m, sets, words, optional };
         let (known, ledger, left) = (Vec::new(), Vec::new(), Vec::new());
-        let mut history = History { rng, m, sets, words, table, left, known, ledger, strict, calls: 0, outcomes: [0; 32] };
+        let mut history = History { rng, lent, table, left, known, ledger, strict, calls: 0, outcomes: [0; 32] };
         history.learn();
         history
     }
@@ -77,7 +96,7 @@ impl History {
 
     /// Reads the table anew.
     fn learn(&mut self) {
-        let s = Packages::new(self.m, &self.sets);
+        let s = self.lent.model();
         self.known = if s.refusal() == 0 && s.sound(&self.table) { s.families(&self.table) } else { Vec::new() };
     }
 
@@ -86,9 +105,9 @@ impl History {
         self.outcomes[refusal as usize] += 1;
     }
 
-    /// 1, 2, 4, or 0.
+    /// 1, 2, 29, 30, 4, or 0.
     fn first_refusal(&self) -> u32 {
-        let s = Packages::new(self.m, &self.sets);
+        let s = self.lent.model();
         match s.refusal() {
             0 if self.known.is_empty() => 4,
             r => r,
@@ -144,21 +163,22 @@ impl History {
 
     // ---- the calls that make an answer
 
-    /// A set to cover, rarely with an item next to M or in the highest word.
+    /// A set to cover: any, none, the optional items alone, those of all packages or of some; rarely with an item next to M or in the highest word.
     fn items(&mut self) -> Set {
         let mut d = match self.rng.below(6) {
             0 => Set([0; 3].map(|_| self.rng.next() & self.rng.next())),
+            1 if self.rng.once_in(2) => self.lent.optional,
             1 => Set::NONE,
-            2 | 3 => self.sets.iter().fold(Set::NONE, |a, &s| a.or(s)),
+            2 | 3 => self.lent.sets.iter().fold(Set::NONE, |a, &s| a.or(s)),
             _ => {
-                let some: Vec<Set> = self.sets.iter().copied().filter(|_| self.rng.once_in(2)).collect();
+                let some: Vec<Set> = self.lent.sets.iter().copied().filter(|_| self.rng.once_in(2)).collect();
                 some.iter().fold(Set::NONE, |a, &s| a.or(s))
             }
         };
         match self.rng.below(24) {
             0 => d.add(self.rng.from(128, 191) as u32),
-            1 => d.add(self.m.min(ITEMS - 1)),
-            2 => d.add(self.m.saturating_sub(1).min(ITEMS - 1)),
+            1 => d.add(self.lent.m.min(ITEMS - 1)),
+            2 => d.add(self.lent.m.saturating_sub(1).min(ITEMS - 1)),
             _ => {}
         }
         d
@@ -178,10 +198,10 @@ impl History {
     fn cover(&mut self) {
         let d = self.items();
         let mut work = self.memo();
-        let s = Packages::new(self.m, &self.sets);
+        let s = self.lent.model();
         let places = work.len() / 4;
-        let fits = self.first_refusal() == 0 && d.below(self.m);
-        let steps = if fits && places > 0 { s.steps(d, places, STEPS) } else { 0 };
+        let fits = self.first_refusal() == 0 && d.below(self.lent.m);
+        let (found, steps) = if fits && places > 0 { s.searched(d, places, STEPS) } else { (Family::none(0), 0) };
         let limit = match self.rng.below(5) {
             0 => steps.saturating_sub(1),
             1 => steps,
@@ -195,11 +215,14 @@ impl History {
             0 if !fits => Expected::Refused(7),
             0 if places == 0 => Expected::Refused(8),
             0 if steps > limit as u64 => Expected::Refused(9),
-            0 => self.made(s.covering(d), steps),
+            0 => {
+                assert_eq!(found, s.covering(d), "the model: Search by its text and covering by its definition");
+                self.made(found, steps)
+            }
             r => Expected::Refused(r),
         };
         let before = self.table.clone();
-        let got = ffi::cover(self.m, &self.words, &mut self.table, &d.0, limit, &mut work);
+        let got = ffi::cover(self.lent.week(), &mut self.table, &d.0, limit, &mut work);
         self.compare(&format!("cover {d:?} limit {limit} words {}", work.len()), &before, expected, got);
         self.left = work;
     }
@@ -208,7 +231,7 @@ impl History {
     fn combine(&mut self) {
         let op = self.rng.below(5) as usize;
         let a = self.operand();
-        let n = self.sets.len() as u64;
+        let n = self.lent.sets.len() as u64;
         let b = match (op < 3, self.rng.below(20)) {
             (true, _) => self.operand(),
             (false, 0) => n as u32,
@@ -222,7 +245,7 @@ impl History {
             0 if op >= 3 && b as u64 >= n => Expected::Refused(6),
             0 if work.len() < 2 => Expected::Refused(8),
             0 => {
-                let mut f = Family::none(self.sets.len());
+                let mut f = Family::none(self.lent.sets.len());
                 let first = &self.known[a as usize];
                 for t in 0..1u32 << n {
                     let second = op < 3 && self.known[b as usize].has(t);
@@ -237,13 +260,13 @@ impl History {
             r => Expected::Refused(r),
         };
         let before = self.table.clone();
-        let got = ffi::combine(op, self.m, &self.words, &mut self.table, a, b, &mut work);
+        let got = ffi::combine(op, self.lent.week(), &mut self.table, a, b, &mut work);
         self.compare(&format!("call {op} of {a} and {b}"), &before, expected, got);
     }
 
     /// The call makes f: full, or an answer.
     fn made(&self, f: Family, steps: u64) -> Expected {
-        let made = Packages::new(self.m, &self.sets).missing(&self.known, &f);
+        let made = self.lent.model().missing(&self.known, &f);
         if made > capacity(&self.table) as u64 - self.nodes() {
             return Expected::Refused(10);
         }
@@ -259,7 +282,7 @@ impl History {
             }
             Expected::Answer { family, steps, made } => {
                 assert_eq!((got.refusal, got.steps as u64, got.made as u64), (0, steps, made), "{call}");
-                let s = Packages::new(self.m, &self.sets);
+                let s = self.lent.model();
                 let old = 1 + 3 * before[0] as usize;
                 assert_eq!(self.table[1..old], before[1..old], "{call}: old nodes");
                 assert_eq!(self.table[0], before[0] + got.made, "{call}: word 0");
@@ -296,34 +319,34 @@ impl History {
             return;
         }
         let (a, f) = self.ledger[self.rng.below(self.ledger.len() as u64) as usize].clone();
-        let s = Packages::new(self.m, &self.sets);
+        let s = self.lent.model();
         let mut work = vec![0; a as usize + 1];
         for (k, t) in s.listing(&f).into_iter().enumerate() {
             let mut page = vec![9999; 12];
-            let got = ffi::pick(self.m, &self.words, &self.table, a, k as u64, &mut work, &mut page);
+            let got = ffi::pick(self.lent.week(), &self.table, a, k as u64, &mut work, &mut page);
             let written = s.written(t);
             assert_eq!((got.refusal, got.packages), (0, written.len() as u64), "pick {k} of {a}");
             assert_eq!(page[..written.len()], written[..], "pick {k} of {a}");
-            let measured = ffi::measure(self.m, &self.words, &self.table, a, k as u64, &mut work);
+            let measured = ffi::measure(self.lent.week(), &self.table, a, k as u64, &mut work);
             assert_eq!(measured, ffi::Number { refusal: 0, value: got.packages }, "measure {k} of {a}");
         }
-        let past = ffi::pick(self.m, &self.words, &self.table, a, f.len(), &mut work, &mut [0; 12]);
+        let past = ffi::pick(self.lent.week(), &self.table, a, f.len(), &mut work, &mut [0; 12]);
         assert_eq!(past.refusal, 12);
-        let past = ffi::measure(self.m, &self.words, &self.table, a, f.len(), &mut work);
+        let past = ffi::measure(self.lent.week(), &self.table, a, f.len(), &mut work);
         assert_eq!(past, ffi::Number { refusal: 12, value: 0 });
     }
 
     // ---- the questions
 
     fn check(&mut self) {
-        let got = ffi::check(self.m, &self.words, &self.table);
+        let got = ffi::check(self.lent.week(), &self.table);
         self.told(got);
         assert_eq!(got, self.first_refusal(), "check");
     }
 
     /// 1 to 8 of a question on answer a.
     fn question_refusal(&self, a: u32, work: &[u64], cost_list: bool, list: Option<&[u16]>) -> u32 {
-        let s = Packages::new(self.m, &self.sets);
+        let s = self.lent.model();
         match self.first_refusal() {
             0 | 4 if !cost_list => 3,
             0 if a as u64 >= self.nodes() + 2 => 5,
@@ -336,7 +359,7 @@ impl History {
     fn count(&mut self) {
         let a = self.operand();
         let mut work = self.work((a as u64 + 1).min(2000));
-        let got = ffi::count(self.m, &self.words, &self.table, a, &mut work);
+        let got = ffi::count(self.lent.week(), &self.table, a, &mut work);
         self.told(got.refusal);
         let expected = match self.question_refusal(a, &work, true, None) {
             0 => ffi::Number { refusal: 0, value: self.known[a as usize].len() },
@@ -356,7 +379,7 @@ impl History {
             _ => self.rng.below(count.max(1)),
         };
         let work = self.work((a as u64 + 1).min(2000));
-        let s = Packages::new(self.m, &self.sets);
+        let s = self.lent.model();
         let member = self.known.get(a as usize).and_then(|f| s.listing(f).get(k as usize).copied());
         let list = member.map(|t| s.written(t)).unwrap_or_default();
         let refusal = match self.question_refusal(a, &work, true, None) {
@@ -370,7 +393,7 @@ impl History {
         let (a, k, list, mut work, refusal) = self.kth();
         let mut page = self.page(list.len());
         let before = page.clone();
-        let got = ffi::pick(self.m, &self.words, &self.table, a, k, &mut work, &mut page);
+        let got = ffi::pick(self.lent.week(), &self.table, a, k, &mut work, &mut page);
         self.told(got.refusal);
         let refusal = if refusal == 0 && list.len() > before.len() { 15 } else { refusal };
         compare_page(&format!("pick {k} of {a}"), refusal, &list, 0, &before, &page, got);
@@ -379,15 +402,15 @@ impl History {
     /// measure, and with the same working words pick on a page with just that many places and on one with one less.
     fn measure(&mut self) {
         let (a, k, list, mut work, refusal) = self.kth();
-        let got = ffi::measure(self.m, &self.words, &self.table, a, k, &mut work);
+        let got = ffi::measure(self.lent.week(), &self.table, a, k, &mut work);
         self.told(got.refusal);
         assert_eq!(got, ffi::Number { refusal, value: if refusal == 0 { list.len() as u64 } else { 0 } }, "measure {k} of {a}");
         let mut page = vec![9999; got.value as usize];
-        let picked = ffi::pick(self.m, &self.words, &self.table, a, k, &mut work, &mut page);
+        let picked = ffi::pick(self.lent.week(), &self.table, a, k, &mut work, &mut page);
         assert_eq!((picked.refusal, picked.packages), (got.refusal, got.value), "pick {k} of {a} as measured");
         if page.pop().is_some() {
             page.fill(9999);
-            let short = ffi::pick(self.m, &self.words, &self.table, a, k, &mut work, &mut page);
+            let short = ffi::pick(self.lent.week(), &self.table, a, k, &mut work, &mut page);
             assert_eq!((short.refusal, short.packages), (15, 0), "pick {k} of {a} on a page with one place less");
             assert!(page.iter().all(|&p| p == 9999), "pick {k} of {a}: refused, and the page changed");
         }
@@ -395,7 +418,7 @@ impl History {
 
     fn place(&mut self) {
         let a = self.operand();
-        let s = Packages::new(self.m, &self.sets);
+        let s = self.lent.model();
         let n = s.n() as u64;
         let listing = self.known.get(a as usize).map(|f| s.listing(f)).unwrap_or_default();
         let mut list = if listing.is_empty() || self.rng.once_in(4) {
@@ -412,7 +435,7 @@ impl History {
             _ => {}
         }
         let mut work = self.work((a as u64 + 1).min(2000));
-        let got = ffi::place(self.m, &self.words, &self.table, a, &list, &mut work);
+        let got = ffi::place(self.lent.week(), &self.table, a, &list, &mut work);
         self.told(got.refusal);
         let refusal = self.question_refusal(a, &work, true, Some(&list));
         let mask = list.iter().fold(0u32, |t, &p| t | 1u32.checked_shl(p as u32).unwrap_or(0));
@@ -426,8 +449,8 @@ impl History {
 
     fn cheapest(&mut self) {
         let a = self.operand();
-        let sets = self.sets.clone();
-        let s = Packages::new(self.m, &sets);
+        let lent = self.lent.clone();
+        let s = lent.model();
         let long = match self.rng.below(10) {
             0 => self.rng.below(s.n() as u64 + 3) as usize,
             _ => s.n(),
@@ -442,7 +465,7 @@ impl History {
         let mut work = self.work((a as u64 + 1).min(2000));
         let mut page = self.page(list.len());
         let before = page.clone();
-        let got = ffi::cheapest(self.m, &self.words, &costs, &self.table, a, &mut work, &mut page);
+        let got = ffi::cheapest(self.lent.week(), &costs, &self.table, a, &mut work, &mut page);
         self.told(got.refusal);
         let refusal = match self.question_refusal(a, &work, costs.len() == s.n(), None) {
             0 if a == 0 => 13,
@@ -455,28 +478,15 @@ impl History {
 
     // ---- damaged tables
 
-    /// Some calls on a table with words changed, which is then put back.
+    /// Some calls on a table with words changed, or with another optional set than the table was made with; then all is put back.
     fn damaged(&mut self) {
-        let (table, known, ledger) = (self.table.clone(), self.known.clone(), self.ledger.clone());
-        let used = if table.is_empty() { 0 } else { (1 + 3 * table[0] as u64).min(table.len() as u64) };
-        for _ in 0..self.rng.from(1, 3) {
-            if self.table.is_empty() {
-                break;
-            }
-            let long = self.table.len() as u64;
-            let at = match self.rng.below(4) {
-                0 => 0,
-                1 => self.rng.below(long),
-                2 => long - 1,
-                _ => self.rng.below(used.max(1)),
-            } as usize;
-            self.table[at] = match self.rng.below(5) {
-                0 => self.rng.next() as u32,
-                1 => self.table[at].wrapping_add(1),
-                2 => self.table[at].wrapping_sub(1),
-                3 => 0,
-                _ => self.rng.below(used + 2) as u32,
-            };
+        let (table, known, ledger, optional) = (self.table.clone(), self.known.clone(), self.ledger.clone(), self.lent.optional);
+        let what = self.rng.below(4);
+        if what != 0 && !self.table.is_empty() {
+            self.change_words();
+        }
+        if what < 2 {
+            self.lent.optional = random_optional(&mut self.rng, self.lent.m, &self.lent.sets);
         }
         self.learn();
         self.ledger.clear();
@@ -493,7 +503,28 @@ impl History {
             }
         }
         self.check();
-        (self.table, self.known, self.ledger) = (table, known, ledger);
+        (self.table, self.known, self.ledger, self.lent.optional) = (table, known, ledger, optional);
+    }
+
+    /// Up to three words of a table that has some.
+    fn change_words(&mut self) {
+        let long = self.table.len() as u64;
+        let used = (1 + 3 * self.table[0] as u64).min(long);
+        for _ in 0..self.rng.from(1, 3) {
+            let at = match self.rng.below(4) {
+                0 => 0,
+                1 => self.rng.below(long),
+                2 => long - 1,
+                _ => self.rng.below(used),
+            } as usize;
+            self.table[at] = match self.rng.below(5) {
+                0 => self.rng.next() as u32,
+                1 => self.table[at].wrapping_add(1),
+                2 => self.table[at].wrapping_sub(1),
+                3 => 0,
+                _ => self.rng.below(used + 2) as u32,
+            };
+        }
     }
 }
 
@@ -521,12 +552,43 @@ fn many_timetables(rng: &mut Rng) -> (u32, Vec<Set>) {
         }
     }
     let mut sets: Vec<Set> = (0..rng.from(6, MOST)).map(|p| Set::of([items[(p % few) as usize]])).collect();
+    let shared = random_item(rng, m);
+    let often = rng.from(2, 12);
     for s in &mut sets {
         if rng.once_in(6) {
             s.add(items[rng.below(few) as usize]);
         }
+        if rng.once_in(often) {
+            s.add(shared);
+        }
     }
     (m, sets)
+}
+
+/// Optional items: often none, mostly some that leave each package a compulsory item; rarely also all items of a package, one that no package has, or one of M
+/// or above.
+fn random_optional(rng: &mut Rng, m: u32, sets: &[Set]) -> Set {
+    let mut optional = Set::NONE;
+    if rng.once_in(3) {
+        return optional;
+    }
+    let mut items: Vec<u32> = sets.iter().fold(Set::NONE, |a, &s| a.or(s)).items().collect();
+    let start = rng.below(items.len().max(1) as u64) as usize;
+    items.rotate_left(start);
+    for i in items {
+        let more = optional.or(Set::of([i]));
+        if !rng.once_in(4) && !sets.iter().any(|s| s.inside(more)) {
+            optional = more;
+        }
+    }
+    match rng.below(30) {
+        0 if !sets.is_empty() => optional = optional.or(sets[rng.below(sets.len() as u64) as usize]),
+        1 => optional.add(m.min(ITEMS - 1)),
+        2 => optional.add(rng.below(ITEMS as u64) as u32),
+        3 => optional = Set([0; 3].map(|_| rng.next())),
+        _ => {}
+    }
+    optional
 }
 
 /// M: mostly small, often next to where a word ends, rarely above the greatest.

@@ -1,4 +1,4 @@
-//! The entries of include/mogedorn.h, on slices: packages are lent as words, three a package.
+//! The entries of include/mogedorn.h, on slices and a week.
 
 #[repr(C)]
 #[derive(Clone, Copy, Debug, PartialEq, Eq)]
@@ -33,24 +33,41 @@ pub struct Bids {
     pub packages: u64,
 }
 
-type Combine = unsafe extern "C" fn(u32, *const u64, usize, *mut u32, usize, u32, u32, *mut u64, usize) -> Report;
+/// What every call on a table is lent besides it.
+#[derive(Clone, Copy)]
+pub struct Week<'a> {
+    pub m: u32,
+    /// Three words a package.
+    pub packages: &'a [u64],
+    pub optional: &'a [u64; 3],
+}
+
+impl<'a> Week<'a> {
+    /// Without optional items.
+    pub fn plain(m: u32, packages: &'a [u64]) -> Week<'a> {
+        Week { m, packages, optional: &[0; 3] }
+    }
+}
+
+type Combine = unsafe extern "C" fn(u32, *const u64, usize, *const u64, *mut u32, usize, u32, u32, *mut u64, usize) -> Report;
 
 extern "C" {
-    fn mogedorn_check(m: u32, p: *const u64, pn: usize, t: *const u32, tn: usize) -> u32;
-    fn mogedorn_cover(m: u32, p: *const u64, pn: usize, t: *mut u32, tn: usize, d: *const u64, limit: u32, w: *mut u64, wn: usize) -> Report;
-    fn mogedorn_either(m: u32, p: *const u64, pn: usize, t: *mut u32, tn: usize, a: u32, b: u32, w: *mut u64, wn: usize) -> Report;
-    fn mogedorn_both(m: u32, p: *const u64, pn: usize, t: *mut u32, tn: usize, a: u32, b: u32, w: *mut u64, wn: usize) -> Report;
-    fn mogedorn_only(m: u32, p: *const u64, pn: usize, t: *mut u32, tn: usize, a: u32, b: u32, w: *mut u64, wn: usize) -> Report;
-    fn mogedorn_with(m: u32, p: *const u64, pn: usize, t: *mut u32, tn: usize, a: u32, k: u32, w: *mut u64, wn: usize) -> Report;
-    fn mogedorn_without(m: u32, p: *const u64, pn: usize, t: *mut u32, tn: usize, a: u32, k: u32, w: *mut u64, wn: usize) -> Report;
-    fn mogedorn_count(m: u32, p: *const u64, pn: usize, t: *const u32, tn: usize, a: u32, w: *mut u64, wn: usize) -> Number;
-    fn mogedorn_pick(m: u32, p: *const u64, pn: usize, t: *const u32, tn: usize, a: u32, k: u64, w: *mut u64, wn: usize, g: *mut u16, gn: usize) -> Timetable;
-    fn mogedorn_measure(m: u32, p: *const u64, pn: usize, t: *const u32, tn: usize, a: u32, k: u64, w: *mut u64, wn: usize) -> Number;
-    fn mogedorn_place(m: u32, p: *const u64, pn: usize, t: *const u32, tn: usize, a: u32, l: *const u16, ln: usize, w: *mut u64, wn: usize) -> Number;
+    fn mogedorn_check(m: u32, p: *const u64, pn: usize, o: *const u64, t: *const u32, tn: usize) -> u32;
+    fn mogedorn_cover(m: u32, p: *const u64, pn: usize, o: *const u64, t: *mut u32, tn: usize, d: *const u64, limit: u32, w: *mut u64, wn: usize) -> Report;
+    fn mogedorn_either(m: u32, p: *const u64, pn: usize, o: *const u64, t: *mut u32, tn: usize, a: u32, b: u32, w: *mut u64, wn: usize) -> Report;
+    fn mogedorn_both(m: u32, p: *const u64, pn: usize, o: *const u64, t: *mut u32, tn: usize, a: u32, b: u32, w: *mut u64, wn: usize) -> Report;
+    fn mogedorn_only(m: u32, p: *const u64, pn: usize, o: *const u64, t: *mut u32, tn: usize, a: u32, b: u32, w: *mut u64, wn: usize) -> Report;
+    fn mogedorn_with(m: u32, p: *const u64, pn: usize, o: *const u64, t: *mut u32, tn: usize, a: u32, k: u32, w: *mut u64, wn: usize) -> Report;
+    fn mogedorn_without(m: u32, p: *const u64, pn: usize, o: *const u64, t: *mut u32, tn: usize, a: u32, k: u32, w: *mut u64, wn: usize) -> Report;
+    fn mogedorn_count(m: u32, p: *const u64, pn: usize, o: *const u64, t: *const u32, tn: usize, a: u32, w: *mut u64, wn: usize) -> Number;
+    fn mogedorn_pick(m: u32, p: *const u64, pn: usize, o: *const u64, t: *const u32, tn: usize, a: u32, k: u64, w: *mut u64, wn: usize, g: *mut u16, gn: usize) -> Timetable;
+    fn mogedorn_measure(m: u32, p: *const u64, pn: usize, o: *const u64, t: *const u32, tn: usize, a: u32, k: u64, w: *mut u64, wn: usize) -> Number;
+    fn mogedorn_place(m: u32, p: *const u64, pn: usize, o: *const u64, t: *const u32, tn: usize, a: u32, l: *const u16, ln: usize, w: *mut u64, wn: usize) -> Number;
     fn mogedorn_cheapest(
         m: u32,
         p: *const u64,
         pn: usize,
+        o: *const u64,
         c: *const u16,
         cn: usize,
         t: *const u32,
@@ -65,53 +82,46 @@ extern "C" {
     fn mogedorn_read_bids(f: *const u8, fnn: usize, p: *mut u64, pn: usize, c: *mut u16, cn: usize) -> Bids;
 }
 
-pub fn check(m: u32, s: &[u64], t: &[u32]) -> u32 {
-    unsafe { mogedorn_check(m, s.as_ptr(), s.len(), t.as_ptr(), t.len()) }
+/// A call of an entry, with the arguments that the week stands for.
+macro_rules! call {
+    ($entry:expr, $week:ident, $($rest:expr),+) => {
+        unsafe { $entry($week.m, $week.packages.as_ptr(), $week.packages.len(), $week.optional.as_ptr(), $($rest),+) }
+    };
 }
 
-pub fn cover(m: u32, s: &[u64], t: &mut [u32], d: &[u64; 3], limit: u32, w: &mut [u64]) -> Report {
-    unsafe { mogedorn_cover(m, s.as_ptr(), s.len(), t.as_mut_ptr(), t.len(), d.as_ptr(), limit, w.as_mut_ptr(), w.len()) }
+pub fn check(week: Week, t: &[u32]) -> u32 {
+    call!(mogedorn_check, week, t.as_ptr(), t.len())
+}
+
+pub fn cover(week: Week, t: &mut [u32], d: &[u64; 3], limit: u32, w: &mut [u64]) -> Report {
+    call!(mogedorn_cover, week, t.as_mut_ptr(), t.len(), d.as_ptr(), limit, w.as_mut_ptr(), w.len())
 }
 
 /// either, both, only, with, without: 0 to 4.
-pub fn combine(op: usize, m: u32, s: &[u64], t: &mut [u32], a: u32, b: u32, w: &mut [u64]) -> Report {
+pub fn combine(op: usize, week: Week, t: &mut [u32], a: u32, b: u32, w: &mut [u64]) -> Report {
     let f: Combine = [mogedorn_either, mogedorn_both, mogedorn_only, mogedorn_with, mogedorn_without][op];
-    unsafe { f(m, s.as_ptr(), s.len(), t.as_mut_ptr(), t.len(), a, b, w.as_mut_ptr(), w.len()) }
+    call!(f, week, t.as_mut_ptr(), t.len(), a, b, w.as_mut_ptr(), w.len())
 }
 
-pub fn count(m: u32, s: &[u64], t: &[u32], a: u32, w: &mut [u64]) -> Number {
-    unsafe { mogedorn_count(m, s.as_ptr(), s.len(), t.as_ptr(), t.len(), a, w.as_mut_ptr(), w.len()) }
+pub fn count(week: Week, t: &[u32], a: u32, w: &mut [u64]) -> Number {
+    call!(mogedorn_count, week, t.as_ptr(), t.len(), a, w.as_mut_ptr(), w.len())
 }
 
-pub fn pick(m: u32, s: &[u64], t: &[u32], a: u32, k: u64, w: &mut [u64], page: &mut [u16]) -> Timetable {
-    unsafe { mogedorn_pick(m, s.as_ptr(), s.len(), t.as_ptr(), t.len(), a, k, w.as_mut_ptr(), w.len(), page.as_mut_ptr(), page.len()) }
+pub fn pick(week: Week, t: &[u32], a: u32, k: u64, w: &mut [u64], page: &mut [u16]) -> Timetable {
+    call!(mogedorn_pick, week, t.as_ptr(), t.len(), a, k, w.as_mut_ptr(), w.len(), page.as_mut_ptr(), page.len())
 }
 
-pub fn measure(m: u32, s: &[u64], t: &[u32], a: u32, k: u64, w: &mut [u64]) -> Number {
-    unsafe { mogedorn_measure(m, s.as_ptr(), s.len(), t.as_ptr(), t.len(), a, k, w.as_mut_ptr(), w.len()) }
+pub fn measure(week: Week, t: &[u32], a: u32, k: u64, w: &mut [u64]) -> Number {
+    call!(mogedorn_measure, week, t.as_ptr(), t.len(), a, k, w.as_mut_ptr(), w.len())
 }
 
-pub fn place(m: u32, s: &[u64], t: &[u32], a: u32, list: &[u16], w: &mut [u64]) -> Number {
-    unsafe { mogedorn_place(m, s.as_ptr(), s.len(), t.as_ptr(), t.len(), a, list.as_ptr(), list.len(), w.as_mut_ptr(), w.len()) }
+pub fn place(week: Week, t: &[u32], a: u32, list: &[u16], w: &mut [u64]) -> Number {
+    call!(mogedorn_place, week, t.as_ptr(), t.len(), a, list.as_ptr(), list.len(), w.as_mut_ptr(), w.len())
 }
 
-pub fn cheapest(m: u32, s: &[u64], costs: &[u16], t: &[u32], a: u32, w: &mut [u64], page: &mut [u16]) -> Timetable {
-    unsafe {
-        mogedorn_cheapest(
-            m,
-            s.as_ptr(),
-            s.len(),
-            costs.as_ptr(),
-            costs.len(),
-            t.as_ptr(),
-            t.len(),
-            a,
-            w.as_mut_ptr(),
-            w.len(),
-            page.as_mut_ptr(),
-            page.len(),
-        )
-    }
+pub fn cheapest(week: Week, costs: &[u16], t: &[u32], a: u32, w: &mut [u64], page: &mut [u16]) -> Timetable {
+    let (cn, tn, wn, gn) = (costs.len(), t.len(), w.len(), page.len());
+    call!(mogedorn_cheapest, week, costs.as_ptr(), cn, t.as_ptr(), tn, a, w.as_mut_ptr(), wn, page.as_mut_ptr(), gn)
 }
 
 /// Three words that held something else.

@@ -1,4 +1,4 @@
-//! The library, through its C interface, against document 01 by its definitions (model.rs): random histories with refusals among them, damaged tables,
+//! The library, through its C interface, against documents 01 and 02 by their definitions (model.rs): random histories with refusals among them, damaged tables,
 //! damaged bids files. `differential [SEED [CALLS]]`; a difference stops it and prints the seed of the history, which as SEED shows it at once.
 
 mod bids;
@@ -6,16 +6,15 @@ mod calls;
 mod edge;
 mod ffi;
 mod model;
+mod optional;
 mod rng;
 
 use calls::History;
 use rng::Rng;
 use std::panic;
 
-fn main() {
-    let mut args = std::env::args().skip(1).map(|a| a.parse::<u64>().expect("a number"));
-    let first = args.next().unwrap_or(1);
-    let most = args.next().unwrap_or(120_000);
+/// What is the same in each run.
+fn edges() {
     edge::all_items();
     edge::each_m();
     edge::list_lengths();
@@ -25,6 +24,19 @@ fn main() {
     edge::sixty_four_bits(3);
     edge::greatest_cost();
     edge::last_number();
+    optional::shared_slot();
+    optional::precedence();
+    optional::nothing_compulsory();
+    optional::refusal_order();
+    optional::few_places();
+    optional::groups();
+}
+
+fn main() {
+    let mut args = std::env::args().skip(1).map(|a| a.parse::<u64>().expect("a number"));
+    let first = args.next().unwrap_or(1);
+    let most = args.next().unwrap_or(120_000);
+    edges();
     let (mut calls, mut files, mut seed) = (0, 0, first);
     let mut outcomes = [0u64; 32];
     while calls < most {

@@ -1,4 +1,4 @@
-//! Document 01 by its definitions, for small N: a timetable is a set of packages as a bit mask, a set of timetables says of every mask whether it is in.
+//! Documents 01 and 02 by their definitions, for small N: a timetable is a set of packages as a bit mask, a set of timetables says of every mask whether it is in.
 //! Nothing here is taken from the library; nothing is meant to be fast.
 
 use std::collections::HashSet;
@@ -104,21 +104,30 @@ impl Family {
     }
 }
 
-/// The packages of a call.
-pub struct Packages<'a> {
+/// The memo of a search, in each place a set and its timetables; the steps so far, and the greatest number of them.
+struct Walk {
+    memo: Vec<Option<(Set, Family)>>,
+    steps: u64,
+    most: u64,
+}
+
+/// What a call is lent besides its table.
+pub struct Week<'a> {
     pub m: u32,
     pub sets: &'a [Set],
+    pub optional: Set,
+    /// The lowest compulsory item of each package.
     lowest: Vec<u32>,
     /// The packages in precedence.
     pub order: Vec<usize>,
 }
 
-impl<'a> Packages<'a> {
-    pub fn new(m: u32, sets: &'a [Set]) -> Packages<'a> {
-        let lowest: Vec<u32> = sets.iter().map(|s| s.lowest()).collect();
+impl<'a> Week<'a> {
+    pub fn new(m: u32, sets: &'a [Set], optional: Set) -> Week<'a> {
+        let lowest: Vec<u32> = sets.iter().map(|s| s.without(optional).lowest()).collect();
         let mut order: Vec<usize> = (0..sets.len()).collect();
         order.sort_by_key(|&p| (lowest[p], p));
-        Packages { m, sets, lowest, order }
+        Week { m, sets, optional, lowest, order }
     }
 
     pub fn n(&self) -> usize {
@@ -151,9 +160,14 @@ impl<'a> Packages<'a> {
         all
     }
 
+    /// Inside d, each compulsory item of d in just one package, each optional one in at most one.
     fn covers(&self, t: u32, d: Set) -> bool {
         let chosen: Vec<Set> = (0..self.n()).filter(|&p| t >> p & 1 == 1).map(|p| self.sets[p]).collect();
-        chosen.iter().all(|s| s.inside(d)) && d.items().all(|i| chosen.iter().filter(|s| s.has(i)).count() == 1)
+        let fits = |i: u32| match chosen.iter().filter(|s| s.has(i)).count() {
+            0 => self.optional.has(i),
+            n => n == 1,
+        };
+        chosen.iter().all(|s| s.inside(d)) && d.items().all(fits)
     }
 
     /// The timetables that cover d.
@@ -167,31 +181,34 @@ impl<'a> Packages<'a> {
         f
     }
 
-    /// The entries into Search with a memo of `places` places, stopped at `most`.
-    pub fn steps(&self, d: Set, places: usize, most: u64) -> u64 {
-        let mut memo: Vec<Option<Set>> = vec![None; places];
-        let mut steps = 0;
-        self.search(d, &mut memo, &mut steps, most);
-        steps
+    /// Search by its text, with a memo of `places` places: the timetables that it finds, and its steps. Stopped above `most` steps.
+    pub fn searched(&self, d: Set, places: usize, most: u64) -> (Family, u64) {
+        let mut walk = Walk { memo: vec![None; places], steps: 0, most };
+        let found = self.search(d, &mut walk);
+        (found, walk.steps)
     }
 
-    fn search(&self, a: Set, memo: &mut Vec<Option<Set>>, steps: &mut u64, most: u64) {
-        *steps += 1;
-        if a == Set::NONE || *steps > most {
-            return;
+    fn search(&self, a: Set, walk: &mut Walk) -> Family {
+        walk.steps += 1;
+        let lowest = a.without(self.optional).lowest();
+        if lowest == ITEMS || walk.steps > walk.most {
+            return Family::empty_one(self.n());
         }
-        let place = a.place(memo.len());
-        if memo[place] == Some(a) {
-            return;
+        let place = a.place(walk.memo.len());
+        match &walk.memo[place] {
+            Some((known, f)) if *known == a => return f.clone(),
+            _ => {}
         }
-        let lowest = a.lowest();
+        let mut f = Family::none(self.n());
         for p in (0..self.n()).rev() {
             let s = self.sets[p];
             if s.has(lowest) && s.inside(a) {
-                self.search(a.without(s), memo, steps, most);
+                let rest = self.search(a.without(s), walk);
+                rest.members().into_iter().for_each(|t| f.add(t | 1 << p));
             }
         }
-        memo[place] = Some(a);
+        walk.memo[place] = Some((a, f.clone()));
+        f
     }
 
     /// The branch sets of f: f itself, and those of its two halves by its first package.
@@ -221,13 +238,19 @@ impl<'a> Packages<'a> {
         all.iter().filter(|b| !known.contains(b)).count() as u64
     }
 
-    /// 1 oversize, 2 stray, or 0.
+    /// 1 oversize, 2 stray, 29 optional item of M or above, 30 package without a compulsory item, or 0.
     pub fn refusal(&self) -> u32 {
         if self.m > ITEMS || self.n() > 512 {
             return 1;
         }
         if self.sets.iter().any(|&s| s == Set::NONE || !s.below(self.m)) {
             return 2;
+        }
+        if !self.optional.below(self.m) {
+            return 29;
+        }
+        if self.sets.iter().any(|s| s.inside(self.optional)) {
+            return 30;
         }
         0
     }
