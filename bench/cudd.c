@@ -10,7 +10,8 @@
 typedef struct {
     DdManager *dd;
     const uint64_t *sets; /* in precedence */
-    const int32_t *first; /* by lowest item: the first to try, and then `after`; -1 is none */
+    uint64_t optional;
+    const int32_t *first; /* by lowest compulsory item: the first to try, and then `after`; -1 is none */
     const int32_t *after;
     size_t places;
     uint64_t *keys;
@@ -28,11 +29,12 @@ void shim_free(void *dd) { Cudd_Quit(dd); }
 
 static DdNode *search(search_t *s, uint64_t items) {
     s->steps++;
-    if (items == 0) return DD_ONE(s->dd);
+    uint64_t compulsory = items & ~s->optional;
+    if (compulsory == 0) return DD_ONE(s->dd);
     size_t at = items % s->places;
     if (s->keys[at] == items) return s->values[at];
     DdNode *answer = DD_ZERO(s->dd);
-    for (int32_t p = s->first[__builtin_ctzll(items)]; p >= 0; p = s->after[p]) {
+    for (int32_t p = s->first[__builtin_ctzll(compulsory)]; p >= 0; p = s->after[p]) {
         if (s->sets[p] & ~items) continue;
         DdNode *y = search(s, items & ~s->sets[p]);
         if (y == DD_ZERO(s->dd)) continue;
@@ -44,8 +46,9 @@ static DdNode *search(search_t *s, uint64_t items) {
     return answer;
 }
 
-void *shim_cover(void *dd, const uint64_t *sets, const int32_t *first, const int32_t *after, uint64_t d, uint64_t *keys, void **values, size_t places, uint64_t *steps) {
-    search_t s = {dd, sets, first, after, places, keys, (DdNode **)values, 0};
+void *shim_cover(void *dd, const uint64_t *sets, uint64_t optional, const int32_t *first, const int32_t *after, uint64_t d, uint64_t *keys, void **values,
+                 size_t places, uint64_t *steps) {
+    search_t s = {dd, sets, optional, first, after, places, keys, (DdNode **)values, 0};
     for (size_t i = 0; i < places; i++) keys[i] = 0;
     DdNode *f = search(&s, d);
     Cudd_Ref(f);

@@ -7,7 +7,18 @@ pub type Node = *mut c_void;
 extern "C" {
     fn shim_new(vars: i32) -> Node;
     fn shim_free(dd: Node);
-    fn shim_cover(dd: Node, sets: *const u64, first: *const i32, after: *const i32, d: u64, keys: *mut u64, values: *mut Node, places: usize, steps: *mut u64) -> Node;
+    fn shim_cover(
+        dd: Node,
+        sets: *const u64,
+        optional: u64,
+        first: *const i32,
+        after: *const i32,
+        d: u64,
+        keys: *mut u64,
+        values: *mut Node,
+        places: usize,
+        steps: *mut u64,
+    ) -> Node;
     fn shim_pair(dd: Node, op: i32, a: Node, b: Node) -> Node;
     fn shim_with(dd: Node, a: Node, v: i32) -> Node;
     fn shim_without(dd: Node, a: Node, v: i32) -> Node;
@@ -17,25 +28,27 @@ extern "C" {
 /// The packages in precedence, with the order of trial; and where a package stands.
 pub struct Order {
     sets: Vec<u64>,
+    optional: u64,
     first: [i32; 64],
     after: Vec<i32>,
     place: Vec<i32>,
 }
 
 impl Order {
-    pub fn new(packs: &[u64]) -> Order {
+    pub fn new(packs: &[u64], optional: u64) -> Order {
         let mut order: Vec<usize> = (0..packs.len()).collect();
-        order.sort_by_key(|&p| (packs[p].trailing_zeros(), p));
+        let lowest = |p: usize| (packs[p] & !optional).trailing_zeros();
+        order.sort_by_key(|&p| (lowest(p), p));
         let sets: Vec<u64> = order.iter().map(|&p| packs[p]).collect();
         let mut place = vec![0; packs.len()];
         let (mut first, mut after) = ([-1; 64], vec![-1; packs.len()]);
         for (v, &p) in order.iter().enumerate() {
             place[p] = v as i32;
-            let low = packs[p].trailing_zeros() as usize;
+            let low = lowest(p) as usize;
             after[v] = first[low];
             first[low] = v as i32;
         }
-        Order { sets, first, after, place }
+        Order { sets, optional, first, after, place }
     }
 }
 
@@ -51,8 +64,9 @@ impl Manager<'_> {
 
     pub fn cover(&self, d: u64, keys: &mut [u64], values: &mut [Node]) -> (Node, u64) {
         let mut steps = 0;
-        let o = self.order;
-        let f = unsafe { shim_cover(self.dd, o.sets.as_ptr(), o.first.as_ptr(), o.after.as_ptr(), d, keys.as_mut_ptr(), values.as_mut_ptr(), keys.len(), &mut steps) };
+        let (o, places) = (self.order, keys.len());
+        let (sets, first, after) = (o.sets.as_ptr(), o.first.as_ptr(), o.after.as_ptr());
+        let f = unsafe { shim_cover(self.dd, sets, o.optional, first, after, d, keys.as_mut_ptr(), values.as_mut_ptr(), places, &mut steps) };
         (f, steps)
     }
 

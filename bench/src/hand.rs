@@ -130,21 +130,28 @@ impl Index {
     }
 }
 
-fn admit(m: u32, packs: &[[u64; 3]], t: &[u32], keys: &mut [u32; 512], index: &mut Index) -> u32 {
+fn admit(m: u32, packs: &[[u64; 3]], optional: Items, t: &[u32], keys: &mut [u32; 512], index: &mut Index) -> u32 {
     if m > 192 || packs.len() > 512 {
         return 1;
     }
     let all = Items::below(m);
+    let mut bare = false;
     for (p, s) in packs.iter().map(Items::of).enumerate() {
         if s.is_empty() || !s.inside(all) {
             return 2;
         }
-        keys[p] = s.lowest() * 512 + p as u32;
+        let compulsory = s.without(optional);
+        bare |= compulsory.is_empty();
+        keys[p] = compulsory.lowest() * 512 + p as u32;
     }
-    if index.check(t, &keys[..packs.len()]) {
-        0
-    } else {
+    if !optional.inside(all) {
+        29
+    } else if bare {
+        30
+    } else if !index.check(t, &keys[..packs.len()]) {
         4
+    } else {
+        0
     }
 }
 
@@ -195,7 +202,8 @@ impl Memo<'_> {
 
 struct Search<'a> {
     packs: &'a [[u64; 3]],
-    /// The packages by lowest item: 193 heads, and from 194 on the next one of each package.
+    optional: Items,
+    /// The packages by lowest compulsory item: 193 heads, and from 194 on the next one of each package.
     leads: [u16; 706],
     /// The packages' places in the memo. What a package leaves of a set has its place by one subtraction, so that no step divides.
     homes: [u64; 512],
@@ -211,7 +219,7 @@ struct Search<'a> {
 impl Search<'_> {
     fn enlist(&mut self) {
         for (p, set) in self.packs.iter().map(Items::of).enumerate() {
-            let low = set.lowest() as usize;
+            let low = set.without(self.optional).lowest() as usize;
             self.leads[194 + p] = self.leads[low];
             self.leads[low] = p as u16 + 1;
             self.homes[p] = set.place(self.memo.places as u64);
@@ -225,19 +233,21 @@ impl Search<'_> {
             return 0;
         }
         self.steps += 1;
-        if items.is_empty() {
+        let compulsory = items.without(self.optional);
+        if compulsory.is_empty() {
             return 1;
         }
         match self.memo.get(at, items) {
             Some(answer) => answer,
-            None => self.trial(at, items.w0, items.w1, items.w2),
+            None => self.trial(at, compulsory.lowest(), items.w0, items.w1, items.w2),
         }
     }
 
-    /// The words one by one: a struct of three would be passed in memory.
-    fn trial(&mut self, at: usize, w0: u64, w1: u64, w2: u64) -> u32 {
+    /// The lowest compulsory item as search has found it, which is faster than to find it again, and the words one by one: a struct of three would be passed in
+    /// memory.
+    fn trial(&mut self, at: usize, lead: u32, w0: u64, w1: u64, w2: u64) -> u32 {
         let items = Items { w0, w1, w2 };
-        let mut p = self.leads[items.lowest() as usize];
+        let mut p = self.leads[lead as usize];
         let mut answer = 0;
         while p != 0 {
             let k = p as usize - 1;
@@ -274,10 +284,11 @@ fn rollback(t: &mut [u32], n: u32) {
 /// The answer and the steps, or a refusal.
 #[inline(never)]
 #[no_mangle]
-pub fn hand_cover(m: u32, packs: &[[u64; 3]], t: &mut [u32], d: &[u64; 3], limit: u32, work: &mut [u64]) -> Result<(u32, u64), u32> {
+pub fn hand_cover(m: u32, packs: &[[u64; 3]], optional: &[u64; 3], t: &mut [u32], d: &[u64; 3], limit: u32, work: &mut [u64]) -> Result<(u32, u64), u32> {
     let mut keys = [0; 512];
     let mut index = Index([0; 131072]);
-    match admit(m, packs, t, &mut keys, &mut index) {
+    let optional = Items::of(optional);
+    match admit(m, packs, optional, t, &mut keys, &mut index) {
         0 => {}
         r => return Err(r),
     }
@@ -291,7 +302,8 @@ pub fn hand_cover(m: u32, packs: &[[u64; 3]], t: &mut [u32], d: &[u64; 3], limit
     let n = t[0];
     let memo = Memo::new(work);
     let at = d.place(memo.places as u64) as usize;
-    let mut s = Search { packs, leads: [0; 706], homes: [0; 512], t, index: &mut index, memo, limit: limit as u64, steps: 0, full: false, over: false };
+    let (leads, homes, limit) = ([0; 706], [0; 512], limit as u64);
+    let mut s = Search { packs, optional, leads, homes, t, index: &mut index, memo, limit, steps: 0, full: false, over: false };
     s.enlist();
     let answer = s.search(at, d);
     let (over, full, steps) = (s.over, s.full, s.steps);
@@ -396,10 +408,10 @@ impl Table<'_> {
 /// either, both, only, with, without: 0 to 4.
 #[inline(never)]
 #[no_mangle]
-pub fn hand_combine(op: u8, m: u32, packs: &[[u64; 3]], t: &mut [u32], a: u32, b: u32, work: &mut [u64]) -> Result<u32, u32> {
+pub fn hand_combine(op: u8, m: u32, packs: &[[u64; 3]], optional: &[u64; 3], t: &mut [u32], a: u32, b: u32, work: &mut [u64]) -> Result<u32, u32> {
     let mut keys = [0; 512];
     let mut index = Index([0; 131072]);
-    match admit(m, packs, t, &mut keys, &mut index) {
+    match admit(m, packs, Items::of(optional), t, &mut keys, &mut index) {
         0 => {}
         r => return Err(r),
     }
@@ -430,10 +442,10 @@ pub fn hand_combine(op: u8, m: u32, packs: &[[u64; 3]], t: &mut [u32], a: u32, b
 }
 
 /// What a question does first: the table is checked, and it knows the answer.
-fn opened(m: u32, packs: &[[u64; 3]], t: &[u32], a: u32) -> Result<(), u32> {
+fn opened(m: u32, packs: &[[u64; 3]], optional: &[u64; 3], t: &[u32], a: u32) -> Result<(), u32> {
     let mut keys = [0; 512];
     let mut index = Index([0; 131072]);
-    match admit(m, packs, t, &mut keys, &mut index) {
+    match admit(m, packs, Items::of(optional), t, &mut keys, &mut index) {
         0 if a >= t[0] + 2 => Err(5),
         0 => Ok(()),
         r => Err(r),
@@ -485,27 +497,27 @@ fn length(t: &[u32], a: usize, k: u64, work: &mut [u64]) -> Result<usize, u32> {
 }
 
 #[inline(never)]
-pub fn hand_check(m: u32, packs: &[[u64; 3]], t: &[u32]) -> u32 {
+pub fn hand_check(m: u32, packs: &[[u64; 3]], optional: &[u64; 3], t: &[u32]) -> u32 {
     let mut keys = [0; 512];
     let mut index = Index([0; 131072]);
-    admit(m, packs, t, &mut keys, &mut index)
+    admit(m, packs, Items::of(optional), t, &mut keys, &mut index)
 }
 
 #[inline(never)]
-pub fn hand_count(m: u32, packs: &[[u64; 3]], t: &[u32], a: u32, work: &mut [u64]) -> Result<u64, u32> {
-    opened(m, packs, t, a)?;
+pub fn hand_count(m: u32, packs: &[[u64; 3]], optional: &[u64; 3], t: &[u32], a: u32, work: &mut [u64]) -> Result<u64, u32> {
+    opened(m, packs, optional, t, a)?;
     counts(t, a as usize, work)
 }
 
 #[inline(never)]
-pub fn hand_measure(m: u32, packs: &[[u64; 3]], t: &[u32], a: u32, k: u64, work: &mut [u64]) -> Result<usize, u32> {
-    opened(m, packs, t, a)?;
+pub fn hand_measure(m: u32, packs: &[[u64; 3]], optional: &[u64; 3], t: &[u32], a: u32, k: u64, work: &mut [u64]) -> Result<usize, u32> {
+    opened(m, packs, optional, t, a)?;
     length(t, a as usize, k, work)
 }
 
 #[inline(never)]
-pub fn hand_pick(m: u32, packs: &[[u64; 3]], t: &[u32], a: u32, k: u64, work: &mut [u64], page: &mut [u16]) -> Result<usize, u32> {
-    opened(m, packs, t, a)?;
+pub fn hand_pick(m: u32, packs: &[[u64; 3]], optional: &[u64; 3], t: &[u32], a: u32, k: u64, work: &mut [u64], page: &mut [u16]) -> Result<usize, u32> {
+    opened(m, packs, optional, t, a)?;
     let a = a as usize;
     if page.len() < length(t, a, k, work)? {
         return Err(15);

@@ -1,11 +1,15 @@
-//! Instances of document 000's Table 1, domino.8.8 once more on items that are spread over three words, and what is lent for them.
+//! Instances of document 000's Table 1, domino.8.8 once more on items that are spread over three words, queens that do not attack each other, and what is lent
+//! for them.
+
+use crate::ffi::Week;
 
 pub struct Instance {
     pub name: &'static str,
     pub m: u32,
     /// The packages, each as three words, lowest first.
     pub packs: Vec<[u64; 3]>,
-    /// The timetables, by Table 1.
+    pub optional: [u64; 3],
+    /// The timetables: by Table 1, and of queens the known numbers of ways to place them.
     pub count: u64,
     /// What is lent: the nodes that the table has room for, and the places of the memo, a prime.
     pub nodes: usize,
@@ -18,6 +22,10 @@ impl Instance {
         self.packs.as_flattened()
     }
 
+    pub fn week(&self) -> Week<'_> {
+        Week { m: self.m, packages: self.words(), optional: &self.optional }
+    }
+
     /// Every item of a package: what is covered.
     pub fn all(&self) -> [u64; 3] {
         self.packs.iter().fold([0; 3], |all, pack| [0, 1, 2].map(|j| all[j] | pack[j]))
@@ -27,11 +35,16 @@ impl Instance {
     pub fn narrow(&self) -> Option<Vec<u64>> {
         (self.m <= 64).then(|| self.packs.iter().map(|pack| pack[0]).collect())
     }
+
+    /// A week with nothing optional, as all weeks were before.
+    pub fn plain(&self) -> bool {
+        self.optional == [0; 3]
+    }
 }
 
-fn set(items: [usize; 2]) -> [u64; 3] {
+fn set(items: impl IntoIterator<Item = usize>) -> [u64; 3] {
     let mut words = [0; 3];
-    items.iter().for_each(|i| words[i / 64] |= 1 << (i % 64));
+    items.into_iter().for_each(|i| words[i / 64] |= 1 << (i % 64));
     words
 }
 
@@ -49,15 +62,29 @@ fn dominoes(side: usize, step: usize) -> Vec<[u64; 3]> {
     placings
 }
 
+/// Queens on side by side cells, none of which attacks another: rows and columns must have one, diagonals may. The items are the rows, the columns, and the
+/// diagonals of each direction, in this order: rows and columns in turn take 1.2 to 1.4 times the steps and 1.1 to 1.2 times the nodes.
+fn queens(side: usize, name: &'static str, count: u64, nodes: usize, places: usize) -> Instance {
+    let lines = 2 * side - 1;
+    let cell = |row: usize, column: usize| set([row, side + column, 2 * side + row + column, 2 * side + lines + row + side - 1 - column]);
+    let packs = (0..side * side).map(|i| cell(i / side, i % side)).collect();
+    let m = 2 * side + 2 * lines;
+    Instance { name, m: m as u32, packs, optional: set(2 * side..m), count, nodes, places }
+}
+
 pub fn instances() -> Vec<Instance> {
+    let plain = |name, m, packs, count, nodes, places| Instance { name, m, packs, optional: [0; 3], count, nodes, places };
     let bell = (1..512).map(|x| [x, 0, 0]).collect();
     let pairs = (0..1u64 << 18).filter(|x| x.count_ones() == 2).map(|x| [x, 0, 0]).collect();
     vec![
-        Instance { name: "bell-09", m: 9, packs: bell, count: 21147, nodes: 8192, places: 16381 },
-        Instance { name: "doublefact-17", m: 18, packs: pairs, count: 34459425, nodes: 65534, places: 65521 },
-        Instance { name: "domino.8.8", m: 64, packs: dominoes(8, 1), count: 12988816, nodes: 8192, places: 16381 },
+        plain("bell-09", 9, bell, 21147, 8192, 16381),
+        plain("doublefact-17", 18, pairs, 34459425, 65534, 65521),
+        plain("domino.8.8", 64, dominoes(8, 1), 12988816, 8192, 16381),
         // the same on the items 0, 3, .., 189: what the width alone costs
-        Instance { name: "domino.wide", m: 190, packs: dominoes(8, 3), count: 12988816, nodes: 8192, places: 16381 },
-        Instance { name: "domino.10.10", m: 100, packs: dominoes(10, 1), count: 258584046368, nodes: 40960, places: 65521 },
+        plain("domino.wide", 190, dominoes(8, 3), 12988816, 8192, 16381),
+        plain("domino.10.10", 100, dominoes(10, 1), 258584046368, 40960, 65521),
+        queens(8, "queens.8", 92, 4096, 16381),
+        queens(10, "queens.10", 724, 16384, 65521),
+        queens(12, "queens.12", 14200, 65534, 65521),
     ]
 }

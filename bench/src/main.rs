@@ -1,6 +1,6 @@
 //! The library beside the same algorithm written by hand in Rust and, where it is installed, beside CUDD's ZDDs: instances of document 000's Table 1
-//! compiled, rounds of with, without, either, both and only on what was compiled, and how a call's time grows with the nodes. An earlier archive, of 64 items,
-//! stands beside it where one is given (see build.rs). It and CUDD's search take weeks of at most 64 items.
+//! and queens compiled, rounds of with, without, either, both and only on what was compiled, and how a call's time grows with the nodes. An earlier archive,
+//! whose calls take no optional items, stands beside it where one is given (see build.rs). CUDD's search takes weeks of at most 64 items.
 //!
 //! `bench [REPETITIONS]` prints the table. `bench WHO INSTANCE` does one repetition of one, for instruction counts (see bench/instructions).
 
@@ -73,9 +73,8 @@ struct Lent {
 }
 
 impl Lent {
-    /// With so many words for a place of the memo.
-    fn new(who: &Instance, place: usize) -> Lent {
-        Lent { table: vec![0; 1 + 3 * who.nodes], work: vec![1; place * who.places], compiled: 0 }
+    fn new(who: &Instance) -> Lent {
+        Lent { table: vec![0; 1 + 3 * who.nodes], work: vec![1; 4 * who.places], compiled: 0 }
     }
 
     fn back(&mut self) {
@@ -84,15 +83,14 @@ impl Lent {
     }
 }
 
-/// By calls on a table and working words, with so many words for a place of the memo. The rounds are lent two words a place by all: what they remember goes to
-/// the lent words where these are many, and all shall remember in the same memory.
+/// By calls on a table and working words. The rounds are lent two words a place of cover's memo: what they remember goes to the lent words where these are
+/// many, and so few are nowhere many.
 fn by_calls(
     who: &Instance,
-    place: usize,
     cover: impl Fn(&mut [u32], &mut [u64]) -> (u32, u64),
     combine: impl Fn(usize, &mut [u32], u32, u32, &mut [u64]) -> u32,
 ) -> Times {
-    let lent = RefCell::new(Lent::new(who, place));
+    let lent = RefCell::new(Lent::new(who));
     repetition(
         who,
         || {
@@ -118,39 +116,37 @@ fn answered(r: ffi::Report) -> (u32, u64) {
 }
 
 fn library(who: &Instance) -> Times {
-    let (packs, d) = (who.words(), who.all());
+    let (week, d) = (who.week(), who.all());
     by_calls(
         who,
-        4,
-        |t, work| answered(ffi::cover(who.m, packs, t, &d, u32::MAX, work)),
-        |op, t, a, b, work| answered(ffi::combine(op, who.m, packs, t, a, b, work)).0,
+        |t, work| answered(ffi::cover(week, t, &d, u32::MAX, work)),
+        |op, t, a, b, work| answered(ffi::combine(op, week, t, a, b, work)).0,
     )
 }
 
 fn by_hand(who: &Instance) -> Times {
-    let (packs, d) = (&who.packs, who.all());
+    let (packs, optional, d) = (&who.packs, &who.optional, who.all());
     by_calls(
         who,
-        4,
-        |t, work| hand::hand_cover(who.m, packs, t, &d, u32::MAX, work).unwrap(),
-        |op, t, a, b, work| hand::hand_combine(op as u8, who.m, packs, t, a, b, work).unwrap(),
+        |t, work| hand::hand_cover(who.m, packs, optional, t, &d, u32::MAX, work).unwrap(),
+        |op, t, a, b, work| hand::hand_combine(op as u8, who.m, packs, optional, t, a, b, work).unwrap(),
     )
 }
 
 #[cfg(old)]
 fn before(who: &Instance) -> Times {
-    let (packs, d) = (who.narrow().expect("at most 64 items"), who.all()[0]);
+    assert!(who.plain());
+    let (packs, d) = (who.words(), who.all());
     by_calls(
         who,
-        2,
-        |t, work| answered(old::cover(who.m, &packs, t, d, u32::MAX, work)),
-        |op, t, a, b, work| answered(old::combine(op, who.m, &packs, t, a, b, work)).0,
+        |t, work| answered(old::cover(who.m, packs, t, &d, u32::MAX, work)),
+        |op, t, a, b, work| answered(old::combine(op, who.m, packs, t, a, b, work)).0,
     )
 }
 
 #[cfg(cudd)]
 fn by_cudd(who: &Instance) -> Times {
-    let order = cudd::Order::new(&who.narrow().expect("at most 64 items"));
+    let order = cudd::Order::new(&who.narrow().expect("at most 64 items"), who.optional[0]);
     let manager = cudd::Manager::new(&order);
     let (mut keys, mut values) = (vec![1; who.places], vec![std::ptr::null_mut(); who.places]);
     let d = who.all()[0];
@@ -166,28 +162,28 @@ fn least(x: &[f64]) -> f64 {
     x.iter().copied().fold(f64::INFINITY, f64::min)
 }
 
-/// One who is compared; `wide` takes weeks of more than 64 items too.
+/// One who is compared, and the weeks that it takes.
 struct Column {
     name: &'static str,
     run: fn(&Instance) -> Times,
-    wide: bool,
+    takes: fn(&Instance) -> bool,
 }
 
 /// Who is compared, in the order of the columns.
 fn all_of_them() -> Vec<Column> {
     vec![
-        Column { name: "library", run: library, wide: true },
-        Column { name: "by hand", run: by_hand, wide: true },
+        Column { name: "library", run: library, takes: |_| true },
+        Column { name: "by hand", run: by_hand, takes: |_| true },
         #[cfg(cudd)]
-        Column { name: "CUDD", run: by_cudd, wide: false },
+        Column { name: "CUDD", run: by_cudd, takes: |who| who.m <= 64 },
         #[cfg(old)]
-        Column { name: "before", run: before, wide: false },
+        Column { name: "before", run: before, takes: Instance::plain },
     ]
 }
 
 fn compare(who: &Instance, repetitions: usize) {
     let them = all_of_them();
-    let able: Vec<usize> = (0..them.len()).filter(|&i| them[i].wide || who.m <= 64).collect();
+    let able: Vec<usize> = (0..them.len()).filter(|&i| (them[i].takes)(who)).collect();
     let mut times: Vec<Vec<Times>> = them.iter().map(|_| Vec::new()).collect();
     // in turn, so that none always runs in the caches that another leaves
     for i in 0..able.len() * repetitions {
@@ -198,9 +194,10 @@ fn compare(who: &Instance, repetitions: usize) {
     assert!(times.iter().flatten().all(|t| t.1 == steps), "steps differ");
     let lent = compiled(who);
     println!(
-        "{}: {} items, {} packages, {steps} steps, {} nodes in a table for {}, memo of {} places",
+        "{}: {} items{}, {} packages, {steps} steps, {} nodes in a table for {}, memo of {} places",
         who.name,
         who.m,
+        if who.plain() { String::new() } else { format!(" ({} optional)", who.optional.iter().map(|w| w.count_ones()).sum::<u32>()) },
         who.packs.len(),
         lent.table[0],
         who.nodes,
@@ -227,11 +224,14 @@ fn compare(who: &Instance, repetitions: usize) {
     }
 }
 
-/// The instance compiled, and its count as Table 1 has it.
+/// The instance compiled, its count as it is known, and as many nodes by hand.
 fn compiled(who: &Instance) -> Lent {
-    let mut lent = Lent::new(who, 4);
-    let r = ffi::cover(who.m, who.words(), &mut lent.table, &who.all(), u32::MAX, &mut lent.work);
-    assert_eq!(ffi::count(who.m, who.words(), &lent.table, r.answer, &mut lent.work), ffi::Number { refusal: 0, value: who.count });
+    let mut lent = Lent::new(who);
+    let r = ffi::cover(who.week(), &mut lent.table, &who.all(), u32::MAX, &mut lent.work);
+    assert_eq!(ffi::count(who.week(), &lent.table, r.answer, &mut lent.work), ffi::Number { refusal: 0, value: who.count });
+    let mut hand = Lent::new(who);
+    hand::hand_cover(who.m, &who.packs, &who.optional, &mut hand.table, &who.all(), u32::MAX, &mut hand.work).unwrap();
+    assert_eq!(lent.table[0], hand.table[0], "nodes differ");
     lent
 }
 
@@ -246,7 +246,7 @@ fn growth(who: &Instance, repetitions: usize) {
         let times: Vec<f64> = (0..4 * repetitions)
             .map(|_| {
                 let started = Instant::now();
-                assert_eq!(ffi::check(who.m, who.words(), &t), 0);
+                assert_eq!(ffi::check(who.week(), &t), 0);
                 started.elapsed().as_nanos() as f64 / 1000.0
             })
             .collect();
@@ -286,7 +286,7 @@ fn main() {
     }
     #[cfg(cudd)]
     {
-        let order = cudd::Order::new(&all[0].narrow().unwrap());
+        let order = cudd::Order::new(&all[0].narrow().unwrap(), 0);
         let times = (0..repetitions).map(|_| {
             let started = Instant::now();
             black_box(cudd::Manager::new(&order));

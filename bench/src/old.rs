@@ -1,4 +1,4 @@
-//! The entries of an earlier archive that the benchmark calls (see build.rs): an item set is one word, and a place of the memo is two.
+//! The entries of an earlier archive that the benchmark calls (see build.rs): they take no optional items.
 
 use crate::ffi::{Number, Report, Timetable};
 
@@ -9,7 +9,7 @@ extern "C" {
     fn old_mogedorn_count(m: u32, p: *const u64, pn: usize, t: *const u32, tn: usize, a: u32, w: *mut u64, wn: usize) -> Number;
     fn old_mogedorn_pick(m: u32, p: *const u64, pn: usize, t: *const u32, tn: usize, a: u32, k: u64, w: *mut u64, wn: usize, g: *mut u16, gn: usize) -> Timetable;
     fn old_mogedorn_measure(m: u32, p: *const u64, pn: usize, t: *const u32, tn: usize, a: u32, k: u64, w: *mut u64, wn: usize) -> Number;
-    fn old_mogedorn_cover(m: u32, p: *const u64, pn: usize, t: *mut u32, tn: usize, d: u64, limit: u32, w: *mut u64, wn: usize) -> Report;
+    fn old_mogedorn_cover(m: u32, p: *const u64, pn: usize, t: *mut u32, tn: usize, d: *const u64, limit: u32, w: *mut u64, wn: usize) -> Report;
     fn old_mogedorn_either(m: u32, p: *const u64, pn: usize, t: *mut u32, tn: usize, a: u32, b: u32, w: *mut u64, wn: usize) -> Report;
     fn old_mogedorn_both(m: u32, p: *const u64, pn: usize, t: *mut u32, tn: usize, a: u32, b: u32, w: *mut u64, wn: usize) -> Report;
     fn old_mogedorn_only(m: u32, p: *const u64, pn: usize, t: *mut u32, tn: usize, a: u32, b: u32, w: *mut u64, wn: usize) -> Report;
@@ -17,8 +17,8 @@ extern "C" {
     fn old_mogedorn_without(m: u32, p: *const u64, pn: usize, t: *mut u32, tn: usize, a: u32, k: u32, w: *mut u64, wn: usize) -> Report;
 }
 
-pub fn cover(m: u32, s: &[u64], t: &mut [u32], d: u64, limit: u32, w: &mut [u64]) -> Report {
-    unsafe { old_mogedorn_cover(m, s.as_ptr(), s.len(), t.as_mut_ptr(), t.len(), d, limit, w.as_mut_ptr(), w.len()) }
+pub fn cover(m: u32, s: &[u64], t: &mut [u32], d: &[u64; 3], limit: u32, w: &mut [u64]) -> Report {
+    unsafe { old_mogedorn_cover(m, s.as_ptr(), s.len(), t.as_mut_ptr(), t.len(), d.as_ptr(), limit, w.as_mut_ptr(), w.len()) }
 }
 
 /// either, both, only, with, without: 0 to 4.

@@ -35,7 +35,7 @@ fn main() {
         let mut t = whole[..1 + 3 * nodes].to_vec();
         t[0] = nodes as u32;
         let started = Instant::now();
-        assert_eq!(ffi::check(64, &packages, &t), 0);
+        assert_eq!(ffi::check(ffi::Week::plain(64, &packages), &t), 0);
         println!("{nodes:>6} nodes {:>7.3} s", started.elapsed().as_secs_f64());
     }
 }

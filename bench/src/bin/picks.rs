@@ -1,6 +1,6 @@
-//! 10,000 picks in a row, their k spread over the listing, from answers of document 000's Table 1, and beside them what a pick consists of: the check of the
-//! table, the count, the walk that measures and, in pick alone, the walk that writes. The library, the same calls by hand in Rust and, where one is given and
-//! the week has at most 64 items, an earlier archive take turns (see build.rs).
+//! 10,000 picks in a row, their k spread over the listing, from the benchmark's answers, and beside them what a pick consists of: the check of the table, the
+//! count, the walk that measures and, in pick alone, the walk that writes. The library, the same calls by hand in Rust and, where one is given and the week has
+//! no optional items, an earlier archive take turns (see build.rs).
 
 #[path = "../../../tests/rust/src/ffi.rs"]
 #[allow(dead_code)]
@@ -27,9 +27,6 @@ const BLOCK: u64 = 100;
 /// What is lent, and the answer.
 struct Desk<'a> {
     who: &'a Instance,
-    /// The packages as the earlier archive takes them.
-    #[cfg(old)]
-    narrow: Vec<u64>,
     table: Vec<u32>,
     answer: u32,
     work: Vec<u64>,
@@ -42,28 +39,28 @@ type Call = fn(&mut Desk, u64) -> u64;
 const CALLS: [&str; 4] = ["check", "count", "measure", "pick"];
 
 const LIBRARY: [Call; 4] = [
-    |d, _| ffi::check(d.who.m, d.who.words(), &d.table) as u64,
-    |d, _| ffi::count(d.who.m, d.who.words(), &d.table, d.answer, &mut d.work).value,
-    |d, k| ffi::measure(d.who.m, d.who.words(), &d.table, d.answer, k, &mut d.work).value,
-    |d, k| ffi::pick(d.who.m, d.who.words(), &d.table, d.answer, k, &mut d.work, &mut d.page).packages,
+    |d, _| ffi::check(d.who.week(), &d.table) as u64,
+    |d, _| ffi::count(d.who.week(), &d.table, d.answer, &mut d.work).value,
+    |d, k| ffi::measure(d.who.week(), &d.table, d.answer, k, &mut d.work).value,
+    |d, k| ffi::pick(d.who.week(), &d.table, d.answer, k, &mut d.work, &mut d.page).packages,
 ];
 
 const HAND: [Call; 4] = [
-    |d, _| hand::hand_check(d.who.m, &d.who.packs, &d.table) as u64,
-    |d, _| hand::hand_count(d.who.m, &d.who.packs, &d.table, d.answer, &mut d.work).unwrap(),
-    |d, k| hand::hand_measure(d.who.m, &d.who.packs, &d.table, d.answer, k, &mut d.work).unwrap() as u64,
-    |d, k| hand::hand_pick(d.who.m, &d.who.packs, &d.table, d.answer, k, &mut d.work, &mut d.page).unwrap() as u64,
+    |d, _| hand::hand_check(d.who.m, &d.who.packs, &d.who.optional, &d.table) as u64,
+    |d, _| hand::hand_count(d.who.m, &d.who.packs, &d.who.optional, &d.table, d.answer, &mut d.work).unwrap(),
+    |d, k| hand::hand_measure(d.who.m, &d.who.packs, &d.who.optional, &d.table, d.answer, k, &mut d.work).unwrap() as u64,
+    |d, k| hand::hand_pick(d.who.m, &d.who.packs, &d.who.optional, &d.table, d.answer, k, &mut d.work, &mut d.page).unwrap() as u64,
 ];
 
 #[cfg(old)]
 const OLD: [Call; 4] = [
-    |d, _| old::check(d.who.m, &d.narrow, &d.table) as u64,
-    |d, _| old::count(d.who.m, &d.narrow, &d.table, d.answer, &mut d.work).value,
-    |d, k| old::measure(d.who.m, &d.narrow, &d.table, d.answer, k, &mut d.work).value,
-    |d, k| old::pick(d.who.m, &d.narrow, &d.table, d.answer, k, &mut d.work, &mut d.page).packages,
+    |d, _| old::check(d.who.m, d.who.words(), &d.table) as u64,
+    |d, _| old::count(d.who.m, d.who.words(), &d.table, d.answer, &mut d.work).value,
+    |d, k| old::measure(d.who.m, d.who.words(), &d.table, d.answer, k, &mut d.work).value,
+    |d, k| old::pick(d.who.m, d.who.words(), &d.table, d.answer, k, &mut d.work, &mut d.page).packages,
 ];
 
-/// Each with its calls, and whether it takes weeks of more than 64 items too.
+/// Each with its calls, and whether it takes optional items too.
 const THEM: &[(&str, [Call; 4], bool)] = &[
     ("library", LIBRARY, true),
     ("by hand", HAND, true),
@@ -75,21 +72,19 @@ impl Desk<'_> {
     fn new(who: &Instance) -> Desk<'_> {
         let mut d = Desk {
             who,
-            #[cfg(old)]
-            narrow: who.narrow().unwrap_or_default(),
             table: vec![0; 1 + 3 * who.nodes],
             answer: 0,
             work: vec![1; 4 * who.places],
             page: vec![0; 64],
         };
-        d.answer = ffi::cover(who.m, who.words(), &mut d.table, &who.all(), u32::MAX, &mut d.work).answer;
+        d.answer = ffi::cover(who.week(), &mut d.table, &who.all(), u32::MAX, &mut d.work).answer;
         assert_eq!(LIBRARY[1](&mut d, 0), who.count);
         d
     }
 
-    /// Those who take a week as wide as this one.
+    /// Those who take such a week.
     fn able(&self) -> Vec<usize> {
-        (0..THEM.len()).filter(|&i| THEM[i].2 || self.who.m <= 64).collect()
+        (0..THEM.len()).filter(|&i| THEM[i].2 || self.who.plain()).collect()
     }
 
     /// The i-th of the k that are picked.

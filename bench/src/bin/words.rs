@@ -86,7 +86,7 @@ fn one(depth: usize, words: usize, draw: u64) -> (f64, u32) {
     let nodes = layers.table[0];
     let mut work = vec![1; words];
     let started = Instant::now();
-    let r = ffi::combine(1, 64, &packages, &mut layers.table, a, b, &mut work);
+    let r = ffi::combine(1, ffi::Week::plain(64, &packages), &mut layers.table, a, b, &mut work);
     assert_eq!((r.refusal, r.answer), (0, 0), "the two answers share no timetable");
     (started.elapsed().as_secs_f64(), nodes)
 }
