@@ -185,7 +185,7 @@ mogedorn_bids mogedorn_read_bids(const uint8_t *file, size_t file_len, uint64_t 
    week = {}; and then week.m = .., and so on. */
 typedef struct {
     uint32_t m;
-    const uint64_t *packages; /* may be null where packages_len is 0 */
+    const uint64_t *packages; /* null: no packages, whatever packages_len says */
     size_t packages_len;
     uint64_t optional[3];     /* all zeros: no item is optional */
 } mogedorn_week;
@@ -199,7 +199,7 @@ static inline const uint64_t *mogedorn_week_packages(const mogedorn_week *week) 
 }
 
 /* The arguments that a week stands for. */
-#define MOGEDORN_LENT(week) (week)->m, mogedorn_week_packages(week), (week)->packages_len, (week)->optional
+#define MOGEDORN_LENT(week) (week)->m, mogedorn_week_packages(week), (week)->packages ? (week)->packages_len : 0, (week)->optional
 
 static inline uint32_t mogedorn_week_check(const mogedorn_week *week, const uint32_t *table, size_t table_len) {
     return mogedorn_check(MOGEDORN_LENT(week), table, table_len);
