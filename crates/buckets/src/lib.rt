@@ -1,5 +1,5 @@
 // A chained bucket index in one array: for each bucket its greatest entry, and behind these, for each entry, the greatest entry of its bucket below it; 0 is none.
-// It knows nothing of what the entries are: the nodes of a table by a hash, the packages by their lowest compulsory item.
+// It knows nothing of what the entries are: the nodes of a table by a hash, the packages by their earliest compulsory item.
 ghost use mathlib.Core.Path.{_≡_};
 ghost use Prim.Native.Nat.{_+_, _<_};
 ghost use lib.ListN.{length};
