@@ -1,6 +1,6 @@
 -- Facts about sets, one time each, over a list of words of any length: `valueOf ws` is the set that the words ws are, lowest first. The functions of
 -- src/ cite them at a list of three. Assumes nothing.
-use mathlib.Core.Path.{_≡_, refl, sym, ap, ap₂, _∙_}
+use mathlib.Core.Path.{_≡_, refl, sym, ap, _∙_}
 use mathlib.Core.Bool.{Bool, true, false, _&&_, and-comm}
 use mathlib.Core.List.{List, [], _∷_}
 use Prim.Native.Nat.{ℕ, zero, suc, _+_, _-_, _*_, _/_, _%_, _^_, _≤_, _<_, min, zero-le}
@@ -8,14 +8,14 @@ use mathlib.Core.Logic.{⊎-elim}
 use native.Mathlib.Nat.{zero-add, eq-zero-or-pos, zero-lt-suc, min-eq-left, min-eq-right}
 use native.Mathlib.Omega.{arith}
 use lib.Dec.{eqb, ltb}
-use lib.ListN.{length, getD}
+use lib.ListN.{length, getD, replicate}
 use lib.Pow.{pow-pos, pow-add, pow-mono}
 use borrow.Author.Tests.{ltb-true, ltb-false}
 use Rattle.base.proofs.Bools.{same-test, by-test, and-left, and-right, and-both, eqb-same}
-use Rattle.itemset.specs.Items.{holds, insideb, without, belowb, size, lowest}
+use Rattle.itemset.specs.Items.{holds, insideb, without, union, belowb, size, lowest}
 use Rattle.itemset.specs.Words.{width, valueOf}
-use Rattle.itemset.proofs.Laws.{holds-none, inside-refl, without-self, below-lt, lt-below, size-zero}
-use Rattle.itemset.proofs.Words.{holds-low, holds-high, eqb-cat, inside-cat, without-cat, size-cat, lowest-low, lowest-high}
+use Rattle.itemset.proofs.Laws.{holds-none, inside-refl, without-self, union-none, below-lt, lt-below, size-zero}
+use Rattle.itemset.proofs.Words.{holds-low, holds-high, eqb-cat, inside-cat, without-cat, union-cat, size-cat, lowest-low, lowest-high}
 
 pub width-is : width ≡ 192
 unfolding width
@@ -87,18 +87,40 @@ inside-words r = every-words insideb (inside-refl 0) (λ p q a b. inside-cat 64 
 pub same-words : {vs ws : List ℕ} → Pairs vs ws → eqb (valueOf vs) (valueOf ws) ≡ every eqb vs ws
 same-words r = every-words eqb (eqb-same 0) (λ p q a b. eqb-cat 64 p q a b) r
 
--- ---- the difference, word by word
+-- ---- the difference and the union, word by word
 
 unfoldable pub zip : (ℕ → ℕ → ℕ) → List ℕ → List ℕ → List ℕ
 zip f [] ws = []
 zip f (v ∷ vs) [] = []
 zip f (v ∷ vs) (w ∷ ws) = f v w ∷ zip f vs ws
 
-pub without-words : {qs ps : List ℕ} → Pairs qs ps → without (valueOf qs) (valueOf ps) ≡ valueOf (zip without qs ps)
+-- what goes block by block goes word by word
+zip-words : (f : ℕ → ℕ → ℕ) → f 0 0 ≡ 0
+    → ((a b p q : ℕ) → b < 2 ^ 64 → q < 2 ^ 64 → f (a * 2 ^ 64 + b) (p * 2 ^ 64 + q) ≡ f a p * 2 ^ 64 + f b q)
+    → {vs ws : List ℕ} → Pairs vs ws → f (valueOf vs) (valueOf ws) ≡ valueOf (zip f vs ws)
 unfolding valueOf zip
-without-words end = without-self 0
-without-words (pair {v} {w} {vs} {ws} hv hw r) =
-    without-cat 64 (valueOf vs) v (valueOf ws) w hv hw ∙ ap (λ (n : ℕ). n * 2 ^ 64 + without v w) (without-words r)
+zip-words f z s end = z
+zip-words f z s (pair {v} {w} {vs} {ws} hv hw r) =
+    s (valueOf vs) v (valueOf ws) w hv hw ∙ ap (λ (n : ℕ). n * 2 ^ 64 + f v w) (zip-words f z s r)
+
+pub without-words : {qs ps : List ℕ} → Pairs qs ps → without (valueOf qs) (valueOf ps) ≡ valueOf (zip without qs ps)
+without-words r = zip-words without (without-self 0) (λ a b p q. without-cat 64 a b p q) r
+
+pub union-words : {vs ws : List ℕ} → Pairs vs ws → union (valueOf vs) (valueOf ws) ≡ valueOf (zip union vs ws)
+union-words r = zip-words union (union-none 0) (λ a b p q. union-cat 64 a b p q) r
+
+-- ---- the set of one item: its word has one bit, and those below and above are 0
+
+pub single-here : (i n : ℕ) → valueOf (2 ^ i ∷ replicate n 0) ≡ 2 ^ i
+single-here i n = value-first (2 ^ i) (replicate n 0) (zero-words n)
+  where
+    zero-words : (n : ℕ) → valueOf (replicate n 0) ≡ 0
+    zero-words zero = value-none
+    zero-words (suc n) = value-first 0 (replicate n 0) (zero-words n)
+
+pub single-next : (i j : ℕ) (ws : List ℕ) → i ≡ 64 + j → valueOf ws ≡ 2 ^ j → valueOf (0 ∷ ws) ≡ 2 ^ i
+unfolding valueOf
+single-next i j ws e h = omega (arith, pow-add 2 64 j, ap (λ (k : ℕ). 2 ^ k) e)
 
 -- ---- item i is bit i % 64 of word i / 64
 

@@ -54,6 +54,43 @@ pub fn without(a: Items, p: Items) -> Items
     }
 }
 
+// The items of x and those of y.
+pub fn union(x: Items, y: Items) -> Items
+    ensures { λ r. ⌜ value r ≡ I.union (value x) (value y) ⌝ }
+{
+    Items {
+        w0: x.w0 | y.w0,
+        w1: x.w1 | y.w1,
+        w2: x.w2 | y.w2,
+    }
+}
+
+// The set of item i alone.
+pub fn single(i: u32) -> Items
+    requires { ⌜ i < width ⌝ }
+    ensures { λ r. ⌜ value r ≡ 2 ^ i ⌝ }
+{
+    if i < 64 {
+        return Items {
+            w0: 1u64 << i,
+            w1: 0,
+            w2: 0,
+        };
+    }
+    if i < 128 {
+        return Items {
+            w0: 0,
+            w1: 1u64 << (i - 64),
+            w2: 0,
+        };
+    }
+    Items {
+        w0: 0,
+        w1: 0,
+        w2: 1u64 << (i - 128),
+    }
+}
+
 // Word j of x.
 fn word(x: Items, j: u32) -> u64
     requires { ⌜ j < 3 ⌝ }
