@@ -7,27 +7,27 @@ use Prim.Native.Nat.{ℕ, zero, suc, _^_, _≤_, _<_}
 use native.Mathlib.Nat.{le-refl, eq-or-lt-of-le, not-suc-le-zero, le-of-suc-le-suc}
 use native.Mathlib.Omega.{arith}
 use lib.Dec.{eqb, leb}
-use borrow.Author.Tests.{eqb-true, eq-eqb, leb-true, le-leb}
-use Rattle.itemset.specs.Items.{holds, insideb, without}
+use borrow.Author.Tests.{eqb-true, eq-eqb, leb-true, le-leb, not-true}
+use Rattle.itemset.specs.Items.{holds, insideb, without, lowest}
 use Rattle.itemset.specs.Words.{width}
 use Rattle.base.proofs.Bools.{by-test, clash, same-test, and-left, and-right}
-use Rattle.itemset.proofs.Laws.{holds-lt, holds-without, inside-holds, holds-inside-all, inside-trans, without-inside, without-apart, without-either}
-use Rattle.exact_cover.specs.Problem.{Problem, row, lead, done}
+use Rattle.itemset.proofs.Laws.{holds-lt, holds-without, inside-holds, holds-inside-all, inside-trans, without-inside, without-apart, without-either, lowest-holds}
+use Rattle.exact_cover.specs.Problem.{Problem, row, compulsory, done}
 use Rattle.exact_cover.specs.Cover.{holders, allInside, takes, once, covers}
-use Rattle.exact_cover.proofs.Lead.{done-optional, lead-holds, lead-compulsory, lead-lt}
+use Rattle.exact_cover.proofs.Lead.{done-optional, open-due}
 
 module _ (Q : Problem) where
   -- ---- a count of holders
 
-  holders-yes : (i p : ℕ) (t : List ℕ) → holds i (row Q p) ≡ true → holders Q i (p ∷ t) ≡ suc (holders Q i t)
+  pub holders-yes : (i p : ℕ) (t : List ℕ) → holds i (row Q p) ≡ true → holders Q i (p ∷ t) ≡ suc (holders Q i t)
   unfolding holders
   holders-yes i p t e = rw (e, holders)
 
-  holders-not : (i p : ℕ) (t : List ℕ) → holds i (row Q p) ≡ false → holders Q i (p ∷ t) ≡ holders Q i t
+  pub holders-not : (i p : ℕ) (t : List ℕ) → holds i (row Q p) ≡ false → holders Q i (p ∷ t) ≡ holders Q i t
   unfolding holders
   holders-not i p t e = rw (e, holders)
 
-  holders-nil : (i : ℕ) → holders Q i [] ≡ 0
+  pub holders-nil : (i : ℕ) → holders Q i [] ≡ 0
   unfolding holders
   holders-nil i = refl
 
@@ -42,11 +42,11 @@ module _ (Q : Problem) where
 
   -- ---- how many packages an item takes
 
-  takes-optional : (i n : ℕ) → holds i (Q .optional) ≡ true → takes Q i n ≡ leb n 1
+  pub takes-optional : (i n : ℕ) → holds i (Q .optional) ≡ true → takes Q i n ≡ leb n 1
   unfolding takes
   takes-optional i n y = rw (y, takes)
 
-  takes-compulsory : (i n : ℕ) → holds i (Q .optional) ≡ false → takes Q i n ≡ eqb n 1
+  pub takes-compulsory : (i n : ℕ) → holds i (Q .optional) ≡ false → takes Q i n ≡ eqb n 1
   unfolding takes
   takes-compulsory i n y = rw (y, takes)
 
@@ -110,15 +110,15 @@ module _ (Q : Problem) where
 
   -- ---- `covers`
 
-  covers-inside : (D : ℕ) (t : List ℕ) → covers Q D t ≡ true → allInside Q D t ≡ true
+  pub covers-inside : (D : ℕ) (t : List ℕ) → covers Q D t ≡ true → allInside Q D t ≡ true
   unfolding covers
   covers-inside D t h = and-left (allInside Q D t) (once Q width D t) h
 
-  covers-takes : (D : ℕ) (t : List ℕ) → covers Q D t ≡ true → (i : ℕ) → i < width → holds i D ≡ true → takes Q i (holders Q i t) ≡ true
+  pub covers-takes : (D : ℕ) (t : List ℕ) → covers Q D t ≡ true → (i : ℕ) → i < width → holds i D ≡ true → takes Q i (holders Q i t) ≡ true
   unfolding covers
   covers-takes D t h = once-takes width D t (and-right (allInside Q D t) (once Q width D t) h)
 
-  to-covers : (D : ℕ) (t : List ℕ) → allInside Q D t ≡ true → ((i : ℕ) → i < width → holds i D ≡ true → takes Q i (holders Q i t) ≡ true) → covers Q D t ≡ true
+  pub to-covers : (D : ℕ) (t : List ℕ) → allInside Q D t ≡ true → ((i : ℕ) → i < width → holds i D ≡ true → takes Q i (holders Q i t) ≡ true) → covers Q D t ≡ true
   unfolding covers
   to-covers D t a h = ap₂ _&&_ a (takes-once width D t h)
 
@@ -181,7 +181,38 @@ module _ (Q : Problem) where
   nil-not D o w =
       by-test (covers Q D [])
       (λ h.
-      let i = lead Q D in
-      let y = sym (takes-compulsory i (holders Q i []) (lead-compulsory Q D o)) ∙ covers-takes D [] h i (lead-lt Q D o w) (lead-holds Q D o) in
+      let i = lowest (compulsory Q D) in
+      let b : holds i D && not (holds i (Q .optional)) ≡ true = sym (holds-without i D (Q .optional)) ∙ lowest-holds (compulsory Q D) (open-due Q D o) in
+      let d : holds i D ≡ true = and-left (holds i D) (not (holds i (Q .optional))) b in
+      let n : holds i (Q .optional) ≡ false = not-true (holds i (Q .optional)) (and-right (holds i D) (not (holds i (Q .optional))) b) in
+      let y = sym (takes-compulsory i (holders Q i []) n) ∙ covers-takes D [] h i (holds-lt width i w d) d in
       absurd (omega (arith, holders-nil i, eqb-true (holders Q i []) 1 y)))
       (λ h. h)
+
+-- ---- the order plays no part
+
+module _ (ps : List ℕ) (o : ℕ) (order order′ : List ℕ) where
+  abbrev inOrder : List ℕ → Problem
+  inOrder list = record { packages = ps; optional = o; order = list }
+
+  pub holders-any-order : (i : ℕ) (t : List ℕ) → holders (inOrder order) i t ≡ holders (inOrder order′) i t
+  unfolding holders
+  holders-any-order i [] = refl
+  holders-any-order i (p ∷ t) =
+      by-test (holds i (row (inOrder order) p)) (λ y. rw (y, holders) (ap suc (holders-any-order i t))) (λ n. rw (n, holders) (holders-any-order i t))
+
+  pub inside-any-order : (D : ℕ) (t : List ℕ) → allInside (inOrder order) D t ≡ allInside (inOrder order′) D t
+  unfolding allInside
+  inside-any-order D [] = refl
+  inside-any-order D (p ∷ t) = rw (inside-any-order D t)
+
+  once-any-order : (k D : ℕ) (t : List ℕ) → once (inOrder order) k D t ≡ once (inOrder order′) k D t
+  unfolding once takes
+  once-any-order zero D t = refl
+  once-any-order (suc i) D t =
+      ap₂ (λ (n : ℕ) (b : Bool). (not (holds i D) || takes (inOrder order′) i n) && b) (holders-any-order i t) (once-any-order i D t)
+
+  -- THEOREM: what covers D in one order covers it in every other
+  pub covers-any-order : (D : ℕ) (t : List ℕ) → covers (inOrder order) D t ≡ covers (inOrder order′) D t
+  unfolding covers
+  covers-any-order D t = ap₂ _&&_ (inside-any-order D t) (once-any-order width D t)

@@ -1,4 +1,7 @@
 pub mod Lists
+pub mod Orders
+pub mod PositionLaws
+pub mod LocateLaws
 pub mod Lead
 pub mod Covers
 pub mod Order
@@ -13,5 +16,8 @@ pub mod Roomy
 pub mod Loops
 pub mod Partial
 pub mod Trial
+pub mod Permuted
+pub mod PermutedSteps
+pub mod PlainOrder
 pub mod NoneOptional
 mod Examples

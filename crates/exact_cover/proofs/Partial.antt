@@ -15,14 +15,14 @@ use Rattle.itemset.proofs.Laws.{without-lt}
 use Rattle.zdd.specs.Table.{Family, fork, key, filter, elem}
 use Rattle.zdd.specs.Work.{From, Split}
 use Rattle.zdd.proofs.Member.{elem-in, from-of, fork-cases}
-use Rattle.exact_cover.specs.Problem.{Problem, row, done, Rows}
+use Rattle.exact_cover.specs.Problem.{Problem, row, span, done, Rows}
 use Rattle.exact_cover.specs.Cover.{covers, covering, fits, down, candidates, keysOf}
 use Rattle.exact_cover.specs.Recursion.{gather}
 use Rattle.exact_cover.proofs.Covers.{covers-cons}
 use Rattle.exact_cover.proofs.Lead.{part-lead}
 use Rattle.exact_cover.proofs.Order.{key-number}
 use Rattle.exact_cover.proofs.First.{fits-holds, fits-inside, apart}
-use Rattle.exact_cover.proofs.Listing.{covering-gather}
+use Rattle.exact_cover.proofs.Listing.{wide, covering-gather}
 use Rattle.exact_cover.proofs.Solve.{covering-member}
 use Rattle.exact_cover.proofs.Loops.{gather-take, gather-pass}
 
@@ -46,7 +46,7 @@ nothing-left : (Q : Problem) (A : ℕ) (acc : Family) → gather (begun Q A) (fi
 unfolding gather filter down
 nothing-left Q A acc = refl
 
-module _ (Q : Problem) (good : Rows Q) (A : ℕ) (w : A < 2 ^ width) (o : done Q A ≡ false) where
+module _ (Q : Problem) (good : Rows Q) (A : ℕ) (w : A < 2 ^ span Q) (o : done Q A ≡ false) where
   -- the covers of what a candidate leaves begin after it
   pub left-from : (p : ℕ) → p < length (Q .packages) → fits Q A p ≡ true → From (keysOf Q) (suc (key (keysOf Q) p)) (left Q A p)
   left-from p l f =
@@ -54,8 +54,8 @@ module _ (Q : Problem) (good : Rows Q) (A : ℕ) (w : A < 2 ^ width) (o : done Q
       let m = covering-member Q (without A (row Q p)) (q ∷ t) (good .few) .0 (elem-in (q ∷ t) (left Q A p) e) in
       let i : insideb (row Q q) (without A (row Q p)) ≡ true =
       and-left (insideb (row Q q) (without A (row Q p))) (covers Q (without (without A (row Q p)) (row Q q)) t)
-      (sym (covers-cons Q (without A (row Q p)) q t (without-lt width (row Q p) w)) ∙ m .1) in
-      lt-of-not-le (λ k. never i (apart Q good A p q o l (m .0 .0) k f)))
+      (sym (covers-cons Q (without A (row Q p)) q t (without-lt width (row Q p) (wide good w))) ∙ m .1) in
+      lt-of-not-le (λ k. never i (apart Q good A p q w o l (m .0 .0) k f)))
 
   -- what the trial has begins after the package that it comes to, where that is a candidate
   pub partial-from : (n : ℕ) (acc : Family) → n < length (Q .packages) → fits Q A n ≡ true → Partial Q A (suc n) acc → From (keysOf Q) (suc (key (keysOf Q) n)) acc
@@ -63,8 +63,8 @@ module _ (Q : Problem) (good : Rows Q) (A : ℕ) (w : A < 2 ^ width) (o : done Q
       from-of (keysOf Q) (suc (key (keysOf Q) n)) acc (λ q t e.
       let r = p .begins q t e in
       key-number Q (good .few) n q (r .0) (r .1)
-      (part-lead Q (row Q n) A (fits-inside Q A n f) o (fits-holds Q A n f)
-      ∙ sym (part-lead Q (row Q q) A (fits-inside Q A q (r .2)) o (fits-holds Q A q (r .2)))))
+      (part-lead Q (good .ordered) (row Q n) A w (fits-inside Q A n f) o (fits-holds Q A n f)
+      ∙ sym (part-lead Q (good .ordered) (row Q q) A w (fits-inside Q A q (r .2)) o (fits-holds Q A q (r .2)))))
 
   -- ---- the steps of the trial
 

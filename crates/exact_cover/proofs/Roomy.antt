@@ -1,6 +1,6 @@
 -- A memo that has a place for each number up to the set to cover: how many places it has besides that changes no step. Assumes nothing.
-use mathlib.Core.Path.{_≡_, refl, sym, ap, ap₂, _∙_}
-use mathlib.Core.Bool.{Bool, true, false, _||_}
+use mathlib.Core.Path.{_≡_, refl, sym, ap, _∙_}
+use mathlib.Core.Bool.{_||_}
 use mathlib.Core.List.{List, [], _∷_}
 use Prim.Native.Nat.{ℕ, zero, suc, _%_, _≤_, _<_}
 use native.Mathlib.Nat.{le-refl, mod-eq-of-lt}
@@ -14,7 +14,7 @@ use Rattle.base.proofs.Wiping.{zeros}
 use Rattle.itemset.specs.Items.{without, size}
 use Rattle.exact_cover.specs.Problem.{Problem, row, done}
 use Rattle.exact_cover.specs.Cover.{candidates}
-use Rattle.exact_cover.specs.Steps.{Walk, enter, store, known, each, visit, steps}
+use Rattle.exact_cover.specs.Steps.{Walk, enter, placeIn, store, known, each, visit, steps}
 use Rattle.exact_cover.proofs.Fuel.{visit-zero, visit-known, visit-new}
 
 without-le : (A x : ℕ) → without A x ≤ A
@@ -40,12 +40,12 @@ module _ (Q : Problem) (b P P′ : ℕ) (l : b < P) (l′ : b < P′) where
     there : A % P′ ≡ A
     there = mod-eq-of-lt (omega arith)
 
-    same-known : {w w′ : Walk} → Alike w w′ → known Q P A w ≡ known Q P′ A w′
+    same-known : {w w′ : Walk} → Alike w w′ → known Q (placeIn P) A w ≡ known Q (placeIn P′) A w′
     same-known {w} {w′} a =
         ap (λ (n : ℕ). done Q A || eqb n A)
         (ap (λ (j : ℕ). getD (w .memo) j 0) here ∙ a .keys A h ∙ ap (λ (j : ℕ). getD (w′ .memo) j 0) (sym there))
 
-    alike-store : {w w′ : Walk} → Alike w w′ → Alike (store P A w) (store P′ A w′)
+    alike-store : {w w′ : Walk} → Alike w w′ → Alike (store (placeIn P) A w) (store (placeIn P′) A w′)
     alike-store {w} {w′} a = record {
       entries = a .entries;
       first = length-set (w .memo) (A % P) A ∙ a .first;
@@ -64,13 +64,13 @@ module _ (Q : Problem) (b P P′ : ℕ) (l : b < P) (l′ : b < P′) where
   alike-each f g h [] w w′ a = a
   alike-each f g h (p ∷ ps) w w′ a = alike-each f g h ps (f p w) (g p w′) (h p w w′ a)
 
-  alike-visit : (d A : ℕ) → A ≤ b → (w w′ : Walk) → Alike w w′ → Alike (visit d Q P A w) (visit d Q P′ A w′)
-  alike-visit zero A h w w′ a = rw (visit-zero Q P A w, visit-zero Q P′ A w′) (alike-enter a)
+  alike-visit : (d A : ℕ) → A ≤ b → (w w′ : Walk) → Alike w w′ → Alike (visit d Q (placeIn P) A w) (visit d Q (placeIn P′) A w′)
+  alike-visit zero A h w w′ a = rw (visit-zero Q (placeIn P) A w, visit-zero Q (placeIn P′) A w′) (alike-enter a)
   alike-visit (suc d) A h w w′ a =
-      by-test (known Q P A w)
-      (λ t. rw (visit-known d Q P A w t, visit-known d Q P′ A w′ (sym (same-known A h a) ∙ t)) (alike-enter a))
-      (λ t. rw (visit-new d Q P A w t, visit-new d Q P′ A w′ (sym (same-known A h a) ∙ t))
-      (alike-store A h (alike-each (λ (p : ℕ). visit d Q P (without A (row Q p))) (λ (p : ℕ). visit d Q P′ (without A (row Q p)))
+      by-test (known Q (placeIn P) A w)
+      (λ t. rw (visit-known d Q (placeIn P) A w t, visit-known d Q (placeIn P′) A w′ (sym (same-known A h a) ∙ t)) (alike-enter a))
+      (λ t. rw (visit-new d Q (placeIn P) A w t, visit-new d Q (placeIn P′) A w′ (sym (same-known A h a) ∙ t))
+      (alike-store A h (alike-each (λ (p : ℕ). visit d Q (placeIn P) (without A (row Q p))) (λ (p : ℕ). visit d Q (placeIn P′) (without A (row Q p)))
       (λ p v v′ e. alike-visit d (without A (row Q p)) (omega (arith, without-le A (row Q p))) v v′ e)
       (candidates Q A) (enter w) (enter w′) (alike-enter a))))
 

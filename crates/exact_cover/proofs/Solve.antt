@@ -8,11 +8,10 @@ use native.Mathlib.Nat.{le-refl}
 use native.Mathlib.Omega.{arith}
 use lib.ListN.{length}
 use Rattle.itemset.specs.Items.{without, size}
-use Rattle.itemset.specs.Words.{width}
 use Rattle.base.proofs.Bools.{by-test}
 use Rattle.itemset.proofs.Laws.{without-lt}
 use Rattle.zdd.specs.Table.{sets}
-use Rattle.exact_cover.specs.Problem.{Problem, row, done, Rows}
+use Rattle.exact_cover.specs.Problem.{Problem, row, span, done, Rows}
 use Rattle.exact_cover.specs.Cover.{covers, covering, candidates, keysOf}
 use Rattle.exact_cover.specs.Recursion.{Ascends, gather, solve}
 use Rattle.exact_cover.proofs.Lists.{filter-in, in-filter}
@@ -51,7 +50,7 @@ unfolding solve
 solve-some d Q A e = rw (e, solve)
 
 module _ (Q : Problem) (good : Rows Q) where
-  solve-more : (d A : ℕ) → A < 2 ^ width → size A ≤ d → solve d Q A ≡ covering Q A
+  solve-more : (d A : ℕ) → A < 2 ^ span Q → size A ≤ d → solve d Q A ≡ covering Q A
   solve-more zero A w h = solve-zero Q A ∙ sym (covering-done Q good A w (size-done Q A h))
   solve-more (suc d) A w h =
       by-test (done Q A)
@@ -61,8 +60,8 @@ module _ (Q : Problem) (good : Rows Q) where
       (λ (p : ℕ). map (λ (t : List ℕ). p ∷ t) (covering Q (without A (row Q p)))) (candidates Q A) []
       (λ p m.
       let l : size (without A (row Q p)) < size A = candidate-falls Q A m in
-      ap (map (λ (t : List ℕ). p ∷ t)) (solve-more d (without A (row Q p)) (without-lt width (row Q p) w) (omega arith)))
+      ap (map (λ (t : List ℕ). p ∷ t)) (solve-more d (without A (row Q p)) (without-lt (span Q) (row Q p) w) (omega arith)))
       ∙ sym (covering-gather Q good A w e))
 
-  pub solve-covering : (A : ℕ) → A < 2 ^ width → solve (size A) Q A ≡ covering Q A
+  pub solve-covering : (A : ℕ) → A < 2 ^ span Q → solve (size A) Q A ≡ covering Q A
   solve-covering A w = solve-more (size A) A w (le-refl (size A))

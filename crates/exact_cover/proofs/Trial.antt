@@ -6,12 +6,11 @@ use mathlib.Core.List.{List, []}
 use Prim.Native.Nat.{ℕ, suc, _+_, _^_, _≤_, _<_}
 use native.Mathlib.Omega.{arith}
 use lib.ListN.{length}
-use Rattle.itemset.specs.Words.{width}
 use Rattle.zdd.specs.Table.{Node, Family, fork, family, Nodes}
 use Rattle.zdd.proofs.Grow.{family-zero}
 use Rattle.zdd.specs.Work.{Got}
 use Rattle.zdd.proofs.Got.{got-eq, got-there, got-split-lo, got-none-lo}
-use Rattle.exact_cover.specs.Problem.{Problem, done, Rows}
+use Rattle.exact_cover.specs.Problem.{Problem, span, done, Rows}
 use Rattle.exact_cover.specs.Cover.{covering, fits, keysOf}
 use Rattle.exact_cover.proofs.Partial.{Partial, left, partial-start, partial-skip, partial-take, partial-split, partial-end}
 
@@ -20,7 +19,7 @@ pub record Trial (Q : Problem) (A c : ℕ) (ns : List Node) (b : Bool) (n l : �
   pub part : Partial Q A n acc
   pub got : Got (keysOf Q) c ns b l ns′ b′ acc
 
-module _ (Q : Problem) (good : Rows Q) (A : ℕ) (w : A < 2 ^ width) (o : done Q A ≡ false) {c : ℕ} {ns : List Node} {b : Bool} where
+module _ (Q : Problem) (good : Rows Q) (A : ℕ) (w : A < 2 ^ span Q) (o : done Q A ≡ false) {c : ℕ} {ns : List Node} {b : Bool} where
   -- nothing is tried: the number 0
   pub trial-start : Nodes (keysOf Q) ns → Trial Q A c ns b (length (Q .packages)) 0 ns b
   trial-start n = record { acc = []; part = partial-start Q good A w o; got = got-eq (family-zero ns) (got-there c b 0 n (omega arith)) }

@@ -22,16 +22,16 @@ unfolding each
 each-shift f c [] w h = refl
 each-shift f c (p ∷ ps) w h = ap (each f ps) (h p w) ∙ each-shift f c ps (f p w) h
 
-visit-shift : (d : ℕ) (Q : Problem) (P A c : ℕ) (w : Walk) → visit d Q P A (shift c w) ≡ shift c (visit d Q P A w)
-visit-shift zero Q P A c w = visit-zero Q P A (shift c w) ∙ enter-shift c w ∙ ap (shift c) (sym (visit-zero Q P A w))
-visit-shift (suc d) Q P A c w =
-    by-test (known Q P A w)
-    (λ t. visit-known d Q P A (shift c w) t ∙ enter-shift c w ∙ ap (shift c) (sym (visit-known d Q P A w t)))
-    (λ t. visit-new d Q P A (shift c w) t
-    ∙ ap (λ (v : Walk). store P A (each (λ (p : ℕ). visit d Q P (without A (row Q p))) (candidates Q A) v)) (enter-shift c w)
-    ∙ ap (store P A) (each-shift (λ (p : ℕ). visit d Q P (without A (row Q p))) c (candidates Q A) (enter w) (λ p v. visit-shift d Q P (without A (row Q p)) c v))
-    ∙ ap (shift c) (sym (visit-new d Q P A w t)))
+visit-shift : (d : ℕ) (Q : Problem) (h : ℕ → ℕ) (A c : ℕ) (w : Walk) → visit d Q h A (shift c w) ≡ shift c (visit d Q h A w)
+visit-shift zero Q h A c w = visit-zero Q h A (shift c w) ∙ enter-shift c w ∙ ap (shift c) (sym (visit-zero Q h A w))
+visit-shift (suc d) Q h A c w =
+    by-test (known Q h A w)
+    (λ t. visit-known d Q h A (shift c w) t ∙ enter-shift c w ∙ ap (shift c) (sym (visit-known d Q h A w t)))
+    (λ t. visit-new d Q h A (shift c w) t
+    ∙ ap (λ (v : Walk). store h A (each (λ (p : ℕ). visit d Q h (without A (row Q p))) (candidates Q A) v)) (enter-shift c w)
+    ∙ ap (store h A) (each-shift (λ (p : ℕ). visit d Q h (without A (row Q p))) c (candidates Q A) (enter w) (λ p v. visit-shift d Q h (without A (row Q p)) c v))
+    ∙ ap (shift c) (sym (visit-new d Q h A w t)))
 
-pub search-shift : (Q : Problem) (P A c : ℕ) (w : Walk) → search Q P A (shift c w) ≡ shift c (search Q P A w)
+pub search-shift : (Q : Problem) (h : ℕ → ℕ) (A c : ℕ) (w : Walk) → search Q h A (shift c w) ≡ shift c (search Q h A w)
 unfolding search
-search-shift Q P A c w = visit-shift (size A) Q P A c w
+search-shift Q h A c w = visit-shift (size A) Q h A c w

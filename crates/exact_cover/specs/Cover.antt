@@ -11,16 +11,17 @@ use lib.ListN.{length, take}
 use Rattle.itemset.specs.Items.{holds, insideb}
 use Rattle.itemset.specs.Words.{width}
 use Rattle.zdd.specs.Table.{Family, filter, sets}
-use Rattle.exact_cover.specs.Problem.{Problem, row, lead}
+use Rattle.exact_cover.specs.Problem.{Problem, row, lead, leader}
 
 -- ---- precedence
 
--- package p comes before q: its lowest compulsory item is lower, or these are equal and p is lower [document 01: precedence; document 02, No. 1]
+-- package p comes before q: its earliest compulsory item comes earlier in the order, or these are equal and p is lower [document 01: precedence; document 02,
+-- No. 1 and 4]. An item is known here by its position (`lead`)
 abbrev pub Before : Problem → ℕ → ℕ → Type 0
 Before Q p q = (lead Q (row Q p) < lead Q (row Q q)) ⊎ ((lead Q (row Q p) ≡ lead Q (row Q q)) × (p < q))
 
--- the keys of packages whose numbers start at n: lowest compulsory item × 512 + number. Numbers are below 512, so the order of the keys is `Before`
--- (`proofs/Order.antt`, `key-before`); `zdd` knows packages by their keys only
+-- the keys of packages whose numbers start at n: position of the earliest compulsory item × 512 + number. Numbers are below 512, so the order of the keys is
+-- `Before` (`proofs/Order.antt`, `key-before`); `zdd` knows packages by their keys only
 unfoldable pub keysFrom : Problem → ℕ → List ℕ → List ℕ
 keysFrom Q n [] = []
 keysFrom Q n (x ∷ xs) = (lead Q x * 512 + n) ∷ keysFrom Q (suc n) xs
@@ -66,7 +67,7 @@ covering Q D = filter (covers Q D) (sets (keysOf Q))
 
 -- p holds the item at which the search of A goes on, and lies inside A
 unfoldable pub fits : Problem → ℕ → ℕ → Bool
-fits Q A p = holds (lead Q A) (row Q p) && insideb (row Q p) A
+fits Q A p = holds (leader Q A) (row Q p) && insideb (row Q p) A
 
 -- n-1 .. 0
 unfoldable pub down : ℕ → List ℕ
