@@ -1,11 +1,13 @@
 use Rattle.compile.proofs.TurnLaws.{turn-start, turn-later, turn-pass, turn-over, turn-none, turn-idle, turn-made, turn-done}
-use Rattle.compile.proofs.TurnLaws.{At, Turn, search-over, search-empty, search-hit, search-tried, at-first, at-falls, at-later, rest-is, rest-inside, rest-less, rest-place}
-use Rattle.exact_cover.proofs.Lead.{lead-is, lead-lt, open-due, done-found}
-use Rattle.exact_cover.specs.Problem.{problemOf, lead, done}
+use Rattle.compile.proofs.TurnLaws.{At, Turn, search-over, search-empty, search-hit, search-tried, at-first, at-falls, at-later, rest-is, rest-inside, rest-less}
+use Rattle.exact_cover.proofs.Lead.{lead-lt, open-due, done-found}
+use Rattle.exact_cover.proofs.Permuted.{plain-small, plain-lead}
+use Rattle.exact_cover.specs.Problem.{lead, done}
+use Rattle.exact_cover.specs.Positions.{inPlainOrder}
 use Rattle.itemset.proofs.Three.{known, items-lt}
 use Rattle.itemset.proofs.Lists.{width-is}
 use Rattle.itemset.specs.Items.{lowest}
-use Rattle.itemset.specs.Words.{value, valueOf}
+use Rattle.itemset.specs.Words.{value, valueOf, setsOf}
 use borrow.Author.Tests.{not-true, not-false, eqb-true, eqb-false}
 use native.Mathlib.Omega.{arith}
 use native.Mathlib.Nat.{mod-lt}
@@ -78,25 +80,25 @@ search-claims t = (
 search-returns : (t : ℕ) → search-lts.Need-returns (search-claims t) (search-at t) search′.Post
 search-returns t c =
     let pre = c .before .before .before .before .pre in
-    search-over (pre .1 .0) (pre .1 .1 .0) (value (c .before .before .before .before .args .items)) (omega (arith, c .if1 .taken)) _ _
+    search-over (pre .1 .0) (pre .1 .1 .0) (value (c .before .before .before .before .args .items)) _ (omega (arith, c .if1 .taken)) _ _
 
 search-returns-2 : (t : ℕ) → search-lts.Need-returns-2 (search-claims t) (search-at t) search′.Post
 search-returns-2 t c =
     let s = c .before .before .before .before .before .before .before in
     let x = s .args .items in
-    search-empty (s .pre .1 .0) (s .pre .1 .1 .0) (value x) _ (omega (arith, c .before .before .before .if1 .left)) refl (items-lt x (known x (s .good .1 .1 .1 .1 .1 .1 .1 .1 .1 .0)))
+    search-empty (s .pre .1 .0) (s .pre .1 .1 .0) (value x) _ _ (omega (arith, c .before .before .before .if1 .left)) refl
+    (plain-small (items-lt x (known x (s .good .1 .1 .1 .1 .1 .1 .1 .1 .1 .0))))
     (done-found _ _ (c .before .before .compulsory .ensures) (c .before .is-empty .ensures) ∙ c .if2 .taken)
 
 search-is-key-requires : (t : ℕ) → search-lts.Need-is-key-requires (search-claims t) (search-at t) search′.Post
 search-is-key-requires t c κs =
     let pre = c .before .before .before .before .before .before .before .before .pre in
-    (pre .1 .1 .0 .held .long, omega (arith, pre .1 .1 .1 .1, mod-lt (value (c .before .before .before .before .before .before .before .before .args .items)) (pre .1 .1 .0 .held .some)))
+    (pre .1 .1 .0 .held .long, pre .1 .1 .1 .1)
 
 search-number-requires : (t : ℕ) → search-lts.Need-number-requires (search-claims t) (search-at t) search′.Post
 search-number-requires t c κs =
     let pre = c .before .before .before .before .before .before .before .before .before .before .before .pre in
-    let given = c .before .before .before .before .before .before .before .before .before .before .before .args in
-    (pre .1 .1 .0 .held .long, omega (arith, pre .1 .1 .1 .1, mod-lt (value (given .items)) (pre .1 .1 .0 .held .some)))
+    (pre .1 .1 .0 .held .long, pre .1 .1 .1 .1)
 
 search-returns-3 : (t : ℕ) → search-lts.Need-returns-3 (search-claims t) (search-at t) search′.Post
 search-returns-3 t c =
@@ -107,14 +109,14 @@ search-returns-3 t c =
     let due = c .before .before .before .before .before .before .before .compulsory in
     let if1 = c .before .before .before .before .before .before .before .before .if1 in
     let s = c .before .before .before .before .before .before .before .before .before .before .before .before in
-    search-hit (s .pre .1 .0) (s .pre .1 .1 .0) (value (s .args .items)) (s .args .at) _ _ (omega (arith, if1 .left)) refl
-    (done-found _ _ (due .ensures) (is-empty .ensures) ∙ if2 .left) (s .pre .1 .1 .1 .1) (eqb-true _ _ (sym (is-key .ensures) ∙ if3 .taken)) (c .number .ensures)
+    search-hit (s .pre .1 .0) (s .pre .1 .1 .0) (value (s .args .items)) (s .args .at) (s .pre .1 .1 .1 .1) _ _ (omega (arith, if1 .left)) refl
+    (done-found _ _ (due .ensures) (is-empty .ensures) ∙ if2 .left) (eqb-true _ _ (sym (is-key .ensures) ∙ if3 .taken)) (c .number .ensures)
 
 search-lowest-requires : (t : ℕ) → search-lts.Need-lowest-requires (search-claims t) (search-at t) search′.Post
 search-lowest-requires t c κs =
     let due = c .before .before .before .before .before .compulsory in
     let s = c .before .before .before .before .before .before .before .before .before .before in
-    let Q = problemOf (s .args .packs .now) (valueOf (s .args .optional .now)) in
+    let Q = inPlainOrder (setsOf (s .args .packs .now)) (valueOf (s .args .optional .now)) in
     rw (due .ensures) (open-due Q (value (s .args .items)) (done-found Q _ (due .ensures) (c .before .before .before .before .is-empty .ensures) ∙ c .before .before .before .if2 .left))
 
 search-trial-requires : (t : ℕ) → search-lts.Need-trial-requires (search-claims t) (search-at t) search′.Post
@@ -127,10 +129,11 @@ search-trial-requires t c κs =
     let if1 = c .before .before .before .before .before .before .before .before .before .before .before .if1 in
     let s = c .before .before .before .before .before .before .before .before .before .before .before .before .before .before .before in
     let q = s .pre .1 in
-    let Q = problemOf (s .args .packs .now) (valueOf (s .args .optional .now)) in
-    let A = value (s .args .items) in
+    let Q = inPlainOrder (setsOf (s .args .packs .now)) (valueOf (s .args .optional .now)) in
+    let x = s .args .items in
+    let A = value x in
     let o : done Q A ≡ false = done-found Q A (due .ensures) (is-empty .ensures) ∙ if2 .left in
-    let e : wide .result ≡ lead Q A = wide .ensures ∙ lowest′ .ensures .0 ∙ ap lowest (due .ensures) ∙ sym (lead-is Q A) in
+    let e : wide .result ≡ lead Q A = wide .ensures ∙ lowest′ .ensures .0 ∙ ap lowest (due .ensures) ∙ sym (plain-lead _ _ A (items-lt x (known x (s .good .1 .1 .1 .1 .1 .1 .1 .1 .1 .0))) o) in
     (omega (arith, s .pre .0), (q .0, (q .1 .0, (omega (arith, if1 .left), (o, q .1 .1 .1, e)))))
 
 search-same-length-2 : (t : ℕ) → search-lts.Need-same-length-2 (search-claims t) (search-at t) search′.Post
@@ -148,13 +151,13 @@ search-returns-4 t c =
     let is-empty = c .before .before .before .before .before .before .before .before .before .before .before .before .before .before .is-empty in
     let due = c .before .before .before .before .before .before .before .before .before .before .before .before .before .before .before .compulsory in
     let s = c .before .before .before .before .before .before .before .before .before .before .before .before .before .before .before .before .before .before .before .before in
-    search-tried (s .pre .1 .0) (s .pre .1 .1 .0) (value (s .args .items)) (s .args .at) _ refl (done-found _ _ (due .ensures) (is-empty .ensures) ∙ if2 .left)
-    (s .pre .1 .1 .1 .1) (eqb-false _ _ (sym (is-key .ensures) ∙ if3 .left)) (trial .ensures)
+    search-tried (s .pre .1 .0) (s .pre .1 .1 .0) (value (s .args .items)) (s .args .at) (s .pre .1 .1 .1 .1) _ refl
+    (done-found _ _ (due .ensures) (is-empty .ensures) ∙ if2 .left) (eqb-false _ _ (sym (is-key .ensures) ∙ if3 .left)) (trial .ensures)
 
 abbrev trial-Inv-loop : trial-lts.InvT-loop
 trial-Inv-loop packs optional leads homes t₀ index₀ memo₀ places at items low limit p₀ run₀ t index memo p run =
-    Turn (problemOf packs (valueOf optional)) places (value items) limit t₀ memo₀ (run₀ .steps) (run₀ .full) t index memo p (run .answer) (run .steps) (run .full)
-    × (At (problemOf packs (valueOf optional)) (value items) p × (run .over ≡ false))
+    Turn (inPlainOrder (setsOf packs) (valueOf optional)) places homes at (value items) limit t₀ memo₀ (run₀ .steps) (run₀ .full) t index memo p (run .answer) (run .steps) (run .full)
+    × (At (inPlainOrder (setsOf packs) (valueOf optional)) (value items) p × (run .over ≡ false))
 
 abbrev trial-μ-loop : trial-lts.MeasureT-loop
 trial-μ-loop packs optional leads homes t₀ index₀ memo₀ places at items low limit p₀ run₀ t index memo p run =
@@ -186,7 +189,9 @@ low-lt : (t : ℕ) (s : trial-lts.Start (trial-claims t) (trial-at t) trial.Post
 low-lt t s =
     let x = s .args .items in
     let q = s .pre .1 .1 .1 .1 in
-    omega (arith, width-is, q .2, lead-lt _ (value x) (q .0) (items-lt x (known x (s .good .1 .1 .1 .1 .1 .1 .1 .1 .1 .0))))
+    let rows = s .pre .1 .0 .rows in
+    let small = plain-small (items-lt x (known x (s .good .1 .1 .1 .1 .1 .1 .1 .1 .1 .0))) in
+    omega (arith, width-is, q .2, lead-lt _ (value x) (rows .ordered) small (q .0), rows .narrow)
 
 trial-mul-p : (t : ℕ) → trial-lts.Need-mul-p (trial-claims t) (trial-at t) trial.Post trial-Inv-loop trial-μ-loop
 trial-mul-p t c = omega (arith, low-lt t (c .before .before .before))
@@ -199,9 +204,9 @@ trial-loop-holds t c =
     let s = c .before .before .before .before in
     let x = s .args .items in
     let q = s .pre .1 in
-    let small = items-lt x (known x (s .good .1 .1 .1 .1 .1 .1 .1 .1 .1 .0)) in
+    let small = plain-small (items-lt x (known x (s .good .1 .1 .1 .1 .1 .1 .1 .1 .1 .0))) in
     rw (q .1 .1 .1 .2)
-    (turn-start (q .0) (value x) small (q .1 .1 .1 .0) (q .1 .0) (q .1 .1 .0), (at-first (q .0) (value x) small (q .1 .1 .1 .0), refl))
+    (turn-start (q .0) (value x) (s .args .at) small (q .1 .1 .1 .0) (q .1 .0) (q .1 .1 .0), (at-first (q .0) (value x) (s .args .at) small (q .1 .1 .1 .0), refl))
 
 trial-items-requires : (t : ℕ) → trial-lts.Need-items-requires (trial-claims t) (trial-at t) trial.Post trial-Inv-loop trial-μ-loop
 trial-items-requires t c κs = omega (arith, c .wide .ensures, c .before .before .loop .inv .1 .0 .inside, c .before .loop-test .taken)
@@ -229,7 +234,7 @@ trial-loop-less t c =
     let s = c .before .before .before .before .before .before .before .before .before .before .before .before in
     let x = s .args .items in
     let q = s .pre .1 in
-    at-falls (q .0) (value x) (items-lt x (known x (s .good .1 .1 .1 .1 .1 .1 .1 .1 .1 .0))) (q .1 .1 .1 .0) (loop .p) (wide .result)
+    at-falls (q .0) (value x) (s .args .at) (plain-small (items-lt x (known x (s .good .1 .1 .1 .1 .1 .1 .1 .1 .1 .0)))) (q .1 .1 .1 .0) (loop .p) (wide .result)
     (omega (arith, wide .ensures, loop-test .taken)) (loop .inv .1 .0)
 
 trial-loop-again : (t : ℕ) → trial-lts.Need-loop-again (trial-claims t) (trial-at t) trial.Post trial-Inv-loop trial-μ-loop
@@ -239,11 +244,11 @@ trial-loop-again t c =
     let k = c .before .before .before .before .before .wide .result in
     let x = s .args .items in
     let q = s .pre .1 in
-    let small = items-lt x (known x (s .good .1 .1 .1 .1 .1 .1 .1 .1 .1 .0)) in
+    let small = plain-small (items-lt x (known x (s .good .1 .1 .1 .1 .1 .1 .1 .1 .1 .0))) in
     let e : l .p ≡ k + 1 = omega (arith, c .before .before .before .before .before .wide .ensures, c .before .before .before .before .before .before .loop-test .taken) in (
-      turn-pass (q .0) (value x) small (q .1 .1 .1 .0) (l .p) k e (l .inv .1 .0)
+      turn-pass (q .0) (value x) (s .args .at) small (q .1 .1 .1 .0) (l .p) k e (l .inv .1 .0)
           (rw (c .before .before .before .before .items .ensures) at (sym (c .before .inside .ensures) ∙ not-true (c .before .inside .result) (c .if1 .taken))) (l .inv .0),
-      (at-later (q .0) (value x) small (q .1 .1 .1 .0) (l .p) k e (l .inv .1 .0), l .inv .1 .1),
+      (at-later (q .0) (value x) (s .args .at) small (q .1 .1 .1 .0) (l .p) k e (l .inv .1 .0), l .inv .1 .1),
     )
 
 trial-place-without-requires : (t : ℕ) → trial-lts.Need-place-without-requires (trial-claims t) (trial-at t) trial.Post trial-Inv-loop trial-μ-loop
@@ -253,9 +258,9 @@ trial-place-without-requires t c κs =
     let loop = c .before .before .before .before .before .before .before .before .loop in
     let s = c .before .before .before .before .before .before .before .before .before .before .before .before .before in
     let q = s .pre .1 in
-    let l : wide .result < length (problemOf (s .args .packs .now) (valueOf (s .args .optional .now)) .packages) = omega (arith, wide .ensures, loop .inv .1 .0 .inside, loop-test .taken) in (
-      omega (arith, q .1 .1 .1 .1, mod-lt (value (s .args .items)) (q .1 .0 .held .some)),
-      rw (q .0 .home (wide .result) l) (mod-lt _ (q .1 .0 .held .some)),
+    let l : wide .result < length (inPlainOrder (setsOf (s .args .packs .now)) (valueOf (s .args .optional .now)) .packages) = omega (arith, wide .ensures, loop .inv .1 .0 .inside, loop-test .taken) in (
+      q .1 .1 .1 .1,
+      q .0 .home (wide .result) l,
     )
 
 trial-search-requires : (t : ℕ) → trial-lts.Need-search-requires (trial-claims t) (trial-at t) trial.Post trial-Inv-loop trial-μ-loop
@@ -273,18 +278,17 @@ trial-search-requires t c κs =
     let x = s .args .items in
     let q = s .pre .1 in
     let u = loop .inv .0 in
-    let small = items-lt x (known x (s .good .1 .1 .1 .1 .1 .1 .1 .1 .1 .0)) in
+    let small = plain-small (items-lt x (known x (s .good .1 .1 .1 .1 .1 .1 .1 .1 .1 .0))) in
     let e : loop .p ≡ k + 1 = omega (arith, wide .ensures, loop-test .taken) in
     let i = sym (inside .ensures) ∙ not-false (inside .result) (if1 .left) in (
-      omega (arith, s .pre .0, rest-less (q .0) (value x) small (q .1 .1 .1 .0) (loop .p) k e (loop .inv .1 .0) _ _ (items .ensures) (without .ensures) i),
+      omega (arith, s .pre .0, rest-less (q .0) (value x) (s .args .at) small (q .1 .1 .1 .0) (loop .p) k e (loop .inv .1 .0) _ _ (items .ensures) (without .ensures) i),
       (
         q .0,
         (
           record { sound = u .grown .sound; indexed = u .indexed; held = u .held },
           (
             u .within,
-            rest-place (q .0) (value x) small (q .1 .1 .1 .0) (loop .p) k e (loop .inv .1 .0) _ _ (items .ensures) (without .ensures) i
-                (s .args .at) _ _ (q .1 .0 .held .some) (q .1 .1 .1 .1) refl (place-without .ensures),
+            rw (place-without .ensures) (mod-lt _ (q .1 .0 .held .some)),
           ),
         ),
       ),
@@ -307,6 +311,7 @@ trial-same-length-2 t c =
 trial-returns : (t : ℕ) → trial-lts.Need-returns (trial-claims t) (trial-at t) trial.Post trial-Inv-loop trial-μ-loop
 trial-returns t c =
     let search′ = c .before .before .before .before .before .search in
+    let place-without = c .before .before .before .before .before .before .before .before .before .place-without in
     let without = c .before .before .before .before .before .before .before .before .before .before .without in
     let if1 = c .before .before .before .before .before .before .before .before .before .before .before .if1 in
     let inside = c .before .before .before .before .before .before .before .before .before .before .before .before .inside in
@@ -320,13 +325,13 @@ trial-returns t c =
     let k = wide .result in
     let x = s .args .items in
     let q = s .pre .1 in
-    let small = items-lt x (known x (s .good .1 .1 .1 .1 .1 .1 .1 .1 .1 .0)) in
+    let small = plain-small (items-lt x (known x (s .good .1 .1 .1 .1 .1 .1 .1 .1 .1 .0))) in
     let e : loop .p ≡ k + 1 = omega (arith, wide .ensures, loop-test .taken) in
     let a = loop .inv .1 .0 in
     let i = sym (inside .ensures) ∙ not-false (inside .result) (if1 .left) in
-    turn-over (q .0) (value x) small (q .1 .1 .1 .0) (loop .p) k _ e a
-    (rest-inside (q .0) (value x) small (q .1 .1 .1 .0) (loop .p) k e a _ _ (items .ensures) (without .ensures) i)
-    (rest-is (q .0) (value x) small (q .1 .1 .1 .0) (loop .p) k e a _ _ (items .ensures) (without .ensures) i)
+    turn-over (q .0) (value x) (s .args .at) small (q .1 .1 .1 .0) (loop .p) k _ _ e a
+    (rest-inside (q .0) (value x) (s .args .at) small (q .1 .1 .1 .0) (loop .p) k e a _ _ (items .ensures) (without .ensures) i)
+    (rest-is (q .0) (value x) (s .args .at) small (q .1 .1 .1 .0) (loop .p) k e a _ _ (items .ensures) (without .ensures) i) (place-without .ensures)
     (c .if2 .taken) (loop .inv .0) (search′ .ensures)
 
 trial-loop-less-2 : (t : ℕ) → trial-lts.Need-loop-less-2 (trial-claims t) (trial-at t) trial.Post trial-Inv-loop trial-μ-loop
@@ -339,12 +344,13 @@ trial-loop-less-2 t c =
     let s = mid .before .before .before .before .before .before .before .before .before .before .before in
     let x = s .args .items in
     let q = s .pre .1 in
-    at-falls (q .0) (value x) (items-lt x (known x (s .good .1 .1 .1 .1 .1 .1 .1 .1 .1 .0))) (q .1 .1 .1 .0) (loop .p) (wide .result)
+    at-falls (q .0) (value x) (s .args .at) (plain-small (items-lt x (known x (s .good .1 .1 .1 .1 .1 .1 .1 .1 .1 .0)))) (q .1 .1 .1 .0) (loop .p) (wide .result)
     (omega (arith, wide .ensures, loop-test .taken)) (loop .inv .1 .0)
 
 trial-loop-again-2 : (t : ℕ) → trial-lts.Need-loop-again-2 (trial-claims t) (trial-at t) trial.Post trial-Inv-loop trial-μ-loop
 trial-loop-again-2 t c =
     let search′ = c .before .before .before .before .before .before .search in
+    let place-without = c .before .before .before .before .before .before .before .before .before .before .place-without in
     let without = c .before .before .before .before .before .before .before .before .before .before .before .without in
     let if1 = c .before .before .before .before .before .before .before .before .before .before .before .before .if1 in
     let here = c .before .before .before .before .before .before .before .before .before .before .before .before .before in
@@ -357,16 +363,16 @@ trial-loop-again-2 t c =
     let k = wide .result in
     let x = s .args .items in
     let q = s .pre .1 in
-    let small = items-lt x (known x (s .good .1 .1 .1 .1 .1 .1 .1 .1 .1 .0)) in
+    let small = plain-small (items-lt x (known x (s .good .1 .1 .1 .1 .1 .1 .1 .1 .1 .0))) in
     let e : loop .p ≡ k + 1 = omega (arith, wide .ensures, loop-test .taken) in
     let a = loop .inv .1 .0 in
     let i = sym (inside .ensures) ∙ not-false (inside .result) (if1 .left) in (
-      turn-later (q .0) (value x) small (q .1 .1 .1 .0) (loop .p) k e a
-          (turn-none (q .0) (value x) small (q .1 .1 .1 .0) (loop .p) k _ e a
-          (rest-inside (q .0) (value x) small (q .1 .1 .1 .0) (loop .p) k e a _ _ (items .ensures) (without .ensures) i)
-          (rest-is (q .0) (value x) small (q .1 .1 .1 .0) (loop .p) k e a _ _ (items .ensures) (without .ensures) i)
+      turn-later (q .0) (value x) (s .args .at) small (q .1 .1 .1 .0) (loop .p) k e a
+          (turn-none (q .0) (value x) (s .args .at) small (q .1 .1 .1 .0) (loop .p) k _ _ e a
+          (rest-inside (q .0) (value x) (s .args .at) small (q .1 .1 .1 .0) (loop .p) k e a _ _ (items .ensures) (without .ensures) i)
+          (rest-is (q .0) (value x) (s .args .at) small (q .1 .1 .1 .0) (loop .p) k e a _ _ (items .ensures) (without .ensures) i) (place-without .ensures)
           (c .before .if2 .left) (loop .inv .0) (search′ .ensures) (c .if3 .taken)),
-      (at-later (q .0) (value x) small (q .1 .1 .1 .0) (loop .p) k e a, loop .inv .1 .1),
+      (at-later (q .0) (value x) (s .args .at) small (q .1 .1 .1 .0) (loop .p) k e a, loop .inv .1 .1),
     )
 
 trial-loop-less-3 : (t : ℕ) → trial-lts.Need-loop-less-3 (trial-claims t) (trial-at t) trial.Post trial-Inv-loop trial-μ-loop
@@ -379,13 +385,14 @@ trial-loop-less-3 t c =
     let s = mid .before .before .before .before .before .before .before .before .before .before .before .before in
     let x = s .args .items in
     let q = s .pre .1 in
-    at-falls (q .0) (value x) (items-lt x (known x (s .good .1 .1 .1 .1 .1 .1 .1 .1 .1 .0))) (q .1 .1 .1 .0) (loop .p) (wide .result)
+    at-falls (q .0) (value x) (s .args .at) (plain-small (items-lt x (known x (s .good .1 .1 .1 .1 .1 .1 .1 .1 .1 .0)))) (q .1 .1 .1 .0) (loop .p) (wide .result)
     (omega (arith, wide .ensures, loop-test .taken)) (loop .inv .1 .0)
 
 trial-loop-again-3 : (t : ℕ) → trial-lts.Need-loop-again-3 (trial-claims t) (trial-at t) trial.Post trial-Inv-loop trial-μ-loop
 trial-loop-again-3 t c =
     let if2 = c .before .before .if2 in
     let search′ = c .before .before .before .before .before .before .before .search in
+    let place-without = c .before .before .before .before .before .before .before .before .before .before .before .place-without in
     let without = c .before .before .before .before .before .before .before .before .before .before .before .before .without in
     let here = c .before .before .before .before .before .before .before .before .before .before .before .before .before in
     let if1 = here .if1 in
@@ -398,16 +405,16 @@ trial-loop-again-3 t c =
     let k = wide .result in
     let x = s .args .items in
     let q = s .pre .1 in
-    let small = items-lt x (known x (s .good .1 .1 .1 .1 .1 .1 .1 .1 .1 .0)) in
+    let small = plain-small (items-lt x (known x (s .good .1 .1 .1 .1 .1 .1 .1 .1 .1 .0))) in
     let e : loop .p ≡ k + 1 = omega (arith, wide .ensures, loop-test .taken) in
     let a = loop .inv .1 .0 in
     let i = sym (inside .ensures) ∙ not-false (inside .result) (if1 .left) in (
-      turn-later (q .0) (value x) small (q .1 .1 .1 .0) (loop .p) k e a
-          (turn-idle (q .0) (value x) small (q .1 .1 .1 .0) (loop .p) k _ e a
-          (rest-inside (q .0) (value x) small (q .1 .1 .1 .0) (loop .p) k e a _ _ (items .ensures) (without .ensures) i)
-          (rest-is (q .0) (value x) small (q .1 .1 .1 .0) (loop .p) k e a _ _ (items .ensures) (without .ensures) i)
+      turn-later (q .0) (value x) (s .args .at) small (q .1 .1 .1 .0) (loop .p) k e a
+          (turn-idle (q .0) (value x) (s .args .at) small (q .1 .1 .1 .0) (loop .p) k _ _ e a
+          (rest-inside (q .0) (value x) (s .args .at) small (q .1 .1 .1 .0) (loop .p) k e a _ _ (items .ensures) (without .ensures) i)
+          (rest-is (q .0) (value x) (s .args .at) small (q .1 .1 .1 .0) (loop .p) k e a _ _ (items .ensures) (without .ensures) i) (place-without .ensures)
           (if2 .left) (loop .inv .0) (search′ .ensures) (c .if4 .taken)),
-      (at-later (q .0) (value x) small (q .1 .1 .1 .0) (loop .p) k e a, loop .inv .1 .1),
+      (at-later (q .0) (value x) (s .args .at) small (q .1 .1 .1 .0) (loop .p) k e a, loop .inv .1 .1),
     )
 
 trial-unique-requires : (t : ℕ) → trial-lts.Need-unique-requires (trial-claims t) (trial-at t) trial.Post trial-Inv-loop trial-μ-loop
@@ -423,7 +430,7 @@ trial-loop-less-4 t c =
     let s = here .before .before .before .before .before .before .before in
     let x = s .args .items in
     let q = s .pre .1 in
-    at-falls (q .0) (value x) (items-lt x (known x (s .good .1 .1 .1 .1 .1 .1 .1 .1 .1 .0))) (q .1 .1 .1 .0) (loop .p) (wide .result)
+    at-falls (q .0) (value x) (s .args .at) (plain-small (items-lt x (known x (s .good .1 .1 .1 .1 .1 .1 .1 .1 .1 .0)))) (q .1 .1 .1 .0) (loop .p) (wide .result)
     (omega (arith, wide .ensures, loop-test .taken)) (loop .inv .1 .0)
 
 trial-loop-again-4 : (t : ℕ) → trial-lts.Need-loop-again-4 (trial-claims t) (trial-at t) trial.Post trial-Inv-loop trial-μ-loop
@@ -434,6 +441,7 @@ trial-loop-again-4 t c =
     let if2 = c .before .before .before .before .before .before .before .if2 in
     let search′ = c .before .before .before .before .before .before .before .before .before .before .before .before .search in
     let here = c .before .before .before .before .before .before .before .before .before .before .before .before .before .before .before .before .before in
+    let place-without = c .before .before .before .before .before .before .before .before .before .before .before .before .before .before .before .before .place-without in
     let without = here .without in
     let if1 = here .before .if1 in
     let inside = here .before .before .inside in
@@ -446,25 +454,23 @@ trial-loop-again-4 t c =
     let k = wide .result in
     let x = s .args .items in
     let q = s .pre .1 in
-    let small = items-lt x (known x (s .good .1 .1 .1 .1 .1 .1 .1 .1 .1 .0)) in
+    let small = plain-small (items-lt x (known x (s .good .1 .1 .1 .1 .1 .1 .1 .1 .1 .0))) in
     let e : loop .p ≡ k + 1 = omega (arith, wide .ensures, loop-test .taken) in
     let a = loop .inv .1 .0 in
     let i = sym (inside .ensures) ∙ not-false (inside .result) (if1 .left) in (
-      turn-later (q .0) (value x) small (q .1 .1 .1 .0) (loop .p) k e a
-          (turn-made (q .0) (value x) small (q .1 .1 .1 .0) (loop .p) k _ e a
-          (rest-inside (q .0) (value x) small (q .1 .1 .1 .0) (loop .p) k e a _ _ (items .ensures) (without .ensures) i)
-          (rest-is (q .0) (value x) small (q .1 .1 .1 .0) (loop .p) k e a _ _ (items .ensures) (without .ensures) i)
+      turn-later (q .0) (value x) (s .args .at) small (q .1 .1 .1 .0) (loop .p) k e a
+          (turn-made (q .0) (value x) (s .args .at) small (q .1 .1 .1 .0) (loop .p) k _ _ e a
+          (rest-inside (q .0) (value x) (s .args .at) small (q .1 .1 .1 .0) (loop .p) k e a _ _ (items .ensures) (without .ensures) i)
+          (rest-is (q .0) (value x) (s .args .at) small (q .1 .1 .1 .0) (loop .p) k e a _ _ (items .ensures) (without .ensures) i) (place-without .ensures)
           (if2 .left) (loop .inv .0) (search′ .ensures) (if4 .left) (omega (arith, if3 .left)) _ _ (sym (wide .ensures)) (unique .ensures)),
-      (at-later (q .0) (value x) small (q .1 .1 .1 .0) (loop .p) k e a, loop .inv .1 .1),
+      (at-later (q .0) (value x) (s .args .at) small (q .1 .1 .1 .0) (loop .p) k e a, loop .inv .1 .1),
     )
 
 trial-store-requires : (t : ℕ) → trial-lts.Need-store-requires (trial-claims t) (trial-at t) trial.Post trial-Inv-loop trial-μ-loop
 trial-store-requires t c κs =
     let loop = c .before .before .loop in
     let pre = c .before .before .before .before .before .before .before .pre in
-    let given = c .before .before .before .before .before .before .before .args in
-    let h = loop .inv .0 .held in
-    (h .long, omega (arith, pre .1 .1 .1 .1 .1, mod-lt (value (given .items)) (h .some)))
+    (loop .inv .0 .held .long, pre .1 .1 .1 .1 .1)
 
 trial-same-length-3 : (t : ℕ) → trial-lts.Need-same-length-3 (trial-claims t) (trial-at t) trial.Post trial-Inv-loop trial-μ-loop
 trial-same-length-3 t c = c .before .before .before .before .before .loop .inv .0 .grown .long
@@ -480,8 +486,8 @@ trial-returns-2 t c =
     let s = c .before .before .before .before .before .before .before .before .before .before in
     let x = s .args .items in
     let q = s .pre .1 in
-    turn-done (q .0) (value x) (items-lt x (known x (s .good .1 .1 .1 .1 .1 .1 .1 .1 .1 .0))) (q .1 .1 .1 .0) (loop .p) (s .args .at) (loop .inv .1 .1)
-    (omega (arith, loop-test .left)) (q .1 .1 .1 .1) (store .ensures) (loop .inv .0)
+    turn-done (q .0) (value x) (s .args .at) (plain-small (items-lt x (known x (s .good .1 .1 .1 .1 .1 .1 .1 .1 .1 .0)))) (q .1 .1 .1 .0) (loop .p)
+    (q .1 .1 .1 .1) (loop .inv .1 .1) (omega (arith, loop-test .left)) (store .ensures) (loop .inv .0)
 
 pub +search+trial-spec : {M : Type 1} → statement M
 +search+trial-spec = close μ-search μ-trial (λ t. search-lts.spec (search-claims t)
