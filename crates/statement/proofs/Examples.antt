@@ -1,42 +1,53 @@
--- THEOREM: document 01's examples P1 to P8, Figure 1 on items of three words, and weeks with optional items, by computation from the definitions. P1 to P8 are
--- computed from document 01's own definitions, and hold by the laws for the empty optional set (`NoneOptional`, here and in `exact_cover`). Assumes nothing.
-use mathlib.Core.Path.{refl, ap}
+-- THEOREM: document 01's examples P1 to P8, Figure 1 on items of three words, weeks with optional items, and Figure 1 in other orders, by computation from the
+-- definitions. P1 to P8 are computed from document 01's own definitions, and hold by the laws for the empty optional set and the plain order
+-- (`NoneOptional`, here and in `exact_cover`). Assumes nothing.
+use mathlib.Core.Path.{_≡_, refl, ap}
 use mathlib.Core.List.{[], _∷_}
+use Prim.Native.Nat.{ℕ}
+use native.Mathlib.Omega.{arith}
 use Rattle.itemset.specs.Items.{holds, insideb, without, belowb, size, lowest}
 use Rattle.itemset.specs.Words.{width}
-use Rattle.zdd.specs.Table.{nodesOf, capacity, families, order, allSets, sets, filter, soundb, eqSet}
+use Rattle.zdd.specs.Table.{nodesOf, capacity, families, family, order, allSets, sets, filter, soundb, eqSet, elem}
 use Rattle.zdd.specs.Branches.{starting, others, weight, branchesTo, branches, eqFamily, amongb, fresh, missing}
-use Rattle.exact_cover.specs.Problem.{lead, done}
+use Rattle.exact_cover.specs.Problem.{Problem, earliest, times, eachOnce, countFrom, lead, done, Rows}
 use Rattle.exact_cover.specs.Cover.{keysFrom, keysOf, holders, allInside, takes, once, covers, covering, fits, down, candidates}
 use Rattle.exact_cover.specs.Steps.{each, visit, steps}
-use Rattle.exact_cover.proofs.NoneOptional.{keysFrom01, keys01, once01, covers01, covering01, fits01, candidates01, visit01, steps01, covering-as-before, steps-as-before}
-use Rattle.statement.specs.Refusals.{firstOf, oversize, anyPackage, stray, strayOptional, nothingCompulsory, unsound, unknownItem, shortWork, spent, full, checkRefusal, cheapestRefusal}
-use Rattle.statement.specs.Examples.{allItems, figure1, emptyTable, PaperExamples, WideExamples, OptionalExamples}
-use Rattle.statement.proofs.NoneOptional.{cover-as-before}
+use Rattle.exact_cover.proofs.NoneOptional.{noneOptional, keysFrom01, keys01, once01, covers01, covering01, fits01, candidates01, visit01, steps01}
+use Rattle.exact_cover.proofs.NoneOptional.{covering-as-before, steps-as-before}
+use Rattle.query.specs.Questions.{unknownPackage, anyUnknown, ascending}
+use Rattle.statement.specs.Refusals.{firstOf, packageTests, oversize, anyPackage, stray, strayOptional, nothingCompulsory, disordered, unsound, unknownItem}
+use Rattle.statement.specs.Refusals.{unpriced, unknownAnswer, notTimetable, shortWork, spent, full, uncountable, absent, checkRefusal, placeRefusal, cheapestRefusal}
+use Rattle.statement.specs.Examples.{allItems, noPackages, figure1, emptyTable, PaperExamples, WideExamples, OptionalExamples, OrderExamples}
+use Rattle.statement.proofs.Admission.{fit-of, rows}
+use Rattle.statement.proofs.NoneOptional.{refusals-as-before}
+
+-- packages that no test refuses
+searchable : (Q : Problem) (m : ℕ) → firstOf (packageTests Q m []) ≡ 0 → Rows Q
+searchable Q m e = rows (fit-of {Q = Q} {m = m} [] e .0)
 
 -- P1 to P8
 pub paper-examples : PaperExamples
-unfolding holds insideb without belowb size lowest nodesOf capacity families order allSets sets filter soundb eqSet starting others weight
-    branchesTo branches eqFamily amongb fresh missing keysFrom01 keys01 holders allInside once01 width covers01 covering01 fits01 down candidates01 each
-    visit01 steps01 firstOf oversize anyPackage stray unknownItem shortWork full
+unfolding holds insideb without belowb size lowest done countFrom times eachOnce nodesOf capacity families order allSets sets filter soundb eqSet
+    starting others weight branchesTo branches eqFamily amongb fresh missing keysFrom01 keys01 holders allInside once01 width covers01 covering01 fits01 down
+    candidates01 each visit01 steps01 firstOf oversize anyPackage stray strayOptional nothingCompulsory disordered unknownItem shortWork full
 paper-examples = record {
-  p1 = covering-as-before [] (allItems 0);
-  p2 = covering-as-before [] (allItems 1);
-  p3 = covering-as-before (1 ∷ 1 ∷ []) (allItems 1);
-  p4 = covering-as-before (figure1 .packages) (allItems 6);
-  p5 = steps-as-before (figure1 .packages) 64 (allItems 6);
-  p6 = steps-as-before (figure1 .packages) 4 (allItems 6);
-  p7-needs = ap (missing (nodesOf (emptyTable 0))) (covering-as-before (figure1 .packages) (allItems 6));
-  p7-answers = cover-as-before (figure1 .packages) 6 (emptyTable 4) (allItems 6) 1000 16;
-  p7-full = cover-as-before (figure1 .packages) 6 (emptyTable 3) (allItems 6) 1000 16;
-  p8-answers = cover-as-before (figure1 .packages) 6 (emptyTable 4) (allItems 6) 6 256;
-  p8-spent = cover-as-before (figure1 .packages) 6 (emptyTable 4) (allItems 6) 5 256;
+  p1 = covering-as-before 0 [] (searchable (noPackages 0) 0 refl) (allItems 0);
+  p2 = covering-as-before 1 [] (searchable (noPackages 1) 1 refl) (allItems 1);
+  p3 = covering-as-before 1 (1 ∷ 1 ∷ []) (searchable (noneOptional 1 (1 ∷ 1 ∷ [])) 1 refl) (allItems 1);
+  p4 = covering-as-before 6 (figure1 .packages) (searchable figure1 6 refl) (allItems 6);
+  p5 = steps-as-before 6 (figure1 .packages) 64 (allItems 6) (omega arith);
+  p6 = steps-as-before 6 (figure1 .packages) 4 (allItems 6) (omega arith);
+  p7-needs = ap (missing (nodesOf (emptyTable 0))) (covering-as-before 6 (figure1 .packages) (searchable figure1 6 refl) (allItems 6));
+  p7-answers = refusals-as-before (figure1 .packages) 6 .cover (emptyTable 4) (allItems 6) 1000 16;
+  p7-full = refusals-as-before (figure1 .packages) 6 .cover (emptyTable 3) (allItems 6) 1000 16;
+  p8-answers = refusals-as-before (figure1 .packages) 6 .cover (emptyTable 4) (allItems 6) 6 256;
+  p8-spent = refusals-as-before (figure1 .packages) 6 .cover (emptyTable 4) (allItems 6) 5 256;
 }
 
 pub wide-examples : WideExamples
-unfolding holds insideb without belowb size lowest lead done nodesOf capacity families order allSets sets filter soundb eqSet starting others weight
-    branchesTo branches eqFamily amongb fresh missing keysFrom keysOf holders allInside takes once width covers covering fits down candidates each visit steps
-    firstOf oversize anyPackage stray strayOptional nothingCompulsory unsound unknownItem shortWork spent full
+unfolding holds insideb without belowb size lead earliest done countFrom times eachOnce nodesOf capacity families order allSets sets filter soundb eqSet
+    starting others weight branchesTo branches eqFamily amongb fresh missing keysFrom keysOf holders allInside takes once width covers covering fits down
+    candidates each visit steps firstOf oversize anyPackage stray strayOptional nothingCompulsory disordered unsound unknownItem shortWork spent full
 wide-examples = record {
   lists = refl;
   steps3 = refl;
@@ -56,9 +67,9 @@ wide-examples = record {
 }
 
 pub optional-examples : OptionalExamples
-unfolding holds insideb without belowb size lowest lead done nodesOf capacity families order allSets sets filter soundb eqSet starting others weight
-    branchesTo branches eqFamily amongb fresh missing keysFrom keysOf holders allInside takes once width covers covering fits down candidates each visit steps
-    firstOf oversize anyPackage stray strayOptional nothingCompulsory unsound unknownItem shortWork spent full checkRefusal cheapestRefusal
+unfolding holds insideb without belowb size lead earliest done countFrom times eachOnce nodesOf capacity families order allSets sets filter soundb eqSet
+    starting others weight branchesTo branches eqFamily amongb fresh missing keysFrom keysOf holders allInside takes once width covers covering fits down
+    candidates each visit steps firstOf oversize anyPackage stray strayOptional nothingCompulsory disordered unsound unknownItem shortWork spent full checkRefusal cheapestRefusal
 optional-examples = record {
   lists = refl;
   steps6 = refl;
@@ -74,4 +85,31 @@ optional-examples = record {
   stray-optional = refl;
   nothing-compulsory = refl;
   before-costs = refl;
+}
+
+pub order-examples : OrderExamples
+unfolding holds insideb without belowb size lead earliest done countFrom times eachOnce nodesOf capacity families family order allSets sets filter soundb eqSet elem
+    keysFrom keysOf holders allInside takes once width covers covering fits down candidates each visit steps unknownPackage anyUnknown ascending
+    firstOf oversize anyPackage stray strayOptional nothingCompulsory disordered unpriced unsound unknownAnswer notTimetable shortWork uncountable absent
+    checkRefusal placeRefusal cheapestRefusal
+order-examples = record {
+  lists = refl;
+  steps64 = refl;
+  steps7 = refl;
+  steps4 = refl;
+  twice = refl;
+  short = refl;
+  long = refl;
+  item-six = refl;
+  no-item = refl;
+  item-zero = refl;
+  nothing-compulsory = refl;
+  before-costs = refl;
+  costs = refl;
+  before-table = refl;
+  table = refl;
+  placed = refl;
+  out-of-precedence = refl;
+  plain-table = refl;
+  reversed-table = refl;
 }

@@ -29,6 +29,12 @@ unfolding firstOf
 passed true n ts e = absurd (omega arith)
 passed false n ts e = (refl, e)
 
+-- behind a test, one list may be exchanged for another that decides the same where the test fails
+pub exchanged : (b : Bool) (n : ℕ) (ts us : List (Bool × ℕ)) → (b ≡ false → firstOf ts ≡ firstOf us) → firstOf ((b, n) ∷ ts) ≡ firstOf ((b, n) ∷ us)
+unfolding firstOf
+exchanged true n ts us h = refl
+exchanged false n ts us h = h refl
+
 -- a refusal that the first tests give is not changed by tests behind them
 pub front : (xs ts : List (Bool × ℕ)) → (firstOf xs ≡ 0 → ⊥) → firstOf (xs ++ ts) ≡ firstOf xs
 unfolding firstOf

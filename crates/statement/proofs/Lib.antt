@@ -10,6 +10,7 @@ pub mod Measure
 pub mod Counts
 pub mod Cheapest
 pub mod HalfWords
+pub mod PlainOrder
 pub mod NoneOptional
 pub mod Full
 pub mod Kiosk

@@ -5,15 +5,17 @@ use mathlib.Core.List.{List, [], _∷_, _++_}
 use Prim.Native.Nat.{ℕ, zero, suc, _+_, _≤_, _<_}
 use native.Mathlib.Nat.{not-suc-le-zero, le-of-suc-le-suc}
 use native.Mathlib.Omega.{arith}
+use lib.Dec.{ltb}
 use lib.ListN.{length, getD, drop}
-use borrow.Author.Tests.{lt-ltb, le-ltb, le-leb, lt-leb, eq-eqb, ne-eqb}
+use borrow.Author.Tests.{ltb-false, lt-ltb, le-ltb, le-leb, lt-leb, eq-eqb, ne-eqb}
 use Rattle.base.proofs.Bools.{or-neither}
+use Rattle.itemset.specs.Words.{width}
 use Rattle.zdd.specs.Table.{Family, count}
 use Rattle.exact_cover.specs.Problem.{Problem}
 use Rattle.query.specs.Questions.{unknownPackage}
 use Rattle.statement.specs.Replies.{refused, gives, reply}
 use Rattle.statement.specs.Postconditions.{written}
-use Rattle.statement.specs.Refusals.{anyPackage, unpriced, unknownAnswer, shortWork, uncountable, pastEnd, nothing, shortPage}
+use Rattle.statement.specs.Refusals.{oversize, anyPackage, unpriced, unknownAnswer, shortWork, uncountable, pastEnd, nothing, shortPage}
 
 -- ---- replies
 
@@ -44,6 +46,13 @@ page-left (suc n) s page e f = sym (ap (λ (i : ℕ). written i s page) e)
 -- one that is not writes to its start
 pub page-written : {k : ℕ} (s page : List ℕ) → k ≡ 0 → s ++ drop (length s) page ≡ written k s page
 page-written s page e = sym (ap (λ (i : ℕ). written i s page) e)
+
+-- ---- 1
+
+pub within-limits : (m : ℕ) (packages : List ℕ) → oversize m packages ≡ false → (m ≤ width) × (length packages ≤ 512)
+unfolding oversize
+within-limits m packages e =
+    let b = or-neither (ltb width m) (ltb 512 (length packages)) e in (ltb-false width m (b .0), ltb-false 512 (length packages) (b .1))
 
 -- ---- 2, 30: some package passes a test
 

@@ -1,27 +1,31 @@
--- Document 01's examples P1 to P8, Figure 1 on items of three words, and weeks with optional items, each as one record; `proofs/Examples.antt` proves them by
--- computation. Assumes nothing.
+-- Document 01's examples P1 to P8, Figure 1 on items of three words, weeks with optional items and Figure 1 in other orders, each as one record;
+-- `proofs/Examples.antt` proves them by computation. Assumes nothing.
 use mathlib.Core.Path.{_≡_}
 use mathlib.Core.List.{List, [], _∷_}
 use Prim.Native.Nat.{ℕ, _+_, _-_, _*_, _/_, _%_, _^_}
 use lib.ListN.{replicate}
 use Rattle.zdd.specs.Table.{nodesOf}
 use Rattle.zdd.specs.Branches.{missing}
-use Rattle.exact_cover.specs.Problem.{Problem}
+use Rattle.exact_cover.specs.Problem.{Problem, upTo}
 use Rattle.exact_cover.specs.Cover.{covering}
 use Rattle.exact_cover.specs.Steps.{steps}
-use Rattle.statement.specs.Refusals.{checkRefusal, cheapestRefusal}
+use Rattle.statement.specs.Refusals.{checkRefusal, placeRefusal, cheapestRefusal}
 use Rattle.statement.specs.Calls.{coverRefusal}
 
 -- all items below m
 abbrev pub allItems : ℕ → ℕ
 allItems m = 2 ^ m - 1
 
-abbrev pub noPackages : Problem
-noPackages = record { packages = []; optional = 0 }
+-- no packages, in the plain order of m items
+abbrev pub noPackages : ℕ → Problem
+noPackages m = record { packages = []; optional = 0; order = upTo m }
 
--- Figure 1 of document 000, numbered from 0: {0,1,2,4}, {0,1}, {3,5}, {2,3,5}, {2,4}
+-- Figure 1 of document 000, numbered from 0: {0,1,2,4}, {0,1}, {3,5}, {2,3,5}, {2,4}; in an order of its items, and in the plain one
+abbrev pub figure1In : List ℕ → Problem
+figure1In order = record { packages = 0b010111 ∷ 0b000011 ∷ 0b101000 ∷ 0b101100 ∷ 0b010100 ∷ []; optional = 0; order = order }
+
 abbrev pub figure1 : Problem
-figure1 = record { packages = 0b010111 ∷ 0b000011 ∷ 0b101000 ∷ 0b101100 ∷ 0b010100 ∷ []; optional = 0 }
+figure1 = figure1In (upTo 6)
 
 -- an empty table that has room for c nodes
 abbrev pub emptyTable : ℕ → List ℕ
@@ -29,11 +33,11 @@ emptyTable c = replicate (1 + 3 * c) 0
 
 pub record PaperExamples : Type 0 where
   -- M 0, N 0: one timetable, empty
-  pub p1 : covering noPackages (allItems 0) ≡ [] ∷ []
+  pub p1 : covering (noPackages 0) (allItems 0) ≡ [] ∷ []
   -- M 1, N 0: none
-  pub p2 : covering noPackages (allItems 1) ≡ []
+  pub p2 : covering (noPackages 1) (allItems 1) ≡ []
   -- packages {0}, {0}: two timetables, 0 then 1
-  pub p3 : covering (record { packages = 1 ∷ 1 ∷ []; optional = 0 }) (allItems 1) ≡ (0 ∷ []) ∷ (1 ∷ []) ∷ []
+  pub p3 : covering (record { packages = 1 ∷ 1 ∷ []; optional = 0; order = upTo 1 }) (allItems 1) ≡ (0 ∷ []) ∷ (1 ∷ []) ∷ []
   -- Figure 1: listing "0 2", "1 4 2"
   pub p4 : covering figure1 (allItems 6) ≡ (0 ∷ 2 ∷ []) ∷ (1 ∷ 4 ∷ 2 ∷ []) ∷ []
   -- the same, P = 64: 6 steps
@@ -62,6 +66,7 @@ wideFigure1 = record {
       ∷ (wideItem 2 + wideItem 4)
       ∷ [];
   optional = 0;
+  order = upTo 130;
 }
 
 abbrev pub wideFigure1Items : ℕ
@@ -77,8 +82,8 @@ pub record WideExamples : Type 0 where
   pub steps7 : steps wideFigure1 7 wideFigure1Items ≡ 6
   pub steps64 : steps wideFigure1 64 wideFigure1Items ≡ 7
   -- M 192 answers, 193 is oversize; with 3 working words 8, with 4 to 7 one place
-  pub most : coverRefusal noPackages 192 (emptyTable 0) 0 1 4 ≡ 0
-  pub oversize : coverRefusal noPackages 193 (emptyTable 0) 0 1 4 ≡ 1
+  pub most : coverRefusal (noPackages 192) 192 (emptyTable 0) 0 1 4 ≡ 0
+  pub oversize : coverRefusal (noPackages 193) 193 (emptyTable 0) 0 1 4 ≡ 1
   pub short : coverRefusal wideFigure1 130 (emptyTable 4) wideFigure1Items 8 3 ≡ 8
   pub one-place : steps wideFigure1 1 wideFigure1Items ≡ 7
   pub four-words : coverRefusal wideFigure1 130 (emptyTable 4) wideFigure1Items 7 4 ≡ 0
@@ -93,15 +98,15 @@ pub record WideExamples : Type 0 where
 
 -- packages {0}, {0,2}, {1,2}, {1}; item 2 is optional
 abbrev pub publicSlot : Problem
-publicSlot = record { packages = 0b001 ∷ 0b101 ∷ 0b110 ∷ 0b010 ∷ []; optional = 0b100 }
+publicSlot = record { packages = 0b001 ∷ 0b101 ∷ 0b110 ∷ 0b010 ∷ []; optional = 0b100; order = upTo 3 }
 
 -- packages {1}, {0,2}; item 0 is optional, so the second package's lowest compulsory item is 2
 abbrev pub lateFirst : Problem
-lateFirst = record { packages = 0b010 ∷ 0b101 ∷ []; optional = 0b001 }
+lateFirst = record { packages = 0b010 ∷ 0b101 ∷ []; optional = 0b001; order = upTo 3 }
 
 -- the same packages, each of them inside the optional set, which has an item above the packages'
 abbrev pub allPublic : Problem
-allPublic = record { packages = 0b010 ∷ 0b101 ∷ []; optional = 0b1111 }
+allPublic = record { packages = 0b010 ∷ 0b101 ∷ []; optional = 0b1111; order = upTo 4 }
 
 pub record OptionalExamples : Type 0 where
   -- listing "0 2", "0 3", "1 3", 6 steps, 4 nodes. A memo by the compulsory items alone would take {1,2} for the {1} that was searched before: 4 steps, and
@@ -123,3 +128,44 @@ pub record OptionalExamples : Type 0 where
   pub stray-optional : checkRefusal allPublic 3 [] ≡ 29
   pub nothing-compulsory : checkRefusal allPublic 4 [] ≡ 30
   pub before-costs : cheapestRefusal allPublic 4 [] [] 0 0 [] ≡ 30
+
+-- ---- orders [document 02, No. 4]
+
+abbrev pub reversed : List ℕ
+reversed = 5 ∷ 4 ∷ 3 ∷ 2 ∷ 1 ∷ 0 ∷ []
+
+-- item 2, which is in three packages, first
+abbrev pub contestedFirst : List ℕ
+contestedFirst = 2 ∷ 0 ∷ 1 ∷ 3 ∷ 4 ∷ 5 ∷ []
+
+-- the table with Figure 1's answer in the plain order: the branch nodes 2 to 5, and 5 is the answer
+abbrev pub figure1Table : List ℕ
+figure1Table = 4 ∷ 2 ∷ 0 ∷ 1 ∷ 4 ∷ 0 ∷ 2 ∷ 1 ∷ 0 ∷ 3 ∷ 0 ∷ 4 ∷ 2 ∷ []
+
+pub record OrderExamples : Type 0 where
+  -- reversed, the packages with item 5 come first: listing "2 0", "2 4 1"
+  pub lists : covering (figure1In reversed) (allItems 6) ≡ (2 ∷ 0 ∷ []) ∷ (2 ∷ 4 ∷ 1 ∷ []) ∷ []
+  -- item 2 first: P = 64, 7 and 4
+  pub steps64 : steps (figure1In contestedFirst) 64 (allItems 6) ≡ 7
+  pub steps7 : steps (figure1In contestedFirst) 7 (allItems 6) ≡ 8
+  pub steps4 : steps (figure1In contestedFirst) 4 (allItems 6) ≡ 8
+  -- 34: an item twice, too short, too long, an item of M
+  pub twice : checkRefusal (figure1In (0 ∷ 0 ∷ 2 ∷ 3 ∷ 4 ∷ 5 ∷ [])) 6 (emptyTable 4) ≡ 34
+  pub short : checkRefusal (figure1In (upTo 5)) 6 (emptyTable 4) ≡ 34
+  pub long : checkRefusal (figure1In (0 ∷ 1 ∷ 2 ∷ 3 ∷ 4 ∷ 5 ∷ 6 ∷ [])) 6 (emptyTable 4) ≡ 34
+  pub item-six : checkRefusal (figure1In (0 ∷ 1 ∷ 2 ∷ 3 ∷ 4 ∷ 6 ∷ [])) 6 (emptyTable 4) ≡ 34
+  -- with M 0 the empty order alone will do
+  pub no-item : checkRefusal (noPackages 0) 0 (emptyTable 0) ≡ 0
+  pub item-zero : checkRefusal (noPackages 1) 0 (emptyTable 0) ≡ 34
+  -- 30 before 34; 34 before 3 and 4
+  pub nothing-compulsory : checkRefusal allPublic 5 [] ≡ 30
+  pub before-costs : cheapestRefusal (figure1In (upTo 5)) 6 [] [] 0 0 [] ≡ 34
+  pub costs : cheapestRefusal figure1 6 [] [] 0 0 [] ≡ 3
+  pub before-table : checkRefusal (figure1In (upTo 5)) 6 [] ≡ 34
+  pub table : checkRefusal figure1 6 [] ≡ 4
+  -- the places follow the order: "1 4 2" is a timetable in the plain one, the second, and out of precedence in the reversed one
+  pub placed : placeRefusal figure1 6 figure1Table 5 (1 ∷ 4 ∷ 2 ∷ []) 6 ≡ 0
+  pub out-of-precedence : placeRefusal (figure1In reversed) 6 (emptyTable 4) 1 (1 ∷ 4 ∷ 2 ∷ []) 2 ≡ 6
+  -- and so does soundness
+  pub plain-table : checkRefusal figure1 6 figure1Table ≡ 0
+  pub reversed-table : checkRefusal (figure1In reversed) 6 figure1Table ≡ 4

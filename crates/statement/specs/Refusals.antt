@@ -1,8 +1,8 @@
 -- When each call is refused. A call's refusal is the number of the first test of its list that holds, 0 for none: each list is document 01's table
--- read down, with the lines that concern the call and, behind 2, those of document 02's No. 1. The calls that make an answer have theirs in `Calls`. Q is
--- the problem, m is M, t has the table's words, and `words` is the number of working words. Assumes nothing.
+-- read down, with the lines that concern the call and, behind 2, those of document 02's No. 1 and 4. The calls that make an answer have theirs in `Calls`. Q
+-- is the problem, m is M, t has the table's words, and `words` is the number of working words. Assumes nothing.
 use mathlib.Core.Path.{_≡_}
-use mathlib.Core.Bool.{Bool, true, false, not, _||_}
+use mathlib.Core.Bool.{Bool, true, false, not, _&&_, _||_}
 use mathlib.Core.List.{List, [], _∷_}
 use Prim.Native.Nat.{ℕ, _+_, _/_}
 use lib.Dec.{eqb, leb, ltb}
@@ -11,7 +11,7 @@ use Rattle.itemset.specs.Items.{belowb}
 use Rattle.itemset.specs.Words.{width}
 use Rattle.zdd.specs.Table.{Family, count, elem, soundb}
 use Rattle.zdd.specs.Branches.{noRoom}
-use Rattle.exact_cover.specs.Problem.{Problem, done}
+use Rattle.exact_cover.specs.Problem.{Problem, eachOnce, done}
 use Rattle.exact_cover.specs.Cover.{keysOf}
 use Rattle.exact_cover.specs.Steps.{steps}
 use Rattle.query.specs.Questions.{familyAt, nth, cheapest, anyUnknown, ascending}
@@ -45,6 +45,10 @@ strayOptional m Q = not (belowb (Q .optional) m)
 -- 30: a package without a compulsory item
 unfoldable pub nothingCompulsory : Problem → Bool
 nothingCompulsory Q = anyPackage (done Q) (Q .packages)
+
+-- 34: the order is not each item just once: it is not M long, or some item below M is not in it just once [document 02, No. 4]
+unfoldable pub disordered : ℕ → List ℕ → Bool
+disordered m order = not (eqb (length order) m && eachOnce m order)
 
 -- 3 cost list: its length is not N
 unfoldable pub unpriced : Problem → List ℕ → Bool
@@ -105,9 +109,15 @@ shortPage page s = ltb (length page) (length s)
 
 -- ---- what every call tests first, in front of its own tests
 
--- 1 and 2, 29 and 30: the packages and the optional set
+-- 1 and 2, 29 and 30, 34: the packages, the optional set and the order
 abbrev pub packageTests : Problem → ℕ → List (Bool × ℕ) → List (Bool × ℕ)
-packageTests Q m ts = (oversize m (Q .packages), 1) ∷ (stray m (Q .packages), 2) ∷ (strayOptional m Q, 29) ∷ (nothingCompulsory Q, 30) ∷ ts
+packageTests Q m ts =
+    (oversize m (Q .packages), 1) ∷
+    (stray m (Q .packages), 2) ∷
+    (strayOptional m Q, 29) ∷
+    (nothingCompulsory Q, 30) ∷
+    (disordered m (Q .order), 34) ∷
+    ts
 
 -- and 4: the table
 abbrev pub tableTests : Problem → ℕ → List ℕ → List (Bool × ℕ) → List (Bool × ℕ)
@@ -121,12 +131,13 @@ openTests Q m t a = tableTests Q m t ((unknownAnswer t a, 5) ∷ [])
 abbrev pub pricedTests : (Q : Problem) (m : ℕ) (C t : List ℕ) (a : ℕ) → List (Bool × ℕ)
 pricedTests Q m C t a = packageTests Q m ((unpriced Q C, 3) ∷ (unsound Q t, 4) ∷ (unknownAnswer t a, 5) ∷ [])
 
--- none of 1, 2, 29 and 30 applies
+-- none of 1, 2, 29, 30 and 34 applies
 pub record Fit (Q : Problem) (m : ℕ) : Type 0 where
   pub sized : oversize m (Q .packages) ≡ false
   pub clean : stray m (Q .packages) ≡ false
   pub known : strayOptional m Q ≡ false
   pub due : nothingCompulsory Q ≡ false
+  pub ordered : disordered m (Q .order) ≡ false
 
 -- ---- the questions
 
