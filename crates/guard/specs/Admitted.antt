@@ -1,14 +1,18 @@
 -- What every call establishes first: the packages and the table are good, the keys are computed and the nodes indexed. Assumes nothing.
 use mathlib.Core.Path.{_≡_}
 use mathlib.Core.Bool.{Bool, true, false, not}
-use mathlib.Core.List.{List}
+use mathlib.Core.List.{List, [], _∷_}
 use Prim.Native.Nat.{ℕ}
 use lib.ListN.{length}
 use Rattle.zdd.specs.Table.{Sound, Keys}
 use Rattle.exact_cover.specs.Problem.{Problem, Rows}
 use Rattle.exact_cover.specs.Cover.{keysOf, Keyed}
 use Rattle.table.specs.State.{Fresh, Indexed}
-use Rattle.statement.specs.Refusals.{unsound, checkRefusal, Fit}
+use Rattle.statement.specs.Refusals.{strayOptional, nothingCompulsory, unsound, checkRefusal, Fit}
+
+-- 29 and 30
+abbrev pub optionalTests : Problem → ℕ → List (Bool × ℕ)
+optionalTests Q m = (strayOptional m Q, 29) ∷ (nothingCompulsory Q, 30) ∷ []
 
 -- the arrays before the check
 pub record Blank (keys index : List ℕ) : Type 0 where
@@ -29,7 +33,7 @@ pub record Tested (Q : Problem) (t keys index : List ℕ) (ok : Bool) : Type 0 w
   pub says : ok ≡ not (unsound Q t)
   pub usable : ok ≡ true → Usable Q t keys index
 
--- r is the refusal of the soundness check: 1, 2, 29, 30, 4, or 0 for none
+-- r is the refusal of the soundness check: 1, 2, 29, 30, 34, 4, or 0 for none
 pub record Admitted (Q : Problem) (m : ℕ) (t keys index : List ℕ) (r : ℕ) : Type 0 where
   pub says : r ≡ checkRefusal Q m t
   pub fit : r ≡ 0 → Fit Q m

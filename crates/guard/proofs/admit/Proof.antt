@@ -1,5 +1,5 @@
-use Rattle.guard.proofs.GuardLaws.{rows, admitted-packages, admitted-spoilt, admitted-sound}
-use Rattle.statement.proofs.Admission.{fit-of}
+use Rattle.guard.proofs.GuardLaws.{admitted-packages, admitted-spoilt, admitted-sound}
+use Rattle.statement.proofs.Admission.{fit-of, rows}
 use borrow.Author.Tests.{not-true, not-false}
 use mathlib.Core.Path.{sym, _∙_}
 use borrow.Author.Needs.{needs}
@@ -12,7 +12,7 @@ returns c = admitted-packages (c .before .packages-refusal .result) (c .before .
 usable-requires : tie.Need-usable-requires
 usable-requires c κs = (
   rows (fit-of _ (sym (c .before .before .before .packages-refusal .ensures) ∙ c .before .before .if1 .left) .0),
-  c .before .before .before .before .before .before .before .pre,
+  c .before .before .before .before .before .before .before .before .pre,
 )
 
 returns-2 : tie.Need-returns-2
