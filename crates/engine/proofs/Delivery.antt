@@ -50,7 +50,7 @@ module _ {Q : Problem} {t keys index : List ℕ} (g : Usable Q t keys index) whe
   pub readable : Readable t
   readable = record { keys = keysOf Q; sound = g .sound; few = omega (arith, length-keys Q, g .rows .few) }
 
--- ---- refusals 1, 2, 29, 30, 4 and 5
+-- ---- refusals 1, 2, 29, 30, 34, 4 and 5
 
 module _ {Q : Problem} {m : ℕ} {t keys index : List ℕ} {r : ℕ} (a : ℕ) (o : Admitted Q m t keys index r) where
   pub opened-refused : (r ≡ 0 → ⊥) → Opened (openTests Q m t a) Q t keys a r

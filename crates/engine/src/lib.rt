@@ -1,8 +1,8 @@
 // The public calls of documents 01 and 02. None has a `requires`: each refuses what it cannot take, in the order of the table of refusals, and its one
 // `ensures` (a record of `statement`'s specs/Postconditions) fixes the result, the table and the page.
 //
-// m is M, packages the N item sets, three words each, optional the items that need not be covered, t the table's words; work are the working words, whose
-// contents before a call do not matter.
+// m is M, packages the N item sets, three words each, optional the items that need not be covered, order a list of the m items, each once, by which one is
+// earlier than another; t has the table's words, work are the working words, whose contents before a call do not matter.
 ghost use mathlib.Core.Path.{_≡_};
 ghost use Prim.Native.Nat.{_≤_, _<_};
 ghost use lib.ListN.{length};
@@ -31,34 +31,35 @@ use statement::Priced;
 use statement::Report;
 use statement::Soundness;
 
-// The soundness check: 1, 2, 29, 30, 4 or sound.
-pub fn check(m: u32, packages: &[u64], optional: Items, t: &[u32]) -> Soundness
-    ensures { λ r. ⌜ CheckPost (problemOf (now (packages .entry)) (value optional)) m (now (t .entry)) r ⌝ }
+// The soundness check: 1, 2, 29, 30, 34, 4 or sound.
+pub fn check(m: u32, packages: &[u64], optional: Items, order: &[u8], t: &[u32]) -> Soundness
+    ensures { λ r. ⌜ CheckPost (problemOf (now (packages .entry)) (value optional) (now (order .entry))) m (now (t .entry)) r ⌝ }
 {
     let mut keys = [0u32; 512];
     let mut index = [0u16; 131072];
-    let r = guard::admit(m, packages, optional, t, &mut keys, &mut index);
+    let r = guard::admit(m, packages, optional, order, t, &mut keys, &mut index);
     if r != 0 {
         return Soundness::Refused(r);
     }
     Soundness::Sound
 }
 
-// Refusal 1, 2, 29, 30, 4 or 5 of a call that reads an answer; 0 where none applies, and then the keys are ready.
+// Refusal 1, 2, 29, 30, 34, 4 or 5 of a call that reads an answer; 0 where none applies, and then the keys are ready.
 fn opened(
     m: u32,
     packages: &[u64],
     optional: Items,
+    order: &[u8],
     t: &[u32],
     answer: u32,
     keys: &mut [u32; 512],
 ) -> u8
     requires { ⌜ length (now keys) ≡ 512 ⌝ }
-    ensures { λ r. ⌜ Opened (openTests (problemOf (now (packages .entry)) (value optional)) m (now (t .entry)) answer)
-        (problemOf (now (packages .entry)) (value optional)) (now (t .entry)) (now (keys .exit)) answer r ⌝ }
+    ensures { λ r. ⌜ Opened (openTests (problemOf (now (packages .entry)) (value optional) (now (order .entry))) m (now (t .entry)) answer)
+        (problemOf (now (packages .entry)) (value optional) (now (order .entry))) (now (t .entry)) (now (keys .exit)) answer r ⌝ }
 {
     let mut index = [0u16; 131072];
-    let r = guard::admit(m, packages, optional, t, keys, &mut index);
+    let r = guard::admit(m, packages, optional, order, t, keys, &mut index);
     if r != 0 {
         return r;
     }
@@ -82,14 +83,15 @@ pub fn count(
     m: u32,
     packages: &[u64],
     optional: Items,
+    order: &[u8],
     t: &[u32],
     answer: u32,
     work: &mut [u64],
 ) -> Counted
-    ensures { λ r. ⌜ CountPost (problemOf (now (packages .entry)) (value optional)) m (now (t .entry)) answer (length (now (work .entry))) r ⌝ }
+    ensures { λ r. ⌜ CountPost (problemOf (now (packages .entry)) (value optional) (now (order .entry))) m (now (t .entry)) answer (length (now (work .entry))) r ⌝ }
 {
     let mut keys = [0u32; 512];
-    let r = opened(m, packages, optional, t, answer, &mut keys);
+    let r = opened(m, packages, optional, order, t, answer, &mut keys);
     if r != 0 {
         return Counted::Refused(r);
     }
@@ -116,20 +118,21 @@ fn past_end(c: Tally, k: u64) -> u8
     }
 }
 
-// Refusal 1, 2, 29, 30, 4, 5, 8, 11 or 12 of a call for the k-th timetable; 0 where none applies, and then the words have the counts that the walks go by.
+// Refusal 1, 2, 29, 30, 34, 4, 5, 8, 11 or 12 of a call for the k-th timetable; 0 where none applies, and then the words have the counts that the walks go by.
 fn opened_at(
     m: u32,
     packages: &[u64],
     optional: Items,
+    order: &[u8],
     t: &[u32],
     answer: u32,
     k: u64,
     work: &mut [u64],
 ) -> u8
-    ensures { λ r. ⌜ OpenedAt (problemOf (now (packages .entry)) (value optional)) m (now (t .entry)) answer k (length (now (work .entry))) (now (work .exit)) r ⌝ }
+    ensures { λ r. ⌜ OpenedAt (problemOf (now (packages .entry)) (value optional) (now (order .entry))) m (now (t .entry)) answer k (length (now (work .entry))) (now (work .exit)) r ⌝ }
 {
     let mut keys = [0u32; 512];
-    let r = opened(m, packages, optional, t, answer, &mut keys);
+    let r = opened(m, packages, optional, order, t, answer, &mut keys);
     if r != 0 {
         return r;
     }
@@ -146,14 +149,15 @@ pub fn measure(
     m: u32,
     packages: &[u64],
     optional: Items,
+    order: &[u8],
     t: &[u32],
     answer: u32,
     k: u64,
     work: &mut [u64],
 ) -> Measured
-    ensures { λ r. ⌜ MeasurePost (problemOf (now (packages .entry)) (value optional)) m (now (t .entry)) answer k (length (now (work .entry))) r ⌝ }
+    ensures { λ r. ⌜ MeasurePost (problemOf (now (packages .entry)) (value optional) (now (order .entry))) m (now (t .entry)) answer k (length (now (work .entry))) r ⌝ }
 {
-    let r = opened_at(m, packages, optional, t, answer, k, work);
+    let r = opened_at(m, packages, optional, order, t, answer, k, work);
     if r != 0 {
         return Measured::Refused(r);
     }
@@ -175,15 +179,17 @@ pub fn pick(
     m: u32,
     packages: &[u64],
     optional: Items,
+    order: &[u8],
     t: &[u32],
     answer: u32,
     k: u64,
     work: &mut [u64],
     page: &mut [u16],
 ) -> Picked
-    ensures { λ r. ⌜ PickPost (problemOf (now (packages .entry)) (value optional)) m (now (t .entry)) answer k (length (now (work .entry))) (now (page .entry)) r (now (page .exit)) ⌝ }
+    ensures { λ r. ⌜ PickPost (problemOf (now (packages .entry)) (value optional) (now (order .entry))) m (now (t .entry)) answer k
+        (length (now (work .entry))) (now (page .entry)) r (now (page .exit)) ⌝ }
 {
-    let r = opened_at(m, packages, optional, t, answer, k, work);
+    let r = opened_at(m, packages, optional, order, t, answer, k, work);
     if r != 0 {
         return Picked::Refused(r);
     }
@@ -209,15 +215,16 @@ pub fn place(
     m: u32,
     packages: &[u64],
     optional: Items,
+    order: &[u8],
     t: &[u32],
     answer: u32,
     list: &[u16],
     work: &mut [u64],
 ) -> Placed
-    ensures { λ r. ⌜ PlacePost (problemOf (now (packages .entry)) (value optional)) m (now (t .entry)) answer (now (list .entry)) (length (now (work .entry))) r ⌝ }
+    ensures { λ r. ⌜ PlacePost (problemOf (now (packages .entry)) (value optional) (now (order .entry))) m (now (t .entry)) answer (now (list .entry)) (length (now (work .entry))) r ⌝ }
 {
     let mut keys = [0u32; 512];
-    let r = opened(m, packages, optional, t, answer, &mut keys);
+    let r = opened(m, packages, optional, order, t, answer, &mut keys);
     if r != 0 {
         return Placed::Refused(r);
     }
@@ -236,27 +243,28 @@ pub fn place(
     placed(c, s)
 }
 
-// Refusal 1, 2, 29, 30, 3, 4 or 5: the tests of the packages come before 3, and once more, passed, before those of the table.
+// Refusal 1, 2, 29, 30, 34, 3, 4 or 5: the tests of the packages come before 3, and once more, passed, before those of the table.
 fn opened_priced(
     m: u32,
     packages: &[u64],
     optional: Items,
+    order: &[u8],
     costs: &[u16],
     t: &[u32],
     answer: u32,
     keys: &mut [u32; 512],
 ) -> u8
     requires { ⌜ length (now keys) ≡ 512 ⌝ }
-    ensures { λ r. ⌜ OpenedPriced (problemOf (now (packages .entry)) (value optional)) m (now (costs .entry)) (now (t .entry)) (now (keys .exit)) answer r ⌝ }
+    ensures { λ r. ⌜ OpenedPriced (problemOf (now (packages .entry)) (value optional) (now (order .entry))) m (now (costs .entry)) (now (t .entry)) (now (keys .exit)) answer r ⌝ }
 {
-    let r = guard::packages_refusal(m, packages, optional);
+    let r = guard::packages_refusal(m, packages, optional, order);
     if r != 0 {
         return r;
     }
     if costs.len() != exact_cover::number(packages) {
         return 3;
     }
-    opened(m, packages, optional, t, answer, keys)
+    opened(m, packages, optional, order, t, answer, keys)
 }
 
 fn priced(c: Cheap) -> Priced
@@ -273,17 +281,18 @@ pub fn cheapest(
     m: u32,
     packages: &[u64],
     optional: Items,
+    order: &[u8],
     costs: &[u16],
     t: &[u32],
     answer: u32,
     work: &mut [u64],
     page: &mut [u16],
 ) -> Priced
-    ensures { λ r. ⌜ CheapestPost (problemOf (now (packages .entry)) (value optional)) m (now (costs .entry)) (now (t .entry)) answer (length (now (work .entry)))
+    ensures { λ r. ⌜ CheapestPost (problemOf (now (packages .entry)) (value optional) (now (order .entry))) m (now (costs .entry)) (now (t .entry)) answer (length (now (work .entry)))
         (now (page .entry)) r (now (page .exit)) ⌝ }
 {
     let mut keys = [0u32; 512];
-    let r = opened_priced(m, packages, optional, costs, t, answer, &mut keys);
+    let r = opened_priced(m, packages, optional, order, costs, t, answer, &mut keys);
     if r != 0 {
         return Priced::Refused(r);
     }
@@ -319,16 +328,17 @@ pub fn cover(
     m: u32,
     packages: &[u64],
     optional: Items,
+    order: &[u8],
     t: &mut [u32],
     d: Items,
     limit: u32,
     work: &mut [u64],
 ) -> Report
-    ensures { λ r. ⌜ CoverPost (problemOf (now (packages .entry)) (value optional)) m (now (t .entry)) (value d) limit (length (now (work .entry))) r (now (t .exit)) ⌝ }
+    ensures { λ r. ⌜ CoverPost (problemOf (now (packages .entry)) (value optional) (now (order .entry))) m (now (t .entry)) (value d) limit (length (now (work .entry))) r (now (t .exit)) ⌝ }
 {
     let mut keys = [0u32; 512];
     let mut index = [0u16; 131072];
-    let r = guard::admit(m, packages, optional, t, &mut keys, &mut index);
+    let r = guard::admit(m, packages, optional, order, t, &mut keys, &mut index);
     if r != 0 {
         return statement::declined(r);
     }
@@ -338,7 +348,16 @@ pub fn cover(
     if work.len() < 4 {
         return statement::declined(8);
     }
-    let found = compile::cover(packages, optional, t, &mut index, work, d, limit as u64);
+    let found = compile::cover(
+        packages,
+        optional,
+        order,
+        t,
+        &mut index,
+        work,
+        d,
+        limit as u64,
+    );
     if found.over {
         return statement::declined(9);
     }
@@ -357,17 +376,18 @@ fn answer_pair(
     m: u32,
     packages: &[u64],
     optional: Items,
+    order: &[u8],
     t: &mut [u32],
     op: u8,
     a: u32,
     b: u32,
     work: &mut [u64],
 ) -> Report
-    ensures { λ r. ⌜ AnswerPost (problemOf (now (packages .entry)) (value optional)) m (now (t .entry)) (pairCall op a b) (length (now (work .entry))) r (now (t .exit)) ⌝ }
+    ensures { λ r. ⌜ AnswerPost (problemOf (now (packages .entry)) (value optional) (now (order .entry))) m (now (t .entry)) (pairCall op a b) (length (now (work .entry))) r (now (t .exit)) ⌝ }
 {
     let mut keys = [0u32; 512];
     let mut index = [0u16; 131072];
-    let r = guard::admit(m, packages, optional, t, &mut keys, &mut index);
+    let r = guard::admit(m, packages, optional, order, t, &mut keys, &mut index);
     if r != 0 {
         return statement::declined(r);
     }
@@ -391,17 +411,18 @@ fn answer_part(
     m: u32,
     packages: &[u64],
     optional: Items,
+    order: &[u8],
     t: &mut [u32],
     holding: bool,
     a: u32,
     p: u32,
     work: &mut [u64],
 ) -> Report
-    ensures { λ r. ⌜ AnswerPost (problemOf (now (packages .entry)) (value optional)) m (now (t .entry)) (partCall holding a p) (length (now (work .entry))) r (now (t .exit)) ⌝ }
+    ensures { λ r. ⌜ AnswerPost (problemOf (now (packages .entry)) (value optional) (now (order .entry))) m (now (t .entry)) (partCall holding a p) (length (now (work .entry))) r (now (t .exit)) ⌝ }
 {
     let mut keys = [0u32; 512];
     let mut index = [0u16; 131072];
-    let r = guard::admit(m, packages, optional, t, &mut keys, &mut index);
+    let r = guard::admit(m, packages, optional, order, t, &mut keys, &mut index);
     if r != 0 {
         return statement::declined(r);
     }
@@ -426,19 +447,20 @@ pub fn answer(
     m: u32,
     packages: &[u64],
     optional: Items,
+    order: &[u8],
     t: &mut [u32],
     c: Call,
     work: &mut [u64],
 ) -> Report
-    ensures { λ r. ⌜ AnswerPost (problemOf (now (packages .entry)) (value optional)) m (now (t .entry)) c (length (now (work .entry))) r (now (t .exit)) ⌝ }
+    ensures { λ r. ⌜ AnswerPost (problemOf (now (packages .entry)) (value optional) (now (order .entry))) m (now (t .entry)) c (length (now (work .entry))) r (now (t .exit)) ⌝ }
 {
     match c {
-        Call::Cover { d, limit } => cover(m, packages, optional, t, d, limit, work),
-        Call::Either { a, b } => answer_pair(m, packages, optional, t, 0, a, b, work),
-        Call::Both { a, b } => answer_pair(m, packages, optional, t, 1, a, b, work),
-        Call::Only { a, b } => answer_pair(m, packages, optional, t, 2, a, b, work),
-        Call::With { a, p } => answer_part(m, packages, optional, t, true, a, p, work),
-        Call::Without { a, p } => answer_part(m, packages, optional, t, false, a, p, work),
+        Call::Cover { d, limit } => cover(m, packages, optional, order, t, d, limit, work),
+        Call::Either { a, b } => answer_pair(m, packages, optional, order, t, 0, a, b, work),
+        Call::Both { a, b } => answer_pair(m, packages, optional, order, t, 1, a, b, work),
+        Call::Only { a, b } => answer_pair(m, packages, optional, order, t, 2, a, b, work),
+        Call::With { a, p } => answer_part(m, packages, optional, order, t, true, a, p, work),
+        Call::Without { a, p } => answer_part(m, packages, optional, order, t, false, a, p, work),
     }
 }
 
@@ -447,14 +469,15 @@ pub fn either(
     m: u32,
     packages: &[u64],
     optional: Items,
+    order: &[u8],
     t: &mut [u32],
     a: u32,
     b: u32,
     work: &mut [u64],
 ) -> Report
-    ensures { λ r. ⌜ EitherPost (problemOf (now (packages .entry)) (value optional)) m (now (t .entry)) a b (length (now (work .entry))) r (now (t .exit)) ⌝ }
+    ensures { λ r. ⌜ EitherPost (problemOf (now (packages .entry)) (value optional) (now (order .entry))) m (now (t .entry)) a b (length (now (work .entry))) r (now (t .exit)) ⌝ }
 {
-    answer(m, packages, optional, t, Call::Either { a, b }, work)
+    answer(m, packages, optional, order, t, Call::Either { a, b }, work)
 }
 
 // Intersection: the timetables of a that b has too.
@@ -462,14 +485,15 @@ pub fn both(
     m: u32,
     packages: &[u64],
     optional: Items,
+    order: &[u8],
     t: &mut [u32],
     a: u32,
     b: u32,
     work: &mut [u64],
 ) -> Report
-    ensures { λ r. ⌜ BothPost (problemOf (now (packages .entry)) (value optional)) m (now (t .entry)) a b (length (now (work .entry))) r (now (t .exit)) ⌝ }
+    ensures { λ r. ⌜ BothPost (problemOf (now (packages .entry)) (value optional) (now (order .entry))) m (now (t .entry)) a b (length (now (work .entry))) r (now (t .exit)) ⌝ }
 {
-    answer(m, packages, optional, t, Call::Both { a, b }, work)
+    answer(m, packages, optional, order, t, Call::Both { a, b }, work)
 }
 
 // Difference: the timetables of a that b has not.
@@ -477,14 +501,15 @@ pub fn only(
     m: u32,
     packages: &[u64],
     optional: Items,
+    order: &[u8],
     t: &mut [u32],
     a: u32,
     b: u32,
     work: &mut [u64],
 ) -> Report
-    ensures { λ r. ⌜ OnlyPost (problemOf (now (packages .entry)) (value optional)) m (now (t .entry)) a b (length (now (work .entry))) r (now (t .exit)) ⌝ }
+    ensures { λ r. ⌜ OnlyPost (problemOf (now (packages .entry)) (value optional) (now (order .entry))) m (now (t .entry)) a b (length (now (work .entry))) r (now (t .exit)) ⌝ }
 {
-    answer(m, packages, optional, t, Call::Only { a, b }, work)
+    answer(m, packages, optional, order, t, Call::Only { a, b }, work)
 }
 
 // The timetables of a that hold p.
@@ -492,14 +517,15 @@ pub fn with(
     m: u32,
     packages: &[u64],
     optional: Items,
+    order: &[u8],
     t: &mut [u32],
     a: u32,
     p: u32,
     work: &mut [u64],
 ) -> Report
-    ensures { λ r. ⌜ WithPost (problemOf (now (packages .entry)) (value optional)) m (now (t .entry)) a p (length (now (work .entry))) r (now (t .exit)) ⌝ }
+    ensures { λ r. ⌜ WithPost (problemOf (now (packages .entry)) (value optional) (now (order .entry))) m (now (t .entry)) a p (length (now (work .entry))) r (now (t .exit)) ⌝ }
 {
-    answer(m, packages, optional, t, Call::With { a, p }, work)
+    answer(m, packages, optional, order, t, Call::With { a, p }, work)
 }
 
 // The timetables of a that do not hold p.
@@ -507,12 +533,21 @@ pub fn without(
     m: u32,
     packages: &[u64],
     optional: Items,
+    order: &[u8],
     t: &mut [u32],
     a: u32,
     p: u32,
     work: &mut [u64],
 ) -> Report
-    ensures { λ r. ⌜ WithoutPost (problemOf (now (packages .entry)) (value optional)) m (now (t .entry)) a p (length (now (work .entry))) r (now (t .exit)) ⌝ }
+    ensures { λ r. ⌜ WithoutPost (problemOf (now (packages .entry)) (value optional) (now (order .entry))) m (now (t .entry)) a p (length (now (work .entry))) r (now (t .exit)) ⌝ }
 {
-    answer(m, packages, optional, t, Call::Without { a, p }, work)
+    answer(
+        m,
+        packages,
+        optional,
+        order,
+        t,
+        Call::Without { a, p },
+        work,
+    )
 }

@@ -25,7 +25,7 @@ returns-2 : tie.Need-returns-2
 returns-2 c =
     let if1 = c .before .before .before .if1 in
     let admit = c .before .before .before .before .before .admit in
-    let given = c .before .before .before .before .before .before .before .before .before .before .before .before .args in
+    let given = c .before .before .before .before .before .before .before .before .before .before .before .before .before .args in
     pair-makes (admit .ensures .fit (if1 .left)) (admit .ensures .usable (if1 .left)) _ _ _ (given .op)
     (refused-makes 5 (hit 5 _ (first-unknown _ _ _ (c .before .if2 .taken))) (λ z. omega arith) (c .declined2 .ensures _))
 
@@ -37,7 +37,7 @@ returns-3 c =
     let if1 = c .before .before .before .before .if1 in
     let admit = c .before .before .before .before .before .before .admit in
     let here = c .before .before .before .before .before .before .before .before .before .before .before .before .before in
-    let given = here .args in
+    let given = here .before .args in
     pair-makes (admit .ensures .fit (if1 .left)) (admit .ensures .usable (if1 .left)) _ _ _ (given .op)
     (refused-makes 5 (hit 5 _ (second-unknown _ _ _ (c .before .if3 .taken))) (λ z. omega arith) (c .declined3 .ensures _))
 
@@ -48,7 +48,7 @@ returns-4 c =
     let if1 = c .before .before .before .before .before .if1 in
     let admit = c .before .before .before .before .before .before .before .admit in
     let here = c .before .before .before .before .before .before .before .before .before .before .before .before .before .before in
-    let given = here .args in
+    let given = here .before .args in
     pair-makes (admit .ensures .fit (if1 .left)) (admit .ensures .usable (if1 .left)) _ _ _ (given .op)
     (refused-makes 8 (pass 5 _ (both-known _ _ _ (omega (arith, if2 .left)) (omega (arith, if3 .left))) ∙ hit 8 _ (too-few _ _ (c .before .if4 .taken))) (λ z. omega arith) (c .declined4 .ensures _))
 
@@ -92,7 +92,7 @@ returns-5 c =
     let if2 = here .before .if2 in
     let if1 = here .before .before .before .if1 in
     let admit = here .before .before .before .before .before .admit in
-    let given = here .before .before .before .before .before .before .before .before .before .before .before .before .args in
+    let given = here .before .before .before .before .before .before .before .before .before .before .before .before .before .args in
     let u = admit .ensures .usable (if1 .left) in
     pair-makes (admit .ensures .fit (if1 .left)) u _ _ _ (given .op)
     (reported-makes (rw (u .keyed .are) at (rw (number .ensures) at (combination .ensures))) (c .report .ensures)

@@ -25,7 +25,7 @@ returns-2 : tie.Need-returns-2
 returns-2 c =
     let if1 = c .before .before .before .if1 in
     let admit = c .before .before .before .before .before .admit in
-    let given = c .before .before .before .before .before .before .before .before .before .before .before .before .args in
+    let given = c .before .before .before .before .before .before .before .before .before .before .before .before .before .args in
     part-makes (admit .ensures .fit (if1 .left)) (admit .ensures .usable (if1 .left)) _ _ _ (given .holding)
     (refused-makes 5 (hit 5 _ (answer-unknown _ _ (c .before .if2 .taken))) (λ z. omega arith) (c .declined2 .ensures _))
 
@@ -37,7 +37,7 @@ returns-3 c =
     let if1 = c .before .before .before .before .before .before .if1 in
     let admit = c .before .before .before .before .before .before .before .before .admit in
     let here = c .before .before .before .before .before .before .before .before .before .before .before .before .before .before .before in
-    let given = here .args in
+    let given = here .before .args in
     part-makes (admit .ensures .fit (if1 .left)) (admit .ensures .usable (if1 .left)) _ _ _ (given .holding)
     (refused-makes 6 (pass 5 _ (answer-known _ _ (omega (arith, if2 .left))) ∙ hit 6 _
     (package-unknown _ _ (omega (arith, wide .ensures, number .ensures, c .before .if3 .taken)))) (λ z. omega arith) (c .declined3 .ensures _))
@@ -51,7 +51,7 @@ returns-4 c =
     let if1 = c .before .before .before .before .before .before .before .if1 in
     let admit = c .before .before .before .before .before .before .before .before .before .admit in
     let here = c .before .before .before .before .before .before .before .before .before .before .before .before .before .before .before .before in
-    let given = here .args in
+    let given = here .before .args in
     part-makes (admit .ensures .fit (if1 .left)) (admit .ensures .usable (if1 .left)) _ _ _ (given .holding)
     (refused-makes 8 (pass 5 _ (answer-known _ _ (omega (arith, if2 .left))) ∙ pass 6 _
     (package-known _ _ (omega (arith, wide .ensures, number .ensures, if3 .left))) ∙ hit 8 _ (too-few _ _ (c .before .if4 .taken))) (λ z. omega arith) (c .declined4 .ensures _))
@@ -102,7 +102,7 @@ returns-5 c =
     let if2 = here .if2 in
     let if1 = here .before .before .if1 in
     let admit = here .before .before .before .before .admit in
-    let given = here .before .before .before .before .before .before .before .before .before .before .before .args in
+    let given = here .before .before .before .before .before .before .before .before .before .before .before .before .args in
     let u = admit .ensures .usable (if1 .left) in
     part-makes (admit .ensures .fit (if1 .left)) u _ _ _ (given .holding)
     (reported-makes (rw (u .keyed .are) at (rw (number2 .ensures) at (restriction .ensures))) (c .report .ensures)

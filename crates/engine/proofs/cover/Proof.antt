@@ -1,7 +1,12 @@
 use Rattle.engine.proofs.Covering.{refuses, cover-refused, cover-makes, item-unknown, words-short, limit-met, no-room, steps-fit, cover-answers}
 use Rattle.guard.proofs.GuardLaws.{blank}
+use Rattle.itemset.proofs.Laws.{below-lt}
+use Rattle.statement.proofs.Admission.{span-fit}
 use borrow.Author.Tests.{not-true, not-false}
+use Rattle.itemset.specs.Words.{value}
+use lib.ListN.{length}
 use native.Mathlib.Omega.{arith}
+use Prim.Native.Nat.{_^_, _<_}
 use mathlib.Core.Path.{refl, sym, _∙_}
 use borrow.Author.Needs.{needs}
 use Rattle.engine.proofs.cover.Statement.{statement}
@@ -32,8 +37,14 @@ returns-3 c =
 
 cover-requires : tie.Need-cover-requires
 cover-requires c κs =
-    let u = c .before .before .before .before .before .before .before .before .admit .ensures .usable (c .before .before .before .before .before .before .if1 .left) in
-    (u .rows, (u .sound, (u .indexed, omega (arith, c .before .before .before .if3 .left))))
+    let if2 = c .before .before .before .before .if2 in
+    let below = c .before .before .before .before .before .below in
+    let if1 = c .before .before .before .before .before .before .if1 in
+    let admit = c .before .before .before .before .before .before .before .before .admit in
+    let u = admit .ensures .usable (if1 .left) in
+    let given = c .before .before .before .before .before .before .before .before .before .before .before .before .before .before .before .before .args in
+    let small : value (given .d) < 2 ^ length (given .order .now) = rw (span-fit (admit .ensures .fit (if1 .left))) (below-lt _ _ (sym (below .ensures) ∙ not-false _ (if2 .left))) in
+    (u .rows, (small, (u .sound, (u .indexed, omega (arith, c .before .before .before .if3 .left)))))
 
 returns-4 : tie.Need-returns-4
 returns-4 c =
@@ -63,15 +74,15 @@ returns-5 c =
     (refuses 10 (no-room _ _ e (omega (arith, if3 .left)) (cover′ .ensures) (if4 .left) (c .before .if5 .taken))
     (λ z. omega arith) (cover′ .ensures .back-full (c .before .if5 .taken)) (c .declined5 .ensures))
 
-cast-t27 : tie.Need-cast-t27
-cast-t27 c =
+cast-t28 : tie.Need-cast-t28
+cast-t28 c =
     let if4 = c .before .before .if4 in
     let cover′ = c .before .before .before .before .before .before .before .cover in
     let if3 = c .before .before .before .before .before .before .before .before .before .before .before .if3 in
     let if2 = c .before .before .before .before .before .before .before .before .before .before .before .before .if2 in
     let here = c .before .before .before .before .before .before .before .before .before .before .before .before .before in
     let below = here .below in
-    let bounds = here .before .before .before .before .before .before .before .before .before .before .fits in
+    let bounds = here .before .before .before .before .before .before .before .before .before .before .before .fits in
     let e = sym (below .ensures) ∙ not-false _ (if2 .left) in
     record { fits = omega (arith, steps-fit _ _ e (omega (arith, if3 .left)) (cover′ .ensures) (if4 .left) (c .before .if5 .left), bounds .limit .fits) }
 
@@ -94,5 +105,5 @@ cover-spec =
     tie.close
     (tie.spec (λ c. search needs) admit-requires (λ c κs. search needs) (λ c. search needs) returns (λ c κs. search needs) (λ c κs. search needs)
     (λ c. search needs) returns-2 (λ c κs. search needs) (λ c. search needs) returns-3 cover-requires (λ c κs. search needs) (λ c. search needs)
-    (λ c. search needs) returns-4 (λ c κs. search needs) (λ c. search needs) (λ c. search needs) returns-5 cast-t27 (λ c. search needs)
+    (λ c. search needs) returns-4 (λ c κs. search needs) (λ c. search needs) (λ c. search needs) returns-5 cast-t28 (λ c. search needs)
     (λ c. search needs) returns-6)

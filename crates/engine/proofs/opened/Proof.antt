@@ -7,7 +7,7 @@ use Rattle.engine.proofs.opened.Statement.{statement}
 use Rattle.engine.proofs.opened.Tie as tie
 
 admit-requires : tie.Need-admit-requires
-admit-requires c κs = record { keys-long = c .before .before .before .before .pre; fresh = fresh 131072 refl }
+admit-requires c κs = record { keys-long = c .before .before .before .before .before .pre; fresh = fresh 131072 refl }
 
 returns : tie.Need-returns
 returns c = opened-refused _ (c .before .admit .ensures) (c .if1 .taken)

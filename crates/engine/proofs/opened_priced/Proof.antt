@@ -11,7 +11,7 @@ returns-2 : tie.Need-returns-2
 returns-2 c = opened-rest _ (sym (c .before .before .before .packages-refusal .ensures) ∙ c .before .before .if1 .left) (priced-3 _ (λ e. c .if2 .taken (e ∙ sym (c .before .number .ensures))))
 
 opened-requires : tie.Need-opened-requires
-opened-requires c κs = c .before .before .before .before .before .before .before .before .pre
+opened-requires c κs = c .before .before .before .before .before .before .before .before .before .pre
 
 returns-3 : tie.Need-returns-3
 returns-3 c =
