@@ -10,7 +10,7 @@ use native.Mathlib.Omega.{arith}
 use lib.ListN.{length, getD, take}
 use Rattle.itemset.specs.Words.{width, valueOf}
 use Rattle.itemset.specs.declared.Items.{Items}
-use Rattle.itemset.specs.Items.{holds, insideb, without, belowb, size, lowest}
+use Rattle.itemset.specs.Items.{holds, insideb, without, belowb, size}
 use Rattle.zdd.specs.Table.{nodesOf, capacity, families, family, order, allSets, sets, filter, soundb, eqSet, elem, has, _∈_}
 use Rattle.zdd.specs.Operations.{combine, including, excluding}
 use Rattle.zdd.specs.Below.{Below, newBelow}
@@ -21,11 +21,11 @@ use Rattle.statement.specs.declared.Report.{Report}
 use Rattle.statement.specs.declared.Outcome.the-variants.{Answer, Refused}
 use Rattle.statement.specs.declared.Picked.the-variants.{Packages}
 use Rattle.statement.specs.declared.Measured.the-variants.{Packages as MeasuredPackages}
-use Rattle.statement.specs.Refusals.{firstOf, oversize, anyPackage, stray, strayOptional, nothingCompulsory, unsound, unknownAnswer, unknownItem, shortWork}
+use Rattle.statement.specs.Refusals.{firstOf, oversize, anyPackage, stray, strayOptional, nothingCompulsory, disordered, unsound, unknownAnswer, unknownItem, shortWork}
 use Rattle.statement.specs.Refusals.{spent, full, uncountable, pastEnd, shortPage, pickRefusal, measureRefusal}
 use Rattle.statement.specs.Calls.{callRefusal, coverRefusal}
 use Rattle.statement.specs.declared.Call.the-variants.{Cover, Only, With, Without}
-use Rattle.exact_cover.specs.Problem.{lead, done}
+use Rattle.exact_cover.specs.Problem.{countFrom, earliest, times, eachOnce, lead, done}
 use Rattle.query.specs.Questions.{unknownPackage}
 use Rattle.statement.specs.Postconditions.{CoverPost, WithPost, WithoutPost, OnlyPost, PickPost, MeasurePost}
 use Rattle.history.specs.Histories.{entry, Calls, given, History, start, next, SameSet, Posting, noTimetable, ledger, Returns, Demanded, Needed}
@@ -33,7 +33,7 @@ use Rattle.statement.specs.Replies.{gives, measureReply}
 use Rattle.history.proofs.Contract.{gives-one}
 use Rattle.history.proofs.Demand.{demand3}
 use Rattle.history.proofs.Spare.{no-spare-node}
-use Rattle.statement.specs.Examples.{figure1, publicSlot, emptyTable}
+use Rattle.statement.specs.Examples.{figure1, figure1In, reversed, publicSlot, emptyTable}
 
 -- 2 is {2}; 3 is {4, 2}; 4 is {1, 4, 2}; 5 is {0, 2} and {1, 4, 2}
 abbrev covered : List ℕ
@@ -47,9 +47,9 @@ abbrev report : ℕ → ℕ → ℕ → Report
 report a s c = record { outcome = Answer a; steps = s; made = c }
 
 first-cover : CoverPost figure1 6 (emptyTable 6) 63 6 256 (report 5 6 4) covered
-unfolding holds insideb without belowb size lowest lead done nodesOf capacity families family order allSets sets filter soundb eqSet elem starting
+unfolding holds insideb without belowb size countFrom earliest times eachOnce lead done nodesOf capacity families family order allSets sets filter soundb eqSet elem starting
     others weight branchesTo branches eqFamily amongb fresh missing newBelow keysFrom keysOf holders allInside takes once covers covering fits down candidates each
-    visit steps firstOf oversize anyPackage stray strayOptional nothingCompulsory unsound unknownItem shortWork spent full callRefusal width valueOf
+    visit steps firstOf oversize anyPackage stray strayOptional nothingCompulsory disordered unsound unknownItem shortWork spent full callRefusal width valueOf
 first-cover = record {
   declined = λ l. absurd (not-suc-le-zero l);
   answered = λ e. record { number = 5; outcome = refl; known = omega arith; holds = refl; steps = refl; long = refl; sound = refl; old = refl; grown = refl; made = refl };
@@ -57,16 +57,16 @@ first-cover = record {
 
 -- B is 5
 second-cover : CoverPost figure1 6 covered 63 5 256 (record { outcome = Refused 9; steps = 0; made = 0 }) covered
-unfolding holds insideb without belowb size lowest lead done nodesOf capacity order allSets sets filter soundb eqSet keysFrom keysOf fits down
-    candidates each visit steps firstOf oversize anyPackage stray strayOptional nothingCompulsory unsound unknownItem shortWork spent callRefusal width valueOf
+unfolding holds insideb without belowb size countFrom earliest times eachOnce lead done nodesOf capacity order allSets sets filter soundb eqSet keysFrom keysOf fits down
+    candidates each visit steps firstOf oversize anyPackage stray strayOptional nothingCompulsory disordered unsound unknownItem shortWork spent callRefusal width valueOf
 second-cover = record {
   declined = λ l. record { outcome = refl; steps = refl; made = refl; table = refl };
   answered = λ (e : coverRefusal figure1 6 covered 63 5 256 ≡ 0). absurd (omega arith);
 }
 
 with-0 : WithPost figure1 6 covered 5 0 2 (report 6 0 1) final
-unfolding holds insideb without belowb size lowest lead done nodesOf capacity families family order allSets sets filter soundb eqSet elem has starting
-    others weight branchesTo branches eqFamily amongb fresh missing newBelow keysFrom keysOf firstOf oversize anyPackage stray strayOptional nothingCompulsory unsound unknownAnswer
+unfolding holds insideb without belowb size countFrom earliest times eachOnce lead done nodesOf capacity families family order allSets sets filter soundb eqSet elem has starting
+    others weight branchesTo branches eqFamily amongb fresh missing newBelow keysFrom keysOf firstOf oversize anyPackage stray strayOptional nothingCompulsory disordered unsound unknownAnswer
     unknownPackage shortWork full including callRefusal width valueOf
 with-0 = record {
   declined = λ l. absurd (not-suc-le-zero l);
@@ -75,8 +75,8 @@ with-0 = record {
 
 -- {1, 4, 2} is number 4 already
 only-other : OnlyPost figure1 6 final 5 6 2 (report 4 0 0) final
-unfolding holds insideb without belowb size lowest lead done nodesOf capacity families family order allSets sets filter soundb eqSet elem has combine
-    starting others weight branchesTo branches eqFamily amongb fresh missing newBelow keysFrom keysOf firstOf oversize anyPackage stray strayOptional nothingCompulsory unsound unknownAnswer
+unfolding holds insideb without belowb size countFrom earliest times eachOnce lead done nodesOf capacity families family order allSets sets filter soundb eqSet elem has combine
+    starting others weight branchesTo branches eqFamily amongb fresh missing newBelow keysFrom keysOf firstOf oversize anyPackage stray strayOptional nothingCompulsory disordered unsound unknownAnswer
     shortWork full callRefusal width valueOf
 only-other = record {
   declined = λ l. absurd (not-suc-le-zero l);
@@ -85,8 +85,8 @@ only-other = record {
 
 -- and so it is made another way
 without-0 : WithoutPost figure1 6 final 5 0 2 (report 4 0 0) final
-unfolding holds insideb without belowb size lowest lead done nodesOf capacity families family order allSets sets filter soundb eqSet elem has starting
-    others weight branchesTo branches eqFamily amongb fresh missing newBelow keysFrom keysOf firstOf oversize anyPackage stray strayOptional nothingCompulsory unsound unknownAnswer
+unfolding holds insideb without belowb size countFrom earliest times eachOnce lead done nodesOf capacity families family order allSets sets filter soundb eqSet elem has starting
+    others weight branchesTo branches eqFamily amongb fresh missing newBelow keysFrom keysOf firstOf oversize anyPackage stray strayOptional nothingCompulsory disordered unsound unknownAnswer
     unknownPackage shortWork full excluding callRefusal width valueOf
 without-0 = record {
   declined = λ l. absurd (not-suc-le-zero l);
@@ -95,9 +95,9 @@ without-0 = record {
 
 -- the first cover again: the same steps, and no node made
 third-cover : CoverPost figure1 6 final 63 6 256 (report 5 6 0) final
-unfolding holds insideb without belowb size lowest lead done nodesOf capacity families family order allSets sets filter soundb eqSet elem starting
+unfolding holds insideb without belowb size countFrom earliest times eachOnce lead done nodesOf capacity families family order allSets sets filter soundb eqSet elem starting
     others weight branchesTo branches eqFamily amongb fresh missing newBelow keysFrom keysOf holders allInside takes once covers covering fits down candidates each
-    visit steps firstOf oversize anyPackage stray strayOptional nothingCompulsory unsound unknownItem shortWork spent full callRefusal width valueOf
+    visit steps firstOf oversize anyPackage stray strayOptional nothingCompulsory disordered unsound unknownItem shortWork spent full callRefusal width valueOf
 third-cover = record {
   declined = λ l. absurd (not-suc-le-zero l);
   answered = λ e. record { number = 5; outcome = refl; known = omega arith; holds = refl; steps = refl; long = refl; sound = refl; old = refl; grown = refl; made = refl };
@@ -174,25 +174,27 @@ two-sets e = let z : _≡_ {A = ℕ} 5 4 = demanded .numbers (posting 0) (postin
 
 -- the second timetable of 5, on a page of four
 picked : PickPost figure1 6 final 5 1 6 (7 ∷ 7 ∷ 7 ∷ 7 ∷ []) (Packages 3) (1 ∷ 4 ∷ 2 ∷ 7 ∷ [])
-unfolding holds insideb without belowb lowest lead done nodesOf capacity families family soundb keysFrom keysOf firstOf oversize anyPackage stray strayOptional nothingCompulsory unsound
+unfolding holds insideb without belowb countFrom earliest times eachOnce lead done nodesOf capacity families family soundb keysFrom keysOf firstOf oversize
+    anyPackage stray strayOptional nothingCompulsory disordered unsound
     unknownAnswer shortWork uncountable pastEnd shortPage pickRefusal width valueOf
 picked = record { result = refl; pages = refl }
 
 -- it is what the demand says
 second-of-five : Returns (1 ∷ 4 ∷ 2 ∷ []) (7 ∷ 7 ∷ 7 ∷ 7 ∷ []) (Packages 3) (1 ∷ 4 ∷ 2 ∷ 7 ∷ [])
-unfolding holds insideb without belowb size lowest lead done order allSets sets filter keysFrom keysOf holders allInside takes once covers width valueOf
+unfolding holds insideb without belowb size countFrom earliest times eachOnce lead done order allSets sets filter keysFrom keysOf holders allInside takes once covers width valueOf
 second-of-five =
     demanded .picks (posting 0) (posted 0 (omega arith)) (omega arith) 6 (List·Memᴰ·head refl) 6 (omega arith) 1
     (7 ∷ 7 ∷ 7 ∷ 7 ∷ []) (Packages 3) (1 ∷ 4 ∷ 2 ∷ 7 ∷ []) picked .0 (omega arith) (omega arith)
 
 -- measured, with no page
 measured : MeasurePost figure1 6 final 5 1 6 (MeasuredPackages 3)
-unfolding holds insideb without belowb lowest lead done nodesOf capacity families family soundb keysFrom keysOf firstOf oversize anyPackage stray strayOptional nothingCompulsory unsound
+unfolding holds insideb without belowb countFrom earliest times eachOnce lead done nodesOf capacity families family soundb keysFrom keysOf firstOf oversize
+    anyPackage stray strayOptional nothingCompulsory disordered unsound
     unknownAnswer shortWork uncountable pastEnd measureRefusal width valueOf
 measured = record { result = refl }
 
 three-packages : measureReply (MeasuredPackages 3) ≡ gives (length {A = ℕ} (1 ∷ 4 ∷ 2 ∷ []))
-unfolding holds insideb without belowb size lowest lead done order allSets sets filter keysFrom keysOf holders allInside takes once covers width valueOf
+unfolding holds insideb without belowb size countFrom earliest times eachOnce lead done order allSets sets filter keysFrom keysOf holders allInside takes once covers width valueOf
 three-packages =
     demanded .measures (posting 0) (posted 0 (omega arith)) (omega arith) 6 (List·Memᴰ·head refl) 6 (omega arith) 1
     (MeasuredPackages 3) measured .0 (omega arith)
@@ -224,15 +226,15 @@ spare = 6 ∷ 2 ∷ 0 ∷ 1 ∷ 4 ∷ 0 ∷ 2 ∷ 1 ∷ 0 ∷ 3 ∷ 0 ∷ 4 ∷ 
 
 -- it is sound, the old nodes stand first, and 5 still holds the covers of all items
 spare-sound : (soundb (keysOf figure1) spare ≡ true) × (take 5 (nodesOf spare) ≡ nodesOf final) × (family (nodesOf spare) 5 ≡ covering figure1 63)
-unfolding holds insideb without belowb size lowest lead done nodesOf capacity families family order allSets sets filter soundb keysFrom keysOf holders allInside
+unfolding holds insideb without belowb size countFrom earliest times eachOnce lead done nodesOf capacity families family order allSets sets filter soundb keysFrom keysOf holders allInside
     takes once covers covering width valueOf
 spare-sound = (refl, refl, refl)
 
 -- but a cover that makes that node, fewer than the four branch nodes of its answer, does not meet its contract
 no-spare : CoverPost figure1 6 final 63 6 256 (report 5 6 1) spare → ⊥
-unfolding holds insideb without belowb size lowest lead done nodesOf capacity families family order allSets sets filter soundb eqSet elem starting
+unfolding holds insideb without belowb size countFrom earliest times eachOnce lead done nodesOf capacity families family order allSets sets filter soundb eqSet elem starting
     others weight branchesTo branches eqFamily amongb fresh missing newBelow keysFrom keysOf holders allInside takes once covers covering fits down candidates
-    each visit steps firstOf oversize anyPackage stray strayOptional nothingCompulsory unsound unknownItem shortWork spent full callRefusal width valueOf
+    each visit steps firstOf oversize anyPackage stray strayOptional nothingCompulsory disordered unsound unknownItem shortWork spent full callRefusal width valueOf
 no-spare C =
     let A = C .answered refl in
     let five : A .number ≡ 5 = gives-one (gives 5) (A .number) 5 (A .outcome) refl in
@@ -246,9 +248,9 @@ abbrev publicTable : List ℕ
 publicTable = 4 ∷ 3 ∷ 0 ∷ 1 ∷ 1 ∷ 0 ∷ 2 ∷ 2 ∷ 2 ∷ 1 ∷ 0 ∷ 3 ∷ 4 ∷ []
 
 public-cover : CoverPost publicSlot 3 (emptyTable 4) 7 6 256 (report 5 6 4) publicTable
-unfolding holds insideb without belowb size lowest lead done nodesOf capacity families family order allSets sets filter soundb eqSet elem starting
+unfolding holds insideb without belowb size countFrom earliest times eachOnce lead done nodesOf capacity families family order allSets sets filter soundb eqSet elem starting
     others weight branchesTo branches eqFamily amongb fresh missing newBelow keysFrom keysOf holders allInside takes once covers covering fits down candidates each
-    visit steps firstOf oversize anyPackage stray strayOptional nothingCompulsory unsound unknownItem shortWork spent full callRefusal width valueOf
+    visit steps firstOf oversize anyPackage stray strayOptional nothingCompulsory disordered unsound unknownItem shortWork spent full callRefusal width valueOf
 public-cover = record {
   declined = λ l. absurd (not-suc-le-zero l);
   answered = λ e. record { number = 5; outcome = refl; known = omega arith; holds = refl; steps = refl; long = refl; sound = refl; old = refl; grown = refl; made = refl };
@@ -256,9 +258,9 @@ public-cover = record {
 
 -- D is the optional item alone: nothing must be covered
 optional-cover : CoverPost publicSlot 3 publicTable 4 1 4 (report 1 1 0) publicTable
-unfolding holds insideb without belowb size lowest lead done nodesOf capacity families family order allSets sets filter soundb eqSet elem starting
+unfolding holds insideb without belowb size countFrom earliest times eachOnce lead done nodesOf capacity families family order allSets sets filter soundb eqSet elem starting
     others weight branchesTo branches eqFamily amongb fresh missing newBelow keysFrom keysOf holders allInside takes once covers covering fits down candidates each
-    visit steps firstOf oversize anyPackage stray strayOptional nothingCompulsory unsound unknownItem shortWork spent full callRefusal width valueOf
+    visit steps firstOf oversize anyPackage stray strayOptional nothingCompulsory disordered unsound unknownItem shortWork spent full callRefusal width valueOf
 optional-cover = record {
   declined = λ l. absurd (not-suc-le-zero l);
   answered = λ e. record { number = 1; outcome = refl; known = omega arith; holds = refl; steps = refl; long = refl; sound = refl; old = refl; grown = refl; made = refl };
@@ -292,12 +294,12 @@ nothing-due = public-demanded .numbers (public-posting 0) (public-posting 3) (pu
 
 -- the second timetable of 5 leaves the optional item to nobody
 public-picked : PickPost publicSlot 3 publicTable 5 1 6 (7 ∷ 7 ∷ []) (Packages 2) (0 ∷ 3 ∷ [])
-unfolding holds insideb without belowb lowest lead done nodesOf capacity families family soundb keysFrom keysOf firstOf oversize anyPackage stray strayOptional
-    nothingCompulsory unsound unknownAnswer shortWork uncountable pastEnd shortPage pickRefusal width valueOf
+unfolding holds insideb without belowb countFrom earliest times eachOnce lead done nodesOf capacity families family soundb keysFrom keysOf firstOf oversize anyPackage stray strayOptional
+    nothingCompulsory disordered unsound unknownAnswer shortWork uncountable pastEnd shortPage pickRefusal width valueOf
 public-picked = record { result = refl; pages = refl }
 
 second-of-public : Returns (0 ∷ 3 ∷ []) (7 ∷ 7 ∷ []) (Packages 2) (0 ∷ 3 ∷ [])
-unfolding holds insideb without belowb size lowest lead done order allSets sets filter keysFrom keysOf holders allInside takes once covers width valueOf
+unfolding holds insideb without belowb size countFrom earliest times eachOnce lead done order allSets sets filter keysFrom keysOf holders allInside takes once covers width valueOf
 second-of-public =
     public-demanded .picks (public-posting 1) (public-posted 1 (omega arith)) (omega arith) 3 (List·Memᴰ·head refl) 6 (omega arith) 1
     (7 ∷ 7 ∷ []) (Packages 2) (0 ∷ 3 ∷ []) public-picked .0 (omega arith) (omega arith)
@@ -305,3 +307,46 @@ second-of-public =
 -- each of its nodes is below an answer given
 public-needed : Needed public-calls publicTable
 public-needed = no-spare-node publicSlot public-calls publicTable public-history
+
+-- ---- a history in another order [document 02, No. 4]
+
+-- 2 is {1}; 3 is {4, 1}; 4 is {0} and {4, 1}; 5 is {2, 0} and {2, 4, 1}
+abbrev reversedTable : List ℕ
+reversedTable = 4 ∷ 1 ∷ 0 ∷ 1 ∷ 4 ∷ 0 ∷ 2 ∷ 0 ∷ 3 ∷ 1 ∷ 2 ∷ 0 ∷ 4 ∷ []
+
+reversed-cover : CoverPost (figure1In reversed) 6 (emptyTable 4) 63 6 256 (report 5 6 4) reversedTable
+unfolding holds insideb without belowb size countFrom earliest times eachOnce lead done nodesOf capacity families family order allSets sets filter soundb eqSet elem starting
+    others weight branchesTo branches eqFamily amongb fresh missing newBelow keysFrom keysOf holders allInside takes once covers covering fits down candidates each
+    visit steps firstOf oversize anyPackage stray strayOptional nothingCompulsory disordered unsound unknownItem shortWork spent full callRefusal width valueOf
+reversed-cover = record {
+  declined = λ l. absurd (not-suc-le-zero l);
+  answered = λ e. record { number = 5; outcome = refl; known = omega arith; holds = refl; steps = refl; long = refl; sound = refl; old = refl; grown = refl; made = refl };
+}
+
+abbrev reversed-calls : Calls
+reversed-calls = (entry 6 (Cover (record { w0 = 63; w1 = 0; w2 = 0 }) 6) 256, report 5 6 4) ∷ []
+
+reversed-history : History (figure1In reversed) reversed-calls reversedTable
+unfolding callRefusal valueOf
+reversed-history =
+    next (start 13) (entry 6 (Cover (record { w0 = 63; w1 = 0; w2 = 0 }) 6) 256) (report 5 6 4) reversedTable (λ x m. absurd (List·Memᴰ·not-nil m)) reversed-cover
+
+reversed-demanded : Demanded (figure1In reversed) reversed-calls reversedTable
+reversed-demanded = demand3 (figure1In reversed) reversed-calls reversedTable reversed-history
+
+-- each of its nodes is below an answer given
+reversed-needed : Needed reversed-calls reversedTable
+reversed-needed = no-spare-node (figure1In reversed) reversed-calls reversedTable reversed-history
+
+-- the second timetable, written by the order
+reversed-picked : PickPost (figure1In reversed) 6 reversedTable 5 1 6 (7 ∷ 7 ∷ 7 ∷ []) (Packages 3) (2 ∷ 4 ∷ 1 ∷ [])
+unfolding holds insideb without belowb countFrom earliest times eachOnce lead done nodesOf capacity families family soundb keysFrom keysOf firstOf oversize anyPackage stray
+    strayOptional nothingCompulsory disordered unsound unknownAnswer shortWork uncountable pastEnd shortPage pickRefusal width valueOf
+reversed-picked = record { result = refl; pages = refl }
+
+second-of-reversed : Returns (2 ∷ 4 ∷ 1 ∷ []) (7 ∷ 7 ∷ 7 ∷ []) (Packages 3) (2 ∷ 4 ∷ 1 ∷ [])
+unfolding holds insideb without belowb size countFrom earliest times eachOnce lead done order allSets sets filter keysFrom keysOf holders allInside takes once covers width valueOf
+second-of-reversed =
+    reversed-demanded .picks (getD (ledger (figure1In reversed) reversed-calls) 0 (record { number = 0; set = noTimetable }))
+    (in-list (ledger (figure1In reversed) reversed-calls) 0 (record { number = 0; set = noTimetable }) (omega arith)) (omega arith) 6 (List·Memᴰ·head refl) 6 (omega arith) 1
+    (7 ∷ 7 ∷ 7 ∷ []) (Packages 3) (2 ∷ 4 ∷ 1 ∷ []) reversed-picked .0 (omega arith) (omega arith)

@@ -167,6 +167,7 @@ fn call_of(kind: u64, x: Items, y: u32) -> Call
 fn call(
     packages: &[u64],
     optional: Items,
+    order: &[u8],
     t: &mut [u32],
     work: &mut [u64],
     script: &[u64],
@@ -174,12 +175,20 @@ fn call(
 ) -> Report
     requires { ⌜ i < length (now script) / 7 ⌝ }
     requires { ⌜ possible (length (now work)) (requestAt (now script) i) ≡ true ⌝ }
-    ensures { λ r. ⌜ Step (problemOf (now (packages .entry)) (value optional)) (now (t .entry)) (callAt (now (script .entry)) i) r (now (t .exit)) ⌝ }
+    ensures { λ r. ⌜ Step (problemOf (now (packages .entry)) (value optional) (now (order .entry))) (now (t .entry)) (callAt (now (script .entry)) i) r (now (t .exit)) ⌝ }
 {
     let q = asked(script, i);
     let words = q.words as usize;
     let c = call_of(q.kind, q.x, q.y as u32);
-    engine::answer(q.m as u32, packages, optional, t, c, &mut work[..words])
+    engine::answer(
+        q.m as u32,
+        packages,
+        optional,
+        order,
+        t,
+        c,
+        &mut work[..words],
+    )
 }
 
 // The word of an outcome.
@@ -225,17 +234,18 @@ fn mark_first(given: &mut [u8; 65536])
     given[0] = 1;
 }
 
-// Runs the calls of the script, from an empty table, while the next one may be run; returns how many it ran. One optional set is lent to all of them. out
-// has the reports.
+// Runs the calls of the script, from an empty table, while the next one may be run; returns how many it ran. One optional set and one order are lent to all of
+// them. out has the reports.
 pub fn run(
     packages: &[u64],
     optional: Items,
+    order: &[u8],
     t: &mut [u32],
     work: &mut [u64],
     script: &[u64],
     out: &mut [u64],
 ) -> usize
-    ensures { λ n. ⌜ Ran (problemOf (now (packages .entry)) (value optional)) (now (script .entry)) (length (now (work .entry)))
+    ensures { λ n. ⌜ Ran (problemOf (now (packages .entry)) (value optional) (now (order .entry))) (now (script .entry)) (length (now (work .entry)))
         (now (t .entry)) (now (out .entry)) n (now (t .exit)) (now (out .exit)) ⌝ }
 {
     clear(t);
@@ -245,7 +255,7 @@ pub fn run(
     let room = work.len();
     let mut i: usize = 0;
     while ready(script, places, room, i, &given, t) {
-        let r = call(packages, optional, t, work, script, i);
+        let r = call(packages, optional, order, t, work, script, i);
         let o = r.outcome;
         store(out, i, r);
         mark(&mut given, o);
