@@ -23,9 +23,9 @@ use Rattle.bids.proofs.Fit.{fit}
 use Rattle.bids.proofs.Packed.{packed-sets}
 use Rattle.bids.proofs.Refused.{accepted-sized, accepted-listed}
 
--- what `engine::check` ensures is `CheckPost` of M, the packages, the optional set and the table that it is lent
-check-ensures : (κs : Lfts 2) (a : Dens κs check.ps) (r : resT check.r κs .Denot) (e : AtExit (endedOf 2 check.ps check.r) κs)
-    → check-reads.Learnt κs a r e → CheckPost (problemOf (a .1 .0 .now) (value (a .1 .1 .0))) (a .0) (a .1 .1 .1 .0 .now) r
+-- what `engine::check` ensures is `CheckPost` of M, the packages, the optional set, the order and the table that it is lent
+check-ensures : (κs : Lfts 3) (a : Dens κs check.ps) (r : resT check.r κs .Denot) (e : AtExit (endedOf 3 check.ps check.r) κs)
+    → check-reads.Learnt κs a r e → CheckPost (problemOf (a .1 .0 .now) (value (a .1 .1 .0)) (a .1 .1 .1 .0 .now)) (a .0) (a .1 .1 .1 .1 .0 .now) r
 check-ensures κs a r e p = p
 
 -- by the tests of the check: o and s are the first two, and the others have neither 1 nor 2
@@ -39,9 +39,9 @@ one-or-two false false ts x f g q = (λ z. absurd (never z refl), λ z. absurd (
     other : (n : ℕ) → Avoids n ts → x ≡ refused n → ⊥
     other n v y = avoided n ts v (was-refused n (firstOf ts) tt (sym y ∙ q) .0)
 
-module _ (b : List ℕ) (κs : Lfts 2) (a : Dens κs check.ps) (r : resT check.r κs .Denot) (e : AtExit (endedOf 2 check.ps check.r) κs) (said : check-reads.Learnt κs a r e)
+module _ (b : List ℕ) (κs : Lfts 3) (a : Dens κs check.ps) (r : resT check.r κs .Denot) (e : AtExit (endedOf 3 check.ps check.r) κs) (said : check-reads.Learnt κs a r e)
     (items : a .0 ≡ schools b + slots b) where
-  -- THEOREM: lent words whose sets are the file's packages, and any optional set
+  -- THEOREM: lent words whose sets are the file's packages, any optional set and any order
   pub unfit-is-one-or-two : setsOf (a .1 .0 .now) ≡ packagesOf b → (unfit b ≡ true) ↔ ((soundnessReply r ≡ refused 1) ⊎ (soundnessReply r ≡ refused 2))
   unfolding unfit checkRefusal
   unfit-is-one-or-two lent =

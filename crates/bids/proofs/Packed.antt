@@ -7,7 +7,7 @@ use native.Mathlib.Nat.{lt-of-lt-of-le}
 use native.Mathlib.Omega.{arith}
 use lib.ListN.{length}
 use lib.Pow.{pow-mono}
-use Rattle.exact_cover.specs.Problem.{problemOf}
+use Rattle.exact_cover.specs.Problem.{problemOf, upTo}
 use Rattle.itemset.specs.Words.{width, setsOf, spread}
 use Rattle.itemset.proofs.Lists.{width-is}
 use Rattle.itemset.proofs.Stored.{setsOf-spread}
@@ -27,5 +27,5 @@ module _ (b : List ℕ) (z : refusal b ≡ 0) where
       let h : schools b + slots b ≤ width = omega (arith, width-is, accepted-sized b z refl refl refl .items) in
       setsOf-spread (packagesOf b) (λ k q. lt-of-lt-of-le (package-fits b (accepted-listed b z) k q .1) (pow-mono h))
 
-  pub packed-problem : problemOf (spread 3 (packagesOf b)) 0 ≡ problemIn b
-  packed-problem = ap (λ (xs : List ℕ). record { packages = xs; optional = 0 }) packed-sets
+  pub packed-problem : problemOf (spread 3 (packagesOf b)) 0 (upTo (schools b + slots b)) ≡ problemIn b
+  packed-problem = ap (λ (xs : List ℕ). record { packages = xs; optional = 0; order = upTo (schools b + slots b) }) packed-sets

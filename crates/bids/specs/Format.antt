@@ -1,6 +1,6 @@
 -- The bids file (document 01): PSB in ASCII, version (16 bits, 1), S schools (8 bits), T slots (8 bits), N (16 bits); S records of site and number
 -- (8 bits each); N records of site, number, slot set (64 bits), cost (16 bits); a 32-bit check. b is the list of the file's bytes. Assumes nothing.
-use Rattle.exact_cover.specs.Problem.{Problem}
+use Rattle.exact_cover.specs.Problem.{Problem, upTo}
 use mathlib.Core.Bool.{Bool, not, _&&_, _||_}
 use mathlib.Core.List.{List, [], _∷_, _++_}
 use Prim.Native.Nat.{ℕ, _+_, _-_, _*_, _^_}
@@ -78,9 +78,9 @@ packagesOf b = listed (itemsOf b (schools b)) (packages b)
 unfoldable pub costsOf : List ℕ → List ℕ
 costsOf b = listed (costOf b (schools b)) (packages b)
 
--- the problem that the file states: its packages' item sets, and no item is optional
+-- the problem that the file states: its packages' item sets; no item is optional, and the order is plain
 abbrev pub problemIn : List ℕ → Problem
-problemIn b = record { packages = packagesOf b; optional = 0 }
+problemIn b = record { packages = packagesOf b; optional = 0; order = upTo (schools b + slots b) }
 
 -- ---- refusals
 

@@ -33,7 +33,7 @@ use Rattle.statement.specs.Replies.{Reply, gives, refused, reply, outcomeReply,
 use Rattle.exact_cover.specs.Problem.{Problem, row, Rows}
 use Rattle.statement.specs.Calls.{coverRefusal}
 use Rattle.statement.specs.Refusals.{Fit, firstOf, unsound, uncountable, countRefusal, cheapestRefusal}
-use Rattle.statement.proofs.Admission.{fit-of, fit-passes, table-passes}
+use Rattle.statement.proofs.Admission.{fit-of, fit-passes, rows, table-passes}
 use Rattle.statement.specs.Postconditions.{Makes, Answered, PickPost, PlacePost, CheapestPost, written}
 use Rattle.statement.proofs.FirstOf.{pass, none}
 use Rattle.statement.proofs.TestLaws.{reply-gives, all-priced, answer-known, enough, countable, something, page-fits}
@@ -41,7 +41,6 @@ use Rattle.statement.proofs.Cheapest.{cheapest-least}
 use Rattle.zdd.proofs.Member.{elem-in}
 use Rattle.exact_cover.proofs.Lead.{open-pos}
 use Rattle.statement.proofs.Undo.{Answerable, place-ready, pick-ready}
-use Rattle.guard.proofs.GuardLaws.{rows}
 use Rattle.printout.specs.Program.{Askable, Listable}
 
 -- ---- a timetable has at most as many packages as there are items

@@ -1,9 +1,9 @@
 -- THEOREM: for a file of at most nine items the program prints what it printed when its 3604 working words were 1802 places of two words and M ended at
 -- 64: each item set has a place of its own then, among 901 as among 1802. Assumes nothing.
 use mathlib.Core.Path.{_≡_, ap, ap₂, _∙_}
-use mathlib.Core.Bool.{Bool, _||_}
+use mathlib.Core.Bool.{_||_}
 use mathlib.Core.List.{List, [], _∷_}
-use Prim.Native.Nat.{ℕ, _+_, _-_, _^_, _≤_, _<_}
+use Prim.Native.Nat.{ℕ, _+_, _-_, _≤_, _<_}
 use native.Mathlib.Omega.{arith}
 use lib.Dec.{ltb}
 use lib.ListN.{length}
@@ -25,9 +25,9 @@ use Rattle.bids.specs.Format.{schools, slots, packagesOf, costsOf, refusal}
 use Rattle.printout.specs.Program.{unless, answerText, blank, solved, printed}
 
 module _ (s t : ℕ) (ps C : List ℕ) where
-  -- these packages, and no optional item
+  -- these packages, no optional item, and the plain order
   abbrev Q : Problem
-  Q = noneOptional ps
+  Q = noneOptional (s + t) ps
 
   -- the items to cover
   abbrev D : ℕ

@@ -1,5 +1,5 @@
 -- The program's text, part by part. Assumes nothing.
-use mathlib.Core.Path.{_≡_, refl, sym, ap, _∙_, subst}
+use mathlib.Core.Path.{_≡_, refl, sym, ap, ap₂, _∙_, subst}
 use mathlib.Core.List.{List, [], _∷_, _++_}
 use mathlib.Core.Logic.{⊎-elim}
 use Prim.Native.Nat.{ℕ, zero, suc, _+_, _-_, _*_, _^_, _≤_, _<_, min}
@@ -12,7 +12,8 @@ use Rattle.itemset.specs.Words.{width, spread}
 use Rattle.itemset.proofs.Lists.{width-is}
 use Rattle.zdd.specs.Table.{Family}
 use Rattle.query.specs.Questions.{familyAt, nth, position, cheapest}
-use Rattle.exact_cover.specs.Problem.{Problem, problemOf}
+use Rattle.exact_cover.proofs.Orders.{take-plain}
+use Rattle.exact_cover.specs.Problem.{Problem, problemOf, upTo}
 use Rattle.statement.specs.Calls.{coverRefusal}
 use Rattle.statement.specs.Refusals.{firstOf, uncountable}
 use Rattle.statement.specs.Postconditions.{CoverPost}
@@ -122,10 +123,16 @@ read-refusal b =
 pub record Read (b : List ℕ) (s t n : ℕ) (p c : List ℕ) : Type 0 where
   pub few : n ≤ 512
   pub small : s + t ≤ 64
-  pub problem : problemOf (take (3 * n) p) 0 ≡ problemIn b
+  pub problem : problemOf (take (3 * n) p) 0 (upTo (s + t)) ≡ problemIn b
   pub costs : take n c ≡ costsOf b
   pub same-long : length (costsOf b) ≡ length (packagesOf b)
   pub text : solved s t (problemIn b) (costsOf b) ≡ printed b
+
+-- and with the first S + T items of the plain order lent, the problem is the one that the file states
+pub read-problem : {b : List ℕ} {s t n : ℕ} {p c : List ℕ} → Read b s t n p c → (m : ℕ) (order : List ℕ) → m ≡ s + t → order ≡ upTo 192
+    → problemOf (take (3 * n) p) 0 (take m order) ≡ problemIn b
+read-problem {b} {s} {t} {n} {p} g m order e h =
+    ap (problemOf (take (3 * n) p) 0) (ap₂ take e h ∙ take-plain (s + t) 192 (omega (arith, g .small))) ∙ g .problem
 
 -- the buffers before
 abbrev zeros : ℕ → List ℕ
@@ -156,7 +163,8 @@ module _ {b : List ℕ} {r : Reading} {p c : List ℕ} (R : ReadPost b r (zeros 
       record {
         few = omega (arith, en, k .few);
         small = omega (arith, es, et, k .items);
-        problem = ap (λ (w : List ℕ). problemOf w 0) (page-left (spread 3 (packagesOf b)) (zeros 1536) l3 (q .0) (R .items)) ∙ packed-problem b z;
+        problem = ap₂ (λ (w : List ℕ) (k : ℕ). problemOf w 0 (upTo k)) (page-left (spread 3 (packagesOf b)) (zeros 1536) l3 (q .0) (R .items)) (ap₂ _+_ es et)
+            ∙ packed-problem b z;
         costs = page-left (costsOf b) (zeros 512) (en ∙ sym lk) (q .0) (R .costs);
         same-long = lk ∙ sym li;
         text = rw (es, et) (unsaid _ z);

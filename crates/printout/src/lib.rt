@@ -185,6 +185,7 @@ fn put_nth(
     m: u32,
     packages: &[u64],
     optional: Items,
+    order: &[u8],
     costs: &[u16],
     t: &[u32],
     a: u32,
@@ -193,12 +194,12 @@ fn put_nth(
     out: &mut [u8],
     at: usize,
 ) -> usize
-    requires { ⌜ Listable (problemOf (now packages) (value optional)) m (now t) a (length (now work)) ⌝ }
+    requires { ⌜ Listable (problemOf (now packages) (value optional) (now order)) m (now t) a (length (now work)) ⌝ }
     requires { ⌜ k < length (familyAt (now t) a) ⌝ }
     ensures { λ r. ⌜ Puts (now (out .entry)) at (now (out .exit)) r (timetableLine (now (costs .entry)) k (nth (familyAt (now (t .entry)) a) k)) ⌝ }
 {
     let mut page = [0u16; 64];
-    let p = engine::pick(m, packages, optional, t, a, k, work, &mut page);
+    let p = engine::pick(m, packages, optional, order, t, a, k, work, &mut page);
     let n = picked(p);
     put_timetable(out, at, k, &page[..n], costs)
 }
@@ -208,6 +209,7 @@ fn put_timetables(
     m: u32,
     packages: &[u64],
     optional: Items,
+    order: &[u8],
     costs: &[u16],
     t: &[u32],
     a: u32,
@@ -216,14 +218,14 @@ fn put_timetables(
     out: &mut [u8],
     at: usize,
 ) -> usize
-    requires { ⌜ Listable (problemOf (now packages) (value optional)) m (now t) a (length (now work)) ⌝ }
+    requires { ⌜ Listable (problemOf (now packages) (value optional) (now order)) m (now t) a (length (now work)) ⌝ }
     requires { ⌜ n ≤ length (familyAt (now t) a) ⌝ }
     ensures { λ r. ⌜ Puts (now (out .entry)) at (now (out .exit)) r (timetableLines (now (costs .entry)) (familyAt (now (t .entry)) a) n) ⌝ }
 {
     let mut to = at;
     let mut k: u64 = 0;
     while k < n {
-        to = put_nth(m, packages, optional, costs, t, a, k, work, out, to);
+        to = put_nth(m, packages, optional, order, costs, t, a, k, work, out, to);
         k += 1;
     }
     to
@@ -234,6 +236,7 @@ fn put_last(
     m: u32,
     packages: &[u64],
     optional: Items,
+    order: &[u8],
     costs: &[u16],
     t: &[u32],
     a: u32,
@@ -242,7 +245,7 @@ fn put_last(
     out: &mut [u8],
     at: usize,
 ) -> usize
-    requires { ⌜ Listable (problemOf (now packages) (value optional)) m (now t) a (length (now work)) ⌝ }
+    requires { ⌜ Listable (problemOf (now packages) (value optional) (now order)) m (now t) a (length (now work)) ⌝ }
     requires { ⌜ length (now costs) ≡ length (setsOf (now packages)) ⌝ }
     requires { ⌜ count ≡ length (familyAt (now t) a) ⌝ }
     ensures { λ r. ⌜ Puts (now (out .entry)) at (now (out .exit)) r (lastLine (now (costs .entry)) (familyAt (now (t .entry)) a)) ⌝ }
@@ -251,9 +254,9 @@ fn put_last(
         return put_text(out, at, b"cheapest none\n");
     }
     let mut page = [0u16; 64];
-    let p = engine::cheapest(m, packages, optional, costs, t, a, work, &mut page);
+    let p = engine::cheapest(m, packages, optional, order, costs, t, a, work, &mut page);
     let n = priced(p);
-    let q = engine::place(m, packages, optional, t, a, &page[..n], work);
+    let q = engine::place(m, packages, optional, order, t, a, &page[..n], work);
     let k = placed(q);
     let to = put_field(out, at, b"cheapest ", k);
     put_text(out, to, b"\n")
@@ -279,13 +282,14 @@ fn put_sheet(
     c: Compiled,
     packages: &[u64],
     optional: Items,
+    order: &[u8],
     costs: &[u16],
     table: &[u32],
     count: u64,
     work: &mut [u64],
     out: &mut [u8],
 ) -> usize
-    requires { ⌜ Listable (problemOf (now packages) (value optional)) (c .s + c .t) (now table) (c .answer) (length (now work)) ⌝ }
+    requires { ⌜ Listable (problemOf (now packages) (value optional) (now order)) (c .s + c .t) (now table) (c .answer) (length (now work)) ⌝ }
     requires { ⌜ length (now costs) ≡ length (setsOf (now packages)) ⌝ }
     requires { ⌜ count ≡ length (familyAt (now table) (c .answer)) ⌝ }
     requires { ⌜ c .s + c .t ≤ 64 ⌝ }
@@ -306,8 +310,32 @@ fn put_sheet(
         count,
     );
     let lines = least(count, 10);
-    at = put_timetables(m, packages, optional, costs, table, a, lines, work, out, at);
-    put_last(m, packages, optional, costs, table, a, count, work, out, at)
+    at = put_timetables(
+        m,
+        packages,
+        optional,
+        order,
+        costs,
+        table,
+        a,
+        lines,
+        work,
+        out,
+        at,
+    );
+    put_last(
+        m,
+        packages,
+        optional,
+        order,
+        costs,
+        table,
+        a,
+        count,
+        work,
+        out,
+        at,
+    )
 }
 
 // The text of cover's answer.
@@ -315,12 +343,13 @@ fn put_answer(
     c: Compiled,
     packages: &[u64],
     optional: Items,
+    order: &[u8],
     costs: &[u16],
     table: &[u32],
     work: &mut [u64],
     out: &mut [u8],
 ) -> usize
-    requires { ⌜ Askable (problemOf (now packages) (value optional)) (c .s + c .t) (now table) (c .answer) (length (now work)) ⌝ }
+    requires { ⌜ Askable (problemOf (now packages) (value optional) (now order)) (c .s + c .t) (now table) (c .answer) (length (now work)) ⌝ }
     requires { ⌜ length (now costs) ≡ length (setsOf (now packages)) ⌝ }
     requires { ⌜ c .s + c .t ≤ 64 ⌝ }
     ensures { λ r. ⌜ Holds (now (out .exit)) r (answerText (c .s) (c .t) (length (setsOf (now (packages .entry)))) (now (costs .entry))
@@ -328,10 +357,20 @@ fn put_answer(
 {
     let m = c.s + c.t;
     let a = c.answer;
-    let counted = engine::count(m, packages, optional, table, a, work);
+    let counted = engine::count(m, packages, optional, order, table, a, work);
     match counted {
         Counted::Refused(number) => put_refused(out, 0, number),
-        Counted::Count(count) => put_sheet(c, packages, optional, costs, table, count, work, out),
+        Counted::Count(count) => put_sheet(
+            c,
+            packages,
+            optional,
+            order,
+            costs,
+            table,
+            count,
+            work,
+            out,
+        ),
     }
 }
 
@@ -341,18 +380,28 @@ fn put_solution(
     t: u32,
     packages: &[u64],
     optional: Items,
+    order: &[u8],
     costs: &[u16],
     out: &mut [u8],
 ) -> usize
     requires { ⌜ length (now costs) ≡ length (setsOf (now packages)) ⌝ }
     requires { ⌜ s + t ≤ 64 ⌝ }
-    ensures { λ r. ⌜ Holds (now (out .exit)) r (solved s t (problemOf (now (packages .entry)) (value optional)) (now (costs .entry))) ⌝ }
+    ensures { λ r. ⌜ Holds (now (out .exit)) r (solved s t (problemOf (now (packages .entry)) (value optional) (now (order .entry))) (now (costs .entry))) ⌝ }
 {
     let mut table = [0u32; 5401];
     let mut work = [0u64; 3604];
     let m = s + t;
     let d = itemset::all_below(m);
-    let report = engine::cover(m, packages, optional, &mut table, d, 1000000, &mut work);
+    let report = engine::cover(
+        m,
+        packages,
+        optional,
+        order,
+        &mut table,
+        d,
+        1000000,
+        &mut work,
+    );
     let outcome = report.outcome;
     match outcome {
         Outcome::Refused(number) => put_refused(out, 0, number),
@@ -364,7 +413,7 @@ fn put_solution(
                 made: report.made,
                 steps: report.steps,
             };
-            put_answer(c, packages, optional, costs, &table, &mut work, out)
+            put_answer(c, packages, optional, order, costs, &table, &mut work, out)
         }
     }
 }
@@ -377,18 +426,30 @@ pub fn lines(file: &[u8], out: &mut [u8; 16384]) -> usize
     let mut packages = [0u64; 1536];
     let mut costs = [0u16; 512];
     let reading = bids::read(file, &mut packages, &mut costs);
-    // Such a file has no optional items.
+    // Such a file has no optional items and names no order.
     let none = Items {
         w0: 0,
         w1: 0,
         w2: 0,
     };
+    let order = exact_cover::plain_order();
     match reading {
         Reading::Refused(number) => put_refused(out, 0, number),
         Reading::Accepted {
             schools,
             slots,
             packages: n,
-        } => put_solution(schools, slots, &packages[..3 * n], none, &costs[..n], out),
+        } => {
+            let m = base::wide(schools + slots);
+            put_solution(
+                schools,
+                slots,
+                &packages[..3 * n],
+                none,
+                &order[..m],
+                &costs[..n],
+                out,
+            )
+        }
     }
 }

@@ -16,8 +16,8 @@ use Rattle.printout.proofs.put_answer.Tie as tie
 
 put-sheet-requires : tie.Need-put-sheet-requires
 put-sheet-requires c κs =
-    let here = c .before .before .before .before .before .before .before .before .before .before .before .before .before .before .before in let a = here .args in let pre = here .pre in
-    let Q = problemOf (a .packages .now) (value (a .optional)) in
+    let here = c .before .before .before .before .before .before .before .before .before .before .before .before .before .before .before in let a = here .before .args in let pre = here .before .pre in
+    let Q = problemOf (a .packages .now) (value (a .optional)) (a .order .now) in
     let k = count-left (pre .0) in
     let q = was-given _ (countRefusal Q (a .c .s + a .c .t) (a .table .now) (a .c .answer) (length (a .work .now))) (length (familyAt (a .table .now) (a .c .answer)))
     (sym (ap countReply (c .before .before .before .counted2 .given .1)) ∙ c .before .before .before .before .before .before .before .count .ensures .result) in (
@@ -32,9 +32,9 @@ put-sheet-requires c κs =
 returns : tie.Need-returns
 unfolding answerText
 returns c =
-    let here = c .before .before .before .before .before .before .before .before .before .before .before .before .before .before .before .before .before in let a = here .args in
-    let pre = here .pre in
-    let Q = problemOf (a .packages .now) (value (a .optional)) in
+    let here = c .before .before .before .before .before .before .before .before .before .before .before .before .before .before .before .before .before in let a = here .before .args in
+    let pre = here .before .pre in
+    let Q = problemOf (a .packages .now) (value (a .optional)) (a .order .now) in
     let k = count-left (pre .0) in
     let q = was-refused _ (countRefusal Q (a .c .s + a .c .t) (a .table .now) (a .c .answer) (length (a .work .now))) (length (familyAt (a .table .now) (a .c .answer)))
     (sym (ap countReply (c .before .before .before .before .before .counted .given .1)) ∙ c .before .before .before .before .before .before .before .before .before .count .ensures .result) in
@@ -45,8 +45,8 @@ returns-2 : tie.Need-returns-2
 unfolding answerText
 returns-2 c =
     let here = c .before .before .before .before .before .before .before .before .before .before .before .before in let count = here .count in
-    let a = here .before .before .before .before .before .before .before .before .args in let pre = here .before .before .before .before .before .before .before .before .pre in
-    let Q = problemOf (a .packages .now) (value (a .optional)) in
+    let a = here .before .before .before .before .before .before .before .before .before .args in let pre = here .before .before .before .before .before .before .before .before .before .pre in
+    let Q = problemOf (a .packages .now) (value (a .optional)) (a .order .now) in
     let k = count-left (pre .0) in
     let q = was-given _ (countRefusal Q (a .c .s + a .c .t) (a .table .now) (a .c .answer) (length (a .work .now))) (length (familyAt (a .table .now) (a .c .answer)))
     (sym (ap countReply (c .before .before .before .before .before .before .before .before .counted2 .given .1)) ∙ count .ensures .result) in

@@ -14,25 +14,25 @@ use Rattle.printout.proofs.put_last.Tie as tie
 
 returns : tie.Need-returns
 returns c =
-    let args = c .before .before .before .before .before .before .before .before .before .before .before .args in
+    let args = c .before .before .before .before .before .before .before .before .before .before .before .before .args in
     puts-same (last-none (args .costs .now) (familyAt (args .t .now) (args .a))
-    (sym (c .before .before .before .before .before .if1 .taken) ∙ c .before .before .before .before .before .before .before .before .before .before .before .pre .1 .1))
+    (sym (c .before .before .before .before .before .if1 .taken) ∙ c .before .before .before .before .before .before .before .before .before .before .before .before .pre .1 .1))
     (c .before .before .put-text .ensures)
 
 array-share-prefix-page : tie.Need-array-share-prefix-page
 array-share-prefix-page c =
-    let here = c .before .before .before .before .before .before .before .before .before .before .before .before .before in let args = here .args in let pre = here .pre in
+    let here = c .before .before .before .before .before .before .before .before .before .before .before .before .before in let args = here .before .args in let pre = here .before .pre in
     let l : 0 < length (familyAt (args .t .now) (args .a)) = omega (arith, c .before .before .before .before .before .before .before .if1 .left, pre .1 .1) in
     let g = priced-page (pre .0) (args .costs .now) (pre .1 .0) l (omega arith) (c .before .before .before .before .cheapest .ensures) (c .priced .ensures) in
     omega (arith, g .0, c .before .page2 .given)
 
 slice-aggregate-place : tie.Need-slice-aggregate-place
 slice-aggregate-place c =
-    let here = c .before .before .before .before .before in let cheapest′ = here .cheapest in let args = here .before .before .before .before .before .before .before .before .before .args in
-    let pre = here .before .before .before .before .before .before .before .before .before .pre in
+    let here = c .before .before .before .before .before in let cheapest′ = here .cheapest in let args = here .before .before .before .before .before .before .before .before .before .before .args in
+    let pre = here .before .before .before .before .before .before .before .before .before .before .pre in
     let l : 0 < length (familyAt (args .t .now) (args .a)) = omega (arith, c .before .before .before .before .before .before .before .before .if1 .left, pre .1 .1) in
     let g = priced-page (pre .0) (args .costs .now) (pre .1 .0) l (omega arith) (cheapest′ .ensures) (c .before .priced .ensures) in
-    sym (length-take-le (c .before .priced .result) (cheapest′ .last .1 .1 .1 .1 .1 .1 .1 .0) (omega (arith, g .0, c .before .before .page2 .given)))
+    sym (length-take-le (c .before .priced .result) (cheapest′ .last .1 .1 .1 .1 .1 .1 .1 .1 .0) (omega (arith, g .0, c .before .before .page2 .given)))
 
 returns-2 : tie.Need-returns-2
 unfolding cheapestLine
@@ -41,8 +41,8 @@ returns-2 c =
     let work = here .before .before .before .before .before .before .before .before .before .work in
     let cheapest′ = here .before .before .before .before .before .before .before .before .before .before .cheapest in
     let if1 = here .before .before .before .before .before .before .before .before .before .before .before .before .before .if1 in
-    let args = here .before .before .before .before .before .before .before .before .before .before .before .before .before .before .before .before .before .before .before .args in
-    let pre = here .before .before .before .before .before .before .before .before .before .before .before .before .before .before .before .before .before .before .before .pre in
+    let args = here .before .before .before .before .before .before .before .before .before .before .before .before .before .before .before .before .before .before .before .before .args in
+    let pre = here .before .before .before .before .before .before .before .before .before .before .before .before .before .before .before .before .before .before .before .before .pre in
     let C = args .costs .now in
     let F = familyAt (args .t .now) (args .a) in
     let l : 0 < length F = omega (arith, if1 .left, pre .1 .1) in

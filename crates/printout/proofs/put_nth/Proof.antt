@@ -12,27 +12,27 @@ use Rattle.printout.proofs.put_nth.Tie as tie
 
 array-share-prefix-page : tie.Need-array-share-prefix-page
 array-share-prefix-page c =
-    let pre = c .before .before .before .before .before .before .before .before .before .before .before .before .before .pre in
+    let pre = c .before .before .before .before .before .before .before .before .before .before .before .before .before .before .pre in
     let g = picked-page (pre .0) (pre .1) (omega arith) (c .before .before .before .before .before .pick .ensures) (c .before .picked .ensures) in omega (arith, g .0, c .before .before .page2 .given)
 
 slice-aggregate-put-timetable : tie.Need-slice-aggregate-put-timetable
 slice-aggregate-put-timetable c =
     let picked = c .before .before .picked in let pick = c .before .before .before .before .before .before .pick in
-    let pre = c .before .before .before .before .before .before .before .before .before .before .before .before .before .before .pre in
+    let pre = c .before .before .before .before .before .before .before .before .before .before .before .before .before .before .before .pre in
     let g = picked-page (pre .0) (pre .1) (omega arith) (pick .ensures) (picked .ensures) in sym
-    (length-take-le (picked .result) (pick .last .1 .1 .1 .1 .1 .1 .1 .0) (omega (arith, g .0, c .before .before .before .page2 .given)))
+    (length-take-le (picked .result) (pick .last .1 .1 .1 .1 .1 .1 .1 .1 .0) (omega (arith, g .0, c .before .before .before .page2 .given)))
 
 put-timetable-requires : tie.Need-put-timetable-requires
 put-timetable-requires c κs =
     let picked = c .before .before .picked in let page2 = c .before .before .before .page2 in let pick = c .before .before .before .before .before .before .pick in
-    let pre = c .before .before .before .before .before .before .before .before .before .before .before .before .before .before .pre in
+    let pre = c .before .before .before .before .before .before .before .before .before .before .before .before .before .before .before .pre in
     let g = picked-page (pre .0) (pre .1) (omega arith) (pick .ensures) (picked .ensures) in omega
-    (arith, g .0, page2 .given, length-take-le (picked .result) (pick .last .1 .1 .1 .1 .1 .1 .1 .0) (omega (arith, g .0, page2 .given)))
+    (arith, g .0, page2 .given, length-take-le (picked .result) (pick .last .1 .1 .1 .1 .1 .1 .1 .1 .0) (omega (arith, g .0, page2 .given)))
 
 returns : tie.Need-returns
 returns c =
-    let here = c .before .before .before .before .before .before .before .before .before .before .before .before .before .before .before .before .before in let args = here .args in
-    let pre = here .pre in
+    let here = c .before .before .before .before .before .before .before .before .before .before .before .before .before .before .before .before .before in let args = here .before .args in
+    let pre = here .before .pre in
     let g = picked-page (pre .0) (pre .1) (omega arith) (c .before .before .before .before .before .before .before .before .before .pick .ensures)
     (c .before .before .before .before .before .picked .ensures) in puts-same (ap (λ (u : List ℕ). timetableLine (args .costs .now) (args .k) u) (g .1))
     (c .before .before .put-timetable .ensures)

@@ -15,15 +15,15 @@ use Rattle.printout.proofs.put_sheet.Tie as tie
 
 put-timetables-requires : tie.Need-put-timetables-requires
 put-timetables-requires c κs =
-    let pre = c .before .before .before .before .before .before .before .before .before .before .before .before .before .before .before .before .before .before .pre in
+    let pre = c .before .before .before .before .before .before .before .before .before .before .before .before .before .before .before .before .before .before .before .pre in
     (pre .0, omega (arith, c .before .before .least .ensures, pre .1 .1 .0))
 
 put-last-requires : tie.Need-put-last-requires
 put-last-requires c κs =
     let least = c .before .before .before .before .before .before .before .before .before in
     let here = least .before .before .before .before .before .before .before .before .before .before .before .before .before .before .before .before in
-    let args = here .args in let pre = here .pre in (
-      subst⁻¹ (λ (w : ℕ). Listable (problemOf (args .packages .now) (value (args .optional))) (args .c .s + args .c .t) (args .table .now) (args .c .answer) w)
+    let args = here .before .args in let pre = here .before .pre in (
+      subst⁻¹ (λ (w : ℕ). Listable (problemOf (args .packages .now) (value (args .optional)) (args .order .now)) (args .c .s + args .c .t) (args .table .now) (args .c .answer) w)
           (c .before .before .before .before .before .work .given)
           (pre .0),
       (pre .1 .0, pre .1 .1 .0),
@@ -34,8 +34,8 @@ returns c =
     let here = c .before .before .before .before .before .before .before .before .before .before .before .before .before .before in let least = here .least in
     let put-head = here .before .before .before .put-head in
     let number = here .before .before .before .before .before .before .before .before .before .number in
-    let a = here .before .before .before .before .before .before .before .before .before .before .before .before .before .before .before .before .args in
-    let pre = here .before .before .before .before .before .before .before .before .before .before .before .before .before .before .before .before .pre in
+    let a = here .before .before .before .before .before .before .before .before .before .before .before .before .before .before .before .before .before .args in
+    let pre = here .before .before .before .before .before .before .before .before .before .before .before .before .before .before .before .before .before .pre in
     let C = a .costs .now in
     let F = familyAt (a .table .now) (a .c .answer) in
     let q = puts-then (timetableLines C F (min (a .count) 10))
