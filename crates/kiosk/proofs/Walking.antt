@@ -20,7 +20,7 @@ pub use types.Tokens.{lft-new, lft-end}
 pub use denote.RattleType.{RattleType, owns}
 pub use denote.Array.{Array, array-tells, array-typed, array-repeat, array-copy}
 pub use denote.Lend.{ref-back}
-pub use denote.Builtin.{u32, unit, usize, u64}
+pub use denote.Builtin.{u8, u32, unit, usize, u64}
 pub use denote.Ref.{RefT, MutRef}
 pub use denote.Slice.{sliceVal, ShrSlice, Room, slice-vals, shr-slice-tells, shr-slice-copy, MutSlice, finally, mut-slice-tells}
 pub use denote.Steps.{only, heard, nothing, owned, peeks}

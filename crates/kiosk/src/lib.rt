@@ -87,14 +87,15 @@ fn check_words(
     m: u32,
     packages: &[u64],
     optional: Items,
+    order: &[u8],
     n: u32,
     len: usize,
     words: &mut [u32; 196603],
 ) -> Soundness
-    ensures { λ r. ⌜ CheckPost (problemOf (now (packages .entry)) (value optional)) m (headed (now (words .entry)) n len) r ⌝ }
+    ensures { λ r. ⌜ CheckPost (problemOf (now (packages .entry)) (value optional) (now (order .entry))) m (headed (now (words .entry)) n len) r ⌝ }
 {
     head(&mut *words, n, len);
-    engine::check(m, packages, optional, &words[..])
+    engine::check(m, packages, optional, order, &words[..])
 }
 
 // Count on the words.
@@ -102,25 +103,33 @@ fn count_words(
     m: u32,
     packages: &[u64],
     optional: Items,
+    order: &[u8],
     n: u32,
     len: usize,
     words: &mut [u32; 196603],
     answer: u32,
     work: &mut [u64],
 ) -> Counted
-    ensures { λ r. ⌜ CountPost (problemOf (now (packages .entry)) (value optional)) m (headed (now (words .entry)) n len) answer (length (now (work .entry))) r ⌝ }
+    ensures { λ r. ⌜ CountPost (problemOf (now (packages .entry)) (value optional) (now (order .entry))) m (headed (now (words .entry)) n len) answer (length (now (work .entry))) r ⌝ }
 {
     head(&mut *words, n, len);
-    engine::count(m, packages, optional, &words[..], answer, work)
+    engine::count(m, packages, optional, order, &words[..], answer, work)
 }
 
-// The soundness check: 1, 2, 29, 30, 4 or sound.
-pub fn check(m: u32, packages: &[u64], optional: Items, n: u32, nodes: &[Node]) -> Soundness
-    ensures { λ r. ⌜ KioskCheckPost (problemOf (now (packages .entry)) (value optional)) m n (nodesIn (now (nodes .entry))) r ⌝ }
+// The soundness check: 1, 2, 29, 30, 34, 4 or sound.
+pub fn check(
+    m: u32,
+    packages: &[u64],
+    optional: Items,
+    order: &[u8],
+    n: u32,
+    nodes: &[Node],
+) -> Soundness
+    ensures { λ r. ⌜ KioskCheckPost (problemOf (now (packages .entry)) (value optional) (now (order .entry))) m n (nodesIn (now (nodes .entry))) r ⌝ }
 {
     let mut words = [0u32; 196603];
     flatten(nodes, &mut words);
-    check_words(m, packages, optional, n, nodes.len(), &mut words)
+    check_words(m, packages, optional, order, n, nodes.len(), &mut words)
 }
 
 // How many timetables the answer holds.
@@ -128,12 +137,13 @@ pub fn count(
     m: u32,
     packages: &[u64],
     optional: Items,
+    order: &[u8],
     n: u32,
     nodes: &[Node],
     answer: u32,
     work: &mut [u64],
 ) -> Counted
-    ensures { λ r. ⌜ KioskCountPost (problemOf (now (packages .entry)) (value optional)) m n (nodesIn (now (nodes .entry))) answer (length (now (work .entry))) r ⌝ }
+    ensures { λ r. ⌜ KioskCountPost (problemOf (now (packages .entry)) (value optional) (now (order .entry))) m n (nodesIn (now (nodes .entry))) answer (length (now (work .entry))) r ⌝ }
 {
     let mut words = [0u32; 196603];
     flatten(nodes, &mut words);
@@ -141,6 +151,7 @@ pub fn count(
         m,
         packages,
         optional,
+        order,
         n,
         nodes.len(),
         &mut words,

@@ -42,7 +42,7 @@ module _ (xs : List Node) (s : ℕ) where
   lentAs δ = record { ptr = (s, 0); name = δ; now = xs }
 
   abbrev Slice : ℕ → GName → ℕ → Fml
-  Slice ν δ k = ShrSlice (named 1) (ν ∷ []) T.the-row .own (lentAs δ) (sliceVal (s, 0) k ∷ [])
+  Slice ν δ k = ShrSlice (named 2) (ν ∷ []) T.the-row .own (lentAs δ) (sliceVal (s, 0) k ∷ [])
 
   abbrev pub Borrowed : ℕ → GName → Fml
   Borrowed ν δ = Slice ν δ 6
@@ -63,7 +63,7 @@ module _ (xs : List Node) (s : ℕ) where
         feqL ! (λ e. feqI ! ℕ (length xs) (length xs) refl $ fjoin ! $
         lft-new ! tt (λ ν. move ! (1 ∷ []) $
         use1 W (later (some (λ (δ : GName). ‵ (Slice ν δ (length xs)) ⊛ ‵ (Lent ν))))
-        (lends-shr-slice 𝓤 H A W T.the-row (named 1) (ν ∷ []) fullShare xs s 0 (subst (Room T.the-row) (sym e) (lit< tt, lit< tt))) $ await ! tt $ pick ! (λ δ. split ! $
+        (lends-shr-slice 𝓤 H A W T.the-row (named 2) (ν ∷ []) fullShare xs s 0 (subst (Room T.the-row) (sym e) (lit< tt, lit< tt))) $ await ! tt $ pick ! (λ δ. split ! $
         rewrite ! 0 (λ (k : ℕ). ‵ (Slice ν δ k)) e refl $ at-once ! $
         show ! (λ (ν′ : ℕ). ex 𝓤 (λ (δ′ : GName). Lending ν′ δ′)) ν $ show ! (Lending ν) δ $ check ! e $ move ! (2 ∷ []) $ frame ! $ frame ! $ done !)))
 

@@ -1,4 +1,6 @@
-// The kiosk's two calls on lists of triples, good and damaged, and with optional items: Figure 1 of document 000, whose answer is number 5 and holds two timetables.
+// The kiosk's two calls on lists of triples, good and damaged, with optional items, and in the plain order and others: Figure 1 of document 000, whose answer is number 5
+// and holds two timetables.
+ghost use Prim.Native.Nat.{_≤_};
 ghost use lib.ListN.{length};
 ghost use Rattle.itemset.specs.Words.{value};
 ghost use Rattle.exact_cover.specs.Problem.{problemOf};
@@ -18,10 +20,17 @@ fn node(label: u32, lo: u32, hi: u32) -> Node {
 }
 
 // A list of six triples is lent to the soundness check.
-fn check_list(m: u32, packages: &[u64], optional: Items, n: u32, list: [Node; 6]) -> Soundness
-    ensures { λ r. ⌜ KioskCheckPost (problemOf (now (packages .entry)) (value optional)) m n (nodesIn list) r ⌝ }
+fn check_list(
+    m: u32,
+    packages: &[u64],
+    optional: Items,
+    order: &[u8],
+    n: u32,
+    list: [Node; 6],
+) -> Soundness
+    ensures { λ r. ⌜ KioskCheckPost (problemOf (now (packages .entry)) (value optional) (now (order .entry))) m n (nodesIn list) r ⌝ }
 {
-    kiosk::check(m, packages, optional, n, &list)
+    kiosk::check(m, packages, optional, order, n, &list)
 }
 
 // And to count.
@@ -29,14 +38,15 @@ fn count_list(
     m: u32,
     packages: &[u64],
     optional: Items,
+    order: &[u8],
     n: u32,
     list: [Node; 6],
     answer: u32,
     work: &mut [u64],
 ) -> Counted
-    ensures { λ r. ⌜ KioskCountPost (problemOf (now (packages .entry)) (value optional)) m n (nodesIn list) answer (length (now (work .entry))) r ⌝ }
+    ensures { λ r. ⌜ KioskCountPost (problemOf (now (packages .entry)) (value optional) (now (order .entry))) m n (nodesIn list) answer (length (now (work .entry))) r ⌝ }
 {
-    kiosk::count(m, packages, optional, n, &list, answer, work)
+    kiosk::count(m, packages, optional, order, n, &list, answer, work)
 }
 
 fn narrow(n: u8) -> u64 {
@@ -77,18 +87,43 @@ fn figure1() -> [u64; 15] {
     [23, 0, 0, 3, 0, 0, 40, 0, 0, 44, 0, 0, 20, 0, 0]
 }
 
-// The two calls on a list, with m items, these of them optional, and n nodes.
-fn say_with(name: &[u8], m: u32, optional: Items, n: u32, list: [Node; 6], answer: u32) {
+// The two calls on a list, with m items, these of them optional, in this order, and n nodes.
+fn say_in(
+    name: &[u8],
+    m: u32,
+    optional: Items,
+    order: &[u8],
+    n: u32,
+    list: [Node; 6],
+    answer: u32,
+) {
     let packages = figure1();
     let mut work = [0u64; 6];
     io::write_all(1, name);
     io::write_all(1, b": check ");
-    let s = check_list(m, &packages, optional, n, list);
+    let s = check_list(m, &packages, optional, order, n, list);
     say_soundness(s);
     io::write_all(1, name);
     io::write_all(1, b": count ");
-    let c = count_list(m, &packages, optional, n, list, answer, &mut work);
+    let c = count_list(m, &packages, optional, order, n, list, answer, &mut work);
     say_counted(c);
+}
+
+// How many of them are lent: m, where there are as many.
+fn lent(m: u32) -> usize
+    ensures { λ r. ⌜ r ≤ 192 ⌝ }
+{
+    if m < 192 {
+        return m as usize;
+    }
+    192
+}
+
+// The two calls in the plain order.
+fn say_with(name: &[u8], m: u32, optional: Items, n: u32, list: [Node; 6], answer: u32) {
+    let order = exact_cover::plain_order();
+    let items = lent(m);
+    say_in(name, m, optional, &order[0..items], n, list, answer);
 }
 
 // A set of items below 64.
@@ -217,10 +252,58 @@ fn optional_refused() {
     say_with(b"item 191 optional, M 193", 193, ITEM_191, 5, four, 5);
 }
 
+// The two calls in an order of the figure's items.
+fn say_six(name: &[u8], optional: Items, order: [u8; 6], n: u32, list: [Node; 6]) {
+    say_in(name, 6, optional, &order, n, list, 5);
+}
+
+const REVERSED: [u8; 6] = [5, 4, 3, 2, 1, 0];
+
+const REPEATED: [u8; 6] = [0, 1, 2, 3, 4, 4];
+
+// The figure's triples in the reversed order: number 5 holds {2, 0} and {2, 4, 1}.
+fn turned() -> [Node; 6] {
+    let zero = node(0, 0, 0);
+    [
+        node(1, 0, 1),
+        node(4, 0, 2),
+        node(0, 3, 1),
+        node(2, 0, 4),
+        zero,
+        zero,
+    ]
+}
+
+// 34 comes behind 30, and 4 behind it: the damaged list has a wrong number of nodes.
+fn ordered() {
+    let zero = node(0, 0, 0);
+    let four = figure(zero, zero);
+    let other = turned();
+    say_six(b"item 4 twice in the order", low(0), REPEATED, 4, four);
+    say_six(b"the same, damaged", low(0), REPEATED, 5, four);
+    say_six(
+        b"the same, items 2 and 4 optional",
+        low(20),
+        REPEATED,
+        5,
+        four,
+    );
+    say_six(b"order 5 4 3 2 1 0", low(0), REVERSED, 4, four);
+    say_six(
+        b"order 5 4 3 2 1 0 and its triples",
+        low(0),
+        REVERSED,
+        4,
+        other,
+    );
+    say(b"these triples in the plain order", 6, 4, other, 5);
+}
+
 fn main() {
     good();
     misnumbered();
     damaged();
     optional();
     optional_refused();
+    ordered();
 }

@@ -10,7 +10,7 @@ use Rattle.kiosk.proofs.Walking.{use1, use2, use3, drop, split, join, p
 use Rattle.kiosk.proofs.Walking.{done, agg, rep, whole, sub, look-in, look, init, forget, stop, hop, fld, from, load, lit, addr, of-opd, and-then, no-more}
 use Rattle.kiosk.proofs.Walking.{assigns, land, returns, enter, alloc1, alloc0, params1, pass1, pass0, free1, free0, lft-end, FmC, fmOf, WpFn-mono, owns}
 use Rattle.kiosk.proofs.Walking.{array-tells, array-typed, array-repeat, Is, shows, ref-back, cellAt, uint-vals, uint-tells, uint-makes, uint-copy, uint-lawful}
-use Rattle.kiosk.proofs.Walking.{u32, u64, usize, RefT, sliceVal, ShrSlice, MutSlice, Room, finally, slice-vals, shr-slice-tells, mut-slice-tells, shr-slice-copy}
+use Rattle.kiosk.proofs.Walking.{u8, u32, u64, usize, RefT, sliceVal, ShrSlice, MutSlice, Room, finally, slice-vals, shr-slice-tells, mut-slice-tells, shr-slice-copy}
 use Rattle.kiosk.proofs.Walking.{plain, owned, peeks, heard, nothing, calls-at, ensured, lasts, Vals, onEntry, Meets, tripleOf, Contract, Triple, entered, cited}
 use Rattle.kiosk.proofs.Walking.{says, Stays, stay-none, stay-none-slice, gave-slice, walkOf, goes-none, goes-none-slice, goes-gave-slice, Walks, ends-at, walked}
 use Rattle.kiosk.proofs.Walking.{walk-meets, yes}
@@ -51,7 +51,10 @@ stayed = (
     stay-none-slice (0 ∷ []) tt (plain (λ _. u64)) yes,
     (
       stay-none (λ _. I.the-row) yes,
-      (stay-none (λ _. u32) yes, (stay-none-slice (1 ∷ []) tt (plain (λ _. T.the-row)) yes, (stay-none (λ _. u32) yes, (gave-slice (2 ∷ []) tt (plain (λ _. u64)), tt)))),
+      (
+        stay-none-slice (1 ∷ []) tt (plain (λ _. u8)) yes,
+        (stay-none (λ _. u32) yes, (stay-none-slice (2 ∷ []) tt (plain (λ _. T.the-row)) yes, (stay-none (λ _. u32) yes, (gave-slice (3 ∷ []) tt (plain (λ _. u64)), tt)))),
+      ),
     ),
   ),
 )
@@ -61,11 +64,11 @@ module _ {M : Type 1} (𝓤 : URA M) (H : Heap 𝓤) (A : Atoms 𝓤) (mem : Mem
   abbrev Callee : Contract 𝓤
   Callee = tripleOf 𝓤 H A callee.signature (callee.spec 𝓤 H A mem run)
 
-module _ {M : Type 1} (𝓤 : URA M) (H : Heap 𝓤) (A : Atoms 𝓤) (W : Given 𝓤 H A) (mem : Memory → SProp 𝓤) (run : Routine → Fun 𝓤) (κ κ′ κ″ : Lft)
-    (q q′ q″ : Share) (m n c : ℕ) (m-fits : m < 2 ^ 32) (n-fits : n < 2 ^ 32) (c-fits : c < 2 ^ 32)
+module _ {M : Type 1} (𝓤 : URA M) (H : Heap 𝓤) (A : Atoms 𝓤) (W : Given 𝓤 H A) (mem : Memory → SProp 𝓤) (run : Routine → Fun 𝓤) (κ κo κ′ κ″ : Lft)
+    (q qo q′ q″ : Share) (m n c : ℕ) (m-fits : m < 2 ^ 32) (n-fits : n < 2 ^ 32) (c-fits : c < 2 ^ 32)
     (d : Items) (d-is : Is I.the-row d (LL.vals I.the-type I′.the-laws d))
-    (b o : ℕ) (γ : GName) (ps : List ℕ) (b′ o′ : ℕ) (γ′ : GName) (ns : List Node) (b″ o″ : ℕ) (γ″ : GName) (ks : List ℕ) (gp : Room u64 (length ps))
-    (gn : Room T.the-row (length ns)) (gk : Room u64 (length ks)) where
+    (b o : ℕ) (γ : GName) (ps : List ℕ) (bo oo : ℕ) (γo : GName) (os : List ℕ) (b′ o′ : ℕ) (γ′ : GName) (ns : List Node) (b″ o″ : ℕ) (γ″ : GName) (ks : List ℕ)
+    (gp : Room u64 (length ps)) (go : Room u8 (length os)) (gn : Room T.the-row (length ns)) (gk : Room u64 (length ks)) where
   abbrev len : ℕ
   len = length ns
 
@@ -80,6 +83,10 @@ module _ {M : Type 1} (𝓤 : URA M) (H : Heap 𝓤) (A : Atoms 𝓤) (W : Given
   abbrev i : Val
   i = LL.val I.the-type I′.the-laws d
 
+  -- the order, likewise
+  abbrev h : Val
+  h = sliceVal (bo, oo) (length os)
+
   abbrev v : Val
   v = sliceVal (b′, o′) len
 
@@ -89,6 +96,9 @@ module _ {M : Type 1} (𝓤 : URA M) (H : Heap 𝓤) (A : Atoms 𝓤) (W : Given
   abbrev p : RefT (List ℕ)
   p = record { ptr = (b, o); name = γ; now = ps }
 
+  abbrev y : RefT (List ℕ)
+  y = record { ptr = (bo, oo); name = γo; now = os }
+
   abbrev x : RefT (List Node)
   x = record { ptr = (b′, o′); name = γ′; now = ns }
 
@@ -96,181 +106,200 @@ module _ {M : Type 1} (𝓤 : URA M) (H : Heap 𝓤) (A : Atoms 𝓤) (W : Given
   k = record { ptr = (b″, o″); name = γ″; now = ks }
 
   abbrev Arg : Type 0
-  Arg = ℕ × (RefT (List ℕ) × (Items × (ℕ × (RefT (List Node) × (ℕ × (RefT (List ℕ) × Unit {0}))))))
+  Arg = ℕ × (RefT (List ℕ) × (Items × (RefT (List ℕ) × (ℕ × (RefT (List Node) × (ℕ × (RefT (List ℕ) × Unit {0})))))))
 
   abbrev a : Arg
-  a = (m, (p, (d, (n, (x, (c, (k, tt)))))))
+  a = (m, (p, (d, (y, (n, (x, (c, (k, tt))))))))
 
-  abbrev vals : Vals f.signature (κ, (κ′, (κ″, tt)))
-  vals = (vint w32 m ∷ [], (u ∷ [], (i ∷ [], (vint w32 n ∷ [], (v ∷ [], (vint w32 c ∷ [], (t ∷ [], tt)))))))
+  abbrev vals : Vals f.signature (κ, (κo, (κ′, (κ″, tt))))
+  vals = (vint w32 m ∷ [], (u ∷ [], (i ∷ [], (h ∷ [], (vint w32 n ∷ [], (v ∷ [], (vint w32 c ∷ [], (t ∷ [], tt))))))))
 
   abbrev Post : Val → SProp 𝓤
-  Post = walkOf 𝓤 H A f.ended stayed (f.clauses 𝓤 H A mem run) .post (((κ, (κ′, (κ″, tt))), (q, (q′, (q″, tt))), tt, a, vals), tt)
+  Post = walkOf 𝓤 H A f.ended stayed (f.clauses 𝓤 H A mem run) .post (((κ, (κo, (κ′, (κ″, tt)))), (q, (qo, (q′, (q″, tt)))), tt, a, vals), tt)
 
   abbrev Pack : Fml
   Pack = ShrSlice (named 0) κ u64 .own p (u ∷ [])
 
+  abbrev Ord : Fml
+  Ord = ShrSlice (named 1) κo u8 .own y (h ∷ [])
+
   abbrev Own : Fml
-  Own = ShrSlice (named 1) κ′ T.the-row .own x (v ∷ [])
+  Own = ShrSlice (named 2) κ′ T.the-row .own x (v ∷ [])
 
   abbrev Work : Fml
-  Work = MutSlice (named 2) κ″ u64 .own k (t ∷ [])
+  Work = MutSlice (named 3) κ″ u64 .own k (t ∷ [])
 
   -- the second call: what its triple binds outside, and that the caller has what it asks
   abbrev Passed : Type 0
-  Passed = ℕ × (RefT (List ℕ) × (Items × (ℕ × (ℕ × (RefT (List ℕ) × (ℕ × (RefT (List ℕ) × Unit {0})))))))
+  Passed = ℕ × (RefT (List ℕ) × (Items × (RefT (List ℕ) × (ℕ × (ℕ × (RefT (List ℕ) × (ℕ × (RefT (List ℕ) × Unit {0}))))))))
 
   abbrev passed : ℕ → GName → Passed
-  passed s δ = (m, (p, (d, (n, (len, (lentAs s δ fs, (c, (k, tt))))))))
+  passed s δ = (m, (p, (d, (y, (n, (len, (lentAs s δ fs, (c, (k, tt)))))))))
 
   abbrev to-callee : ℕ → ℕ → GName → Callee 𝓤 H A mem run .Ghost
   to-callee ν s δ = (
     (
-      (κ, (ν ∷ [], (κ″, tt))),
-      (q, (fullShare, (q″, tt))),
+      (κ, (κo, (ν ∷ [], (κ″, tt)))),
+      (q, (qo, (fullShare, (q″, tt)))),
       tt,
       passed s δ,
-      (vint w32 m ∷ [], (u ∷ [], (i ∷ [], (vint w32 n ∷ [], (vint w64 len ∷ [], (vptr s 0 ∷ [], (vint w32 c ∷ [], (t ∷ [], tt)))))))),
+      (vint w32 m ∷ [], (u ∷ [], (i ∷ [], (h ∷ [], (vint w32 n ∷ [], (vint w64 len ∷ [], (vptr s 0 ∷ [], (vint w32 c ∷ [], (t ∷ [], tt))))))))),
     ),
     tt,
   )
 
   abbrev Asked-callee : ℕ → ℕ → GName → Fml
   Asked-callee ν s δ = fsep (u32 .own m (vint w32 m ∷ [])) (fsep Pack
-      (fsep (I.the-row .own d (i ∷ [])) (fsep (u32 .own n (vint w32 n ∷ [])) (fsep (usize .own len (vint w64 len ∷ []))
-      (fsep (Borrowed ν s δ fs) (fsep (u32 .own c (vint w32 c ∷ [])) (fsep Work ftrue)))))))
+      (fsep (I.the-row .own d (i ∷ [])) (fsep Ord (fsep (u32 .own n (vint w32 n ∷ [])) (fsep (usize .own len (vint w64 len ∷ []))
+      (fsep (Borrowed ν s δ fs) (fsep (u32 .own c (vint w32 c ∷ [])) (fsep Work ftrue))))))))
 
-  asks-callee : (ν s : ℕ) (δ : GName) → ent 𝓤 (⋆ 𝓤 H A ((‵ (flft κ q) ⊛ ‵ (flft (ν ∷ []) fullShare) ⊛ ‵ (flft κ″ q″) ⊛ ‵ ftrue) ∷ ‵ (Asked-callee ν s δ) ∷ []))
+  asks-callee : (ν s : ℕ) (δ : GName) → ent 𝓤 (⋆ 𝓤 H A ((‵ (flft κ q) ⊛ ‵ (flft κo qo) ⊛ ‵ (flft (ν ∷ []) fullShare) ⊛ ‵ (flft κ″ q″) ⊛ ‵ ftrue) ∷ ‵ (Asked-callee ν s δ) ∷ []))
       (Callee 𝓤 H A mem run .pre (to-callee ν s δ))
-  asks-callee ν s δ = qed W ((‵ (flft κ q) ⊛ ‵ (flft (ν ∷ []) fullShare) ⊛ ‵ (flft κ″ q″) ⊛ ‵ ftrue) ∷ ‵ (Asked-callee ν s δ) ∷ []) ∵ join ! $ frame ! $ done !
+  asks-callee ν s δ = qed W ((‵ (flft κ q) ⊛ ‵ (flft κo qo) ⊛ ‵ (flft (ν ∷ []) fullShare) ⊛ ‵ (flft κ″ q″) ⊛ ‵ ftrue) ∷ ‵ (Asked-callee ν s δ) ∷ []) ∵ join ! $ frame ! $ done !
 
   abbrev Says : Counted → Type 0
-  Says r = CountPost (problemOf ps (value d)) m (headed fs n len) c (length ks) r
+  Says r = CountPost (problemOf ps (value d) os) m (headed fs n len) c (length ks) r
 
   exits : (r : Counted) (w : Val) (ks′ : List ℕ) → Says r → length ks′ ≡ length ks
-      → ent 𝓤 (⋆ 𝓤 H A ((‵ (flft κ″ q″) ⊛ ‵ ftrue) ∷ ‵ (flft κ q) ∷ ‵ (S.the-row .own r (w ∷ [])) ∷ ‵ (finally u64 γ″ ks′) ∷ ‵ (flft κ′ q′) ∷ ‵ Own ∷ ‵ Pack ∷ [])) (Post w)
+      → ent 𝓤 (⋆ 𝓤 H A ((‵ (flft κ″ q″) ⊛ ‵ ftrue) ∷ ‵ (flft κo qo) ∷ ‵ (flft κ q) ∷ ‵ (S.the-row .own r (w ∷ [])) ∷ ‵ (finally u64 γ″ ks′) ∷ ‵ (flft κ′ q′) ∷ ‵ Own ∷ ‵ Ord ∷ ‵ Pack ∷ [])) (Post w)
   exits r w ks′ e l =
-      qed W ((‵ (flft κ″ q″) ⊛ ‵ ftrue) ∷ ‵ (flft κ q) ∷ ‵ (S.the-row .own r (w ∷ [])) ∷ ‵ (finally u64 γ″ ks′) ∷ ‵ (flft κ′ q′) ∷ ‵ Own ∷ ‵ Pack ∷ []) ∵
-      suffices ! _ (ends-at 𝓤 H A f.ended stayed (f.clauses 𝓤 H A mem run) W (((κ, (κ′, (κ″, tt))), (q, (q′, (q″, tt))), tt, a, vals), tt) w r
-      (tt, (tt, (tt, (tt, (tt, (tt, (ks′, tt))))))) (tt, (tt, (tt, (tt, (tt, (tt, (l, tt)))))))) $
-      says ! (count-same (problemOf ps (value d)) m n ns c (length ks) r e) $
-      move ! (4 ∷ 0 ∷ []) $ join ! $ move ! (1 ∷ 0 ∷ []) $ join ! $ frame ! $ nothing ! $ move ! (2 ∷ 0 ∷ []) $ fjoin ! $ owned ! u32 (Is u32) (uint-makes 𝓤 H A W w32) c _ (refl, c-fits) $ fjoin ! $
-      move ! (2 ∷ 0 ∷ []) $ fjoin ! $ owned ! u32 (Is u32) (uint-makes 𝓤 H A W w32) n _ (refl, n-fits) $ fjoin ! $
+      qed W ((‵ (flft κ″ q″) ⊛ ‵ ftrue) ∷ ‵ (flft κo qo) ∷ ‵ (flft κ q) ∷ ‵ (S.the-row .own r (w ∷ [])) ∷ ‵ (finally u64 γ″ ks′) ∷ ‵ (flft κ′ q′) ∷ ‵ Own ∷ ‵ Ord ∷ ‵ Pack ∷ []) ∵
+      suffices ! _ (ends-at 𝓤 H A f.ended stayed (f.clauses 𝓤 H A mem run) W (((κ, (κo, (κ′, (κ″, tt)))), (q, (qo, (q′, (q″, tt)))), tt, a, vals), tt) w r
+      (tt, (tt, (tt, (tt, (tt, (tt, (tt, (ks′, tt)))))))) (tt, (tt, (tt, (tt, (tt, (tt, (tt, (l, tt))))))))) $
+      says ! (count-same (problemOf ps (value d) os) m n ns c (length ks) r e) $
+      move ! (5 ∷ 0 ∷ []) $ join ! $ move ! (1 ∷ 0 ∷ []) $ join ! $ move ! (1 ∷ 0 ∷ []) $ join ! $ frame ! $ nothing ! $ move ! (2 ∷ 0 ∷ []) $ fjoin ! $
+      owned ! u32 (Is u32) (uint-makes 𝓤 H A W w32) c _ (refl, c-fits) $ fjoin ! $
+      move ! (2 ∷ 0 ∷ []) $ fjoin ! $ owned ! u32 (Is u32) (uint-makes 𝓤 H A W w32) n _ (refl, n-fits) $ fjoin ! $ move ! (2 ∷ 0 ∷ []) $ fjoin ! $
       owned ! I.the-row (Is I.the-row) (LL.makes I.the-type I′.the-plain 𝓤 H A) d _ d-is $ fjoin ! $ move ! (2 ∷ 0 ∷ []) $ fjoin ! $
       owned ! u32 (Is u32) (uint-makes 𝓤 H A W w32) m _ (refl, m-fits) $ fjoin ! $ done !
 
   module _ (C : Calls 𝓤 H) (Λ : Loops 𝓤 H) (fm : FmC 𝓤 H (W .laws) C) (known-flatten : Triple 𝓤 (C #kiosk·flatten) (Flatten 𝓤 H A mem run))
       (known-callee : Triple 𝓤 (C #kiosk·count-words) (Callee 𝓤 H A mem run)) where
-    walk : ent 𝓤 (onEntry 𝓤 H A f.signature (κ, (κ′, (κ″, tt))) (q, (q′, (q″, tt))) a vals) (WpFn 𝓤 H C Λ code.function (vint w32 m ∷ u ∷ i ∷ vint w32 n ∷ v ∷ vint w32 c ∷ t ∷ []) Post)
+    walk : ent 𝓤 (onEntry 𝓤 H A f.signature (κ, (κo, (κ′, (κ″, tt)))) (q, (qo, (q′, (q″, tt)))) a vals) (WpFn 𝓤 H C Λ code.function (vint w32 m ∷ u ∷ i ∷ h ∷ vint w32 n ∷ v ∷ vint w32 c ∷ t ∷ []) Post)
     unfolding partOf
     walk =
-        qed W ((‵ (flft κ q) ⊛ ‵ (flft κ′ q′) ⊛ ‵ (flft κ″ q″) ⊛ ‵ ftrue) ∷ ‵ (owns (u32 ∷ ShrSlice (named 0) κ u64 ∷ I.the-row ∷ u32 ∷ ShrSlice (named 1) κ′ T.the-row ∷
-        u32 ∷ MutSlice (named 2) κ″ u64 ∷ []) a vals) ∷ []) ∵ enter ! C Λ code.function (vint w32 m ∷ u ∷ i ∷ vint w32 n ∷ v ∷ vint w32 c ∷ t ∷ []) _ $
+        qed W ((‵ (flft κ q) ⊛ ‵ (flft κo qo) ⊛ ‵ (flft κ′ q′) ⊛ ‵ (flft κ″ q″) ⊛ ‵ ftrue) ∷ ‵ (owns (u32 ∷ ShrSlice (named 0) κ u64 ∷ I.the-row ∷
+        ShrSlice (named 1) κo u8 ∷ u32 ∷ ShrSlice (named 2) κ′ T.the-row ∷ u32 ∷ MutSlice (named 3) κ″ u64 ∷ []) a vals) ∷ []) ∵
+        enter ! C Λ code.function (vint w32 m ∷ u ∷ i ∷ h ∷ vint w32 n ∷ v ∷ vint w32 c ∷ t ∷ []) _ $
         alloc1 ! (λ l₀. alloc1 ! (λ l₁. alloc1 ! (λ l₂. alloc1 ! (λ l₃.
         alloc1 ! (λ l₄. alloc1 ! (λ l₅. alloc1 ! (λ l₆. alloc1 ! (λ l₇. alloc1 ! (λ l₈. alloc1 ! (λ l₉. alloc1 ! (λ l₁₀. alloc1 ! (λ l₁₁. alloc1 ! (λ l₁₂. alloc1 ! (λ l₁₃. alloc1 ! (λ l₁₄.
-        alloc0 ! $ params1 ! $
-        pass1 ! (init ! 26 refl (tt, record { fits = m-fits })) $ pass1 ! (init ! 24 refl (tt, (tt, (record { fits = gp .0 }, tt)))) $
-        pass1 ! (init ! 22 refl (LL.lawful I.the-type I′.the-laws 𝓤 H A W .typed d _ d-is .0)) $ pass1 ! (init ! 20 refl (tt, record { fits = n-fits })) $
-        pass1 ! (init ! 18 refl (tt, (tt, (record { fits = gn .0 }, tt)))) $ pass1 ! (init ! 16 refl (tt, record { fits = c-fits })) $
-        pass1 ! (init ! 14 refl (tt, (tt, (record { fits = gk .0 }, tt)))) $ pass0 ! $
-        -- [_14; …; _13; …; _12; …; _11; …; _10; …; _9; …; _8; …; _7; …; _6; …; _5; …; _4; …; _3; …; _2; …; _1; …; room for _0; …; the tokens; what the parameters own]
-        move ! (31 ∷ []) $ fsplit ! $ drop ! $ fsplit ! $ use1 W (‵ Pack ⊛ ‵ Pack) (shr-slice-copy 𝓤 H A W (named 0) κ u64 .twice p (u ∷ [])) $ split ! $
-        move ! (2 ∷ []) $ fsplit ! $ drop ! $ fsplit ! $ drop ! $ fsplit ! $ use1 W (‵ Own ⊛ ‵ Own) (shr-slice-copy 𝓤 H A W (named 1) κ′ T.the-row .twice x (v ∷ [])) $ split ! $
+        alloc1 ! (λ l₁₅. alloc0 ! $ params1 ! $
+        pass1 ! (init ! 28 refl (tt, record { fits = m-fits })) $ pass1 ! (init ! 26 refl (tt, (tt, (record { fits = gp .0 }, tt)))) $
+        pass1 ! (init ! 24 refl (LL.lawful I.the-type I′.the-laws 𝓤 H A W .typed d _ d-is .0)) $ pass1 ! (init ! 22 refl (tt, (tt, (record { fits = go .0 }, tt)))) $
+        pass1 ! (init ! 20 refl (tt, record { fits = n-fits })) $ pass1 ! (init ! 18 refl (tt, (tt, (record { fits = gn .0 }, tt)))) $
+        pass1 ! (init ! 16 refl (tt, record { fits = c-fits })) $ pass1 ! (init ! 14 refl (tt, (tt, (record { fits = gk .0 }, tt)))) $ pass0 ! $
+        -- [_15; …; _14; …; _13; …; _12; …; _11; …; _10; …; _9; …; _8; …; _7; …; _6; …; _5; …; _4; …; _3; …; _2; …; _1; …; room for _0; …; the tokens; what the
+        -- parameters own]
+        move ! (33 ∷ []) $ fsplit ! $ drop ! $ fsplit ! $ use1 W (‵ Pack ⊛ ‵ Pack) (shr-slice-copy 𝓤 H A W (named 0) κ u64 .twice p (u ∷ [])) $ split ! $
+        move ! (2 ∷ []) $ fsplit ! $ drop ! $ fsplit ! $ use1 W (‵ Ord ⊛ ‵ Ord) (shr-slice-copy 𝓤 H A W (named 1) κo u8 .twice y (h ∷ [])) $ split ! $
+        move ! (2 ∷ []) $ fsplit ! $ drop ! $ fsplit ! $ use1 W (‵ Own ⊛ ‵ Own) (shr-slice-copy 𝓤 H A W (named 2) κ′ T.the-row .twice x (v ∷ [])) $ split ! $
         move ! (2 ∷ []) $ fsplit ! $ drop ! $ fsplit ! $ move ! (1 ∷ []) $ drop ! $
-        move ! (35 ∷ []) $ split ! $ move ! (1 ∷ []) $ split ! $ move ! (1 ∷ []) $ split ! $ move ! (1 ∷ []) $ drop ! $
-        -- [the work's token; the nodes' token; the packages' token; what work owns; what nodes owns, twice; what packages owns, twice; _14; …]: the array's value, and what it owns
+        move ! (39 ∷ []) $ split ! $ move ! (1 ∷ []) $ split ! $ move ! (1 ∷ []) $ split ! $ move ! (1 ∷ []) $ split ! $ move ! (1 ∷ []) $ drop ! $
+        -- [the work's token; the nodes' token; the order's token; the packages' token; what work owns; what nodes owns, twice; what order owns, twice; what packages
+        -- owns, twice; _15; …]: the array's value, and what it owns
         owned ! u32 (Is u32) (uint-makes 𝓤 H A W w32) 0 _ (refl, lit< tt) $ use1 W (‵ (Words .own zs (made ∷ []))) (array-repeat 𝓤 H A W u32 (uint-copy 𝓤 H A W w32) 196603 0 (vint w32 0)) $
         peeks ! Words (Is Words) (shows 𝓤 H A Words) zs (made ∷ []) (λ is₀.
-        assigns ! (rep ! 196603 (lit ! tt)) (from ! (stop !)) (init ! 21 refl (array-typed u32 (uint-lawful 𝓤 H A W w32 .typed) 196603 zs (made ∷ []) is₀ .0)) $
-        assigns ! (addr ! (from ! (stop !))) (from ! (stop !)) (init ! 17 refl (tt, tt)) $
+        assigns ! (rep ! 196603 (lit ! tt)) (from ! (stop !)) (init ! 24 refl (array-typed u32 (uint-lawful 𝓤 H A W w32 .typed) 196603 zs (made ∷ []) is₀ .0)) $
+        assigns ! (addr ! (from ! (stop !))) (from ! (stop !)) (init ! 20 refl (tt, tt)) $
         -- the array is lent for a lifetime ν of the call
-        move ! (21 ∷ 0 ∷ []) $ fjoin ! $ fpack ! (List Val) (λ vs. fsep (cellAt fullShare (Words .mir) vs l₈ 0) (Words .own zs vs)) (made ∷ []) $
-        move ! (2 ∷ 5 ∷ 0 ∷ []) $ use3 W (later (some (λ (ν : ℕ). some (λ (δ : GName). raw (Flatten 𝓤 H A mem run .pre (to 𝓤 H A W mem run κ′ q′ b′ o′ γ′ ns l₈ ν δ)) ⊛ ‵ (Lent ν l₈ δ)))))
-        (asked 𝓤 H A W mem run κ′ q′ b′ o′ γ′ ns l₈) $ await ! tt $ pick ! (λ ν. pick ! (λ δ. split ! $
-        -- [what flatten asks; the lender's part; the work's token; the packages' token; what work owns; what nodes owns; what packages owns, twice; _14; …]
-        calls-at ! fm (Flatten 𝓤 H A mem run) known-flatten (to 𝓤 H A W mem run κ′ q′ b′ o′ γ′ ns l₈ ν δ)
-        (and-then ! (load ! (from ! (stop !)) (look ! 25 refl)) (and-then ! (load ! (from ! (stop !)) (look ! 16 refl)) (no-more !))) (λ w₁.
-        use2 W (later (given (w₁ ≡ vunit) (‵ (flft κ′ q′) ⊛ ‵ (Lies l₈ fs)))) (told 𝓤 H A W mem run κ′ q′ b′ o′ γ′ ns l₈ ν δ w₁) $ await ! tt $ learn ! (λ e₁. split ! $
-        land ! (from ! (stop !)) (init ! 18 refl (subst (λ (z : Val). Holds (hasTy tyUnit z) × WT z) (sym e₁) (tt, tt))) $ move ! (1 ∷ []) $
-        -- [the words; the nodes' token; the work's token; the packages' token; what work owns; what nodes owns; what packages owns, twice; _14; …]
-        assigns ! (of-opd ! (load ! (from ! (fld ! refl (stop !))) (look-in ! 25 (sub ! 1 refl (whole !))))) (from ! (stop !)) (init ! 14 refl (tt, record { fits = gn .0 })) $
-        assigns ! (addr ! (from ! (stop !))) (from ! (stop !)) (init ! 12 refl (tt, tt)) $
-        assigns ! (addr ! (from ! (fld ! refl (hop ! (look-in ! 21 (sub ! 0 refl (whole !))) (stop !))))) (from ! (stop !)) (init ! 10 refl (tt, tt)) $
-        assigns ! (agg ! (and-then ! (load ! (from ! (stop !)) (look ! 10 refl)) (and-then ! (load ! (from ! (fld ! refl (stop !))) (look-in ! 21 (sub ! 1 refl (whole !)))) (no-more !))))
-        (from ! (stop !)) (init ! 8 refl (tt, (tt, (record { fits = gk .0 }, tt)))) $
-        use1 W (later (some (λ (ν : ℕ). some (λ (δ : GName). ‵ (flft (ν ∷ []) fullShare) ⊛ ‵ (Borrowed ν l₈ δ fs) ⊛ ‵ (Lent ν l₈ δ))))) (lends 𝓤 H A W l₈ fs) $
+        move ! (24 ∷ 0 ∷ []) $ fjoin ! $ fpack ! (List Val) (λ vs. fsep (cellAt fullShare (Words .mir) vs l₉ 0) (Words .own zs vs)) (made ∷ []) $
+        move ! (2 ∷ 6 ∷ 0 ∷ []) $ use3 W (later (some (λ (ν : ℕ). some (λ (δ : GName). raw (Flatten 𝓤 H A mem run .pre (to 𝓤 H A W mem run κ′ q′ b′ o′ γ′ ns l₉ ν δ)) ⊛ ‵ (Lent ν l₉ δ)))))
+        (asked 𝓤 H A W mem run κ′ q′ b′ o′ γ′ ns l₉) $ await ! tt $ pick ! (λ ν. pick ! (λ δ. split ! $
+        -- [what flatten asks; the lender's part; the work's token; the order's token; the packages' token; what work owns; what nodes owns; what order owns, twice;
+        -- what packages owns, twice; _15; …]
+        calls-at ! fm (Flatten 𝓤 H A mem run) known-flatten (to 𝓤 H A W mem run κ′ q′ b′ o′ γ′ ns l₉ ν δ)
+        (and-then ! (load ! (from ! (stop !)) (look ! 28 refl)) (and-then ! (load ! (from ! (stop !)) (look ! 19 refl)) (no-more !))) (λ w₁.
+        use2 W (later (given (w₁ ≡ vunit) (‵ (flft κ′ q′) ⊛ ‵ (Lies l₉ fs)))) (told 𝓤 H A W mem run κ′ q′ b′ o′ γ′ ns l₉ ν δ w₁) $ await ! tt $ learn ! (λ e₁. split ! $
+        land ! (from ! (stop !)) (init ! 21 refl (subst (λ (z : Val). Holds (hasTy tyUnit z) × WT z) (sym e₁) (tt, tt))) $ move ! (1 ∷ []) $
+        -- [the words; the nodes' token; the work's token; the order's token; the packages' token; what work owns; what nodes owns; what order owns, twice; what
+        -- packages owns, twice; _15; …]
+        assigns ! (of-opd ! (load ! (from ! (fld ! refl (stop !))) (look-in ! 28 (sub ! 1 refl (whole !))))) (from ! (stop !)) (init ! 17 refl (tt, record { fits = gn .0 })) $
+        assigns ! (addr ! (from ! (stop !))) (from ! (stop !)) (init ! 15 refl (tt, tt)) $
+        assigns ! (addr ! (from ! (fld ! refl (hop ! (look-in ! 24 (sub ! 0 refl (whole !))) (stop !))))) (from ! (stop !)) (init ! 13 refl (tt, tt)) $
+        assigns ! (agg ! (and-then ! (load ! (from ! (stop !)) (look ! 13 refl)) (and-then ! (load ! (from ! (fld ! refl (stop !))) (look-in ! 24 (sub ! 1 refl (whole !)))) (no-more !))))
+        (from ! (stop !)) (init ! 11 refl (tt, (tt, (record { fits = gk .0 }, tt)))) $
+        use1 W (later (some (λ (ν : ℕ). some (λ (δ : GName). ‵ (flft (ν ∷ []) fullShare) ⊛ ‵ (Borrowed ν l₉ δ fs) ⊛ ‵ (Lent ν l₉ δ))))) (lends 𝓤 H A W l₉ fs) $
         await ! tt $ pick ! (λ ν₂. pick ! (λ δ₂. split ! $ move ! (1 ∷ []) $ split ! $
-        -- [the array lent; the lender's part; the call's token; the nodes' token; the work's token; the packages' token; what work owns; what nodes owns; what packages owns, twice; _14; …]
-        nothing ! $ move ! (7 ∷ 0 ∷ []) $ fjoin ! $ owned ! u32 (Is u32) (uint-makes 𝓤 H A W w32) c _ (refl, c-fits) $ fjoin ! $ move ! (1 ∷ 0 ∷ []) $ fjoin ! $
+        -- [the array lent; the lender's part; the call's token; the nodes' token; the work's token; the order's token; the packages' token; what work owns; what nodes
+        -- owns; what order owns, twice; what packages owns, twice; _15; …]
+        nothing ! $ move ! (8 ∷ 0 ∷ []) $ fjoin ! $ owned ! u32 (Is u32) (uint-makes 𝓤 H A W w32) c _ (refl, c-fits) $ fjoin ! $ move ! (1 ∷ 0 ∷ []) $ fjoin ! $
         owned ! usize (Is usize) (uint-makes 𝓤 H A W w64) len _ (refl, gn .0) $ fjoin ! $ owned ! u32 (Is u32) (uint-makes 𝓤 H A W w32) n _ (refl, n-fits) $ fjoin ! $
-        owned ! I.the-row (Is I.the-row) (LL.makes I.the-type I′.the-plain 𝓤 H A) d _ d-is $ fjoin ! $
-        move ! (7 ∷ 0 ∷ []) $ fjoin ! $ owned ! u32 (Is u32) (uint-makes 𝓤 H A W w32) m _ (refl, m-fits) $ fjoin ! $ nothing ! $ move ! (5 ∷ 0 ∷ []) $
-        join ! $ move ! (3 ∷ 0 ∷ []) $ join ! $ move ! (4 ∷ 0 ∷ []) $ join ! $
-        use2 W (raw (Callee 𝓤 H A mem run .pre (to-callee ν₂ l₈ δ₂))) (asks-callee ν₂ l₈ δ₂) $
-        -- [what count_words asks; the lender's part; the nodes' token; what nodes owns; what packages owns; _14; …]
-        calls-at ! fm (Callee 𝓤 H A mem run) known-callee (to-callee ν₂ l₈ δ₂) (and-then ! (load ! (from ! (stop !)) (look ! 30 refl))
-        (and-then ! (load ! (from ! (stop !)) (look ! 28 refl)) (and-then ! (load ! (from ! (stop !)) (look ! 26 refl)) (and-then ! (load ! (from ! (stop !)) (look ! 24 refl))
-        (and-then ! (load ! (from ! (stop !)) (look ! 11 refl)) (and-then ! (load ! (from ! (stop !)) (look ! 9 refl)) (and-then ! (load ! (from ! (stop !)) (look ! 20 refl))
-        (and-then ! (load ! (from ! (stop !)) (look ! 5 refl)) (no-more !))))))))) (λ w.
-        use1 W (later (some (λ (r : Counted). ((‵ (flft κ q) ⊛ ‵ (flft (ν₂ ∷ []) fullShare) ⊛ ‵ (flft κ″ q″) ⊛ ‵ ftrue) ⊛ ‵ (S.the-row .own r (w ∷ [])))
-        ⊛ raw (ensured 𝓤 H A callee.ended (callee.clauses 𝓤 H A mem run) (κ, (ν₂ ∷ [], (κ″, tt))) (passed l₈ δ₂) tt r)))) (id⊢ 𝓤 _) $ await ! tt $ pick ! (λ r.
-        split ! $ move ! (1 ∷ []) $ use1 W (some (λ (ws : Unit {0} × (Unit {0} × (Unit {0} × (Unit {0} × (Unit {0} × (List ℕ × (Unit {0} × (List ℕ × Unit {0})))))))). ‵ (lasts callee.ended
-        (κ, (ν₂ ∷ [], (κ″, tt))) (passed l₈ δ₂) ws) ⊛ raw (fact 𝓤 (Says r)))) (id⊢ 𝓤 _) $ pick ! (λ ws.
-        split ! $ move ! (1 ∷ []) $ heard ! (Says r) (λ e. fsplit ! $ drop ! $ fsplit ! $ drop ! $ fsplit ! $ drop ! $ fsplit ! $ drop ! $ fsplit ! $ drop ! $ fsplit ! $
+        move ! (8 ∷ 0 ∷ []) $ fjoin ! $ owned ! I.the-row (Is I.the-row) (LL.makes I.the-type I′.the-plain 𝓤 H A) d _ d-is $ fjoin ! $
+        move ! (9 ∷ 0 ∷ []) $ fjoin ! $ owned ! u32 (Is u32) (uint-makes 𝓤 H A W w32) m _ (refl, m-fits) $ fjoin ! $ nothing ! $ move ! (5 ∷ 0 ∷ []) $
+        join ! $ move ! (3 ∷ 0 ∷ []) $ join ! $ move ! (4 ∷ 0 ∷ []) $ join ! $ move ! (4 ∷ 0 ∷ []) $ join ! $
+        use2 W (raw (Callee 𝓤 H A mem run .pre (to-callee ν₂ l₉ δ₂))) (asks-callee ν₂ l₉ δ₂) $
+        -- [what count_words asks; the lender's part; the nodes' token; what nodes owns; what order owns; what packages owns; _15; …]
+        calls-at ! fm (Callee 𝓤 H A mem run) known-callee (to-callee ν₂ l₉ δ₂) (and-then ! (load ! (from ! (stop !)) (look ! 33 refl))
+        (and-then ! (load ! (from ! (stop !)) (look ! 31 refl)) (and-then ! (load ! (from ! (stop !)) (look ! 29 refl)) (and-then ! (load ! (from ! (stop !)) (look ! 27 refl))
+        (and-then ! (load ! (from ! (stop !)) (look ! 25 refl)) (and-then ! (load ! (from ! (stop !)) (look ! 12 refl)) (and-then ! (load ! (from ! (stop !)) (look ! 10 refl))
+        (and-then ! (load ! (from ! (stop !)) (look ! 21 refl)) (and-then ! (load ! (from ! (stop !)) (look ! 6 refl)) (no-more !)))))))))) (λ w.
+        use1 W (later (some (λ (r : Counted). ((‵ (flft κ q) ⊛ ‵ (flft κo qo) ⊛ ‵ (flft (ν₂ ∷ []) fullShare) ⊛ ‵ (flft κ″ q″) ⊛ ‵ ftrue) ⊛ ‵ (S.the-row .own r (w ∷ [])))
+        ⊛ raw (ensured 𝓤 H A callee.ended (callee.clauses 𝓤 H A mem run) (κ, (κo, (ν₂ ∷ [], (κ″, tt)))) (passed l₉ δ₂) tt r)))) (id⊢ 𝓤 _) $ await ! tt $ pick ! (λ r.
+        split ! $ move ! (1 ∷ []) $ use1 W (some (λ (ws : Unit {0} × (Unit {0} × (Unit {0} × (Unit {0} × (Unit {0} × (Unit {0} × (List ℕ × (Unit {0} × (List ℕ × Unit {0}))))))))). ‵ (lasts callee.ended
+        (κ, (κo, (ν₂ ∷ [], (κ″, tt)))) (passed l₉ δ₂) ws) ⊛ raw (fact 𝓤 (Says r)))) (id⊢ 𝓤 _) $ pick ! (λ ws.
+        split ! $ move ! (1 ∷ []) $ heard ! (Says r) (λ e. fsplit ! $ drop ! $ fsplit ! $ drop ! $ fsplit ! $ drop ! $ fsplit ! $ drop ! $ fsplit ! $ drop ! $ fsplit ! $ drop ! $ fsplit ! $
         move ! (1 ∷ []) $ fsplit ! $ drop ! $ fsplit ! $ fsplit ! $ move ! (1 ∷ []) $ feqL ! (λ l.
-        -- [the last work; …; the last words; the tokens and the result; the lender's part; the nodes' token; what nodes owns; what packages owns; _14; …]
+        -- [the last work; …; the last words; the tokens and the result; the lender's part; the nodes' token; what nodes owns; what order owns; what packages owns; _15; …]
         move ! (3 ∷ []) $ split ! $ move ! (1 ∷ []) $ peeks ! S.the-row (Is S.the-row) (shows 𝓤 H A S.the-row) r (w ∷ []) (λ is.
-        land ! (from ! (stop !)) (init ! 36 refl (EL.lawful S.the-type S′.the-laws 𝓤 H A W tt .typed r _ is .0)) $
+        land ! (from ! (stop !)) (init ! 39 refl (EL.lawful S.the-type S′.the-laws 𝓤 H A W tt .typed r _ is .0)) $
         -- the array comes back, to be freed
-        move ! (1 ∷ []) $ split ! $ move ! (1 ∷ []) $ split ! $ lft-end ! tt $ move ! (0 ∷ 7 ∷ 6 ∷ []) $
-        use3 W (later (‵ (Lies l₈ (ws .1 .1 .1 .1 .1 .0)))) (ref-back 𝓤 H A W Words (ν₂ ∷ []) δ₂ (ws .1 .1 .1 .1 .1 .0) l₈ 0) $ await ! tt $
-        fpick ! (λ vs. fsplit ! $ move ! (1 ∷ []) $ peeks ! Words (Is Words) (shows 𝓤 H A Words) (ws .1 .1 .1 .1 .1 .0) vs (λ are. drop ! $
-        rewrite ! 0 (λ (us : List Val). ‵ (cellAt fullShare (Words .mir) us l₈ 0)) (array-tells u32 (uint-vals w32) (uint-tells w32) 196603 (ws .1 .1 .1 .1 .1 .0) vs are) refl $
-        -- [_8; the work's token; the packages' token; the result; the last work; …; the nodes' token; what nodes owns; what packages owns; _14; …; _9; …; (_8's right to be freed); _7; …; _0; …]
-        returns ! (look ! 36 refl) $ forget ! 0 refl $ forget ! 9 refl $ forget ! 11 refl $ forget ! 13 refl $ forget ! 15 refl $ forget ! 17 refl $
-        forget ! 19 refl $ forget ! 22 refl $ forget ! 24 refl $ forget ! 26 refl $ forget ! 28 refl $ forget ! 30 refl $ forget ! 32 refl $ forget ! 34 refl $
-        forget ! 36 refl $
-        move ! (36 ∷ 37 ∷ []) $ free1 ! $ move ! (34 ∷ 35 ∷ []) $ free1 ! $ move ! (32 ∷ 33 ∷ []) $ free1 ! $ move ! (30 ∷ 31 ∷ []) $ free1 ! $ move ! (28 ∷ 29 ∷ []) $ free1 ! $
-        move ! (26 ∷ 27 ∷ []) $ free1 ! $ move ! (24 ∷ 25 ∷ []) $ free1 ! $ move ! (22 ∷ 23 ∷ []) $ free1 ! $ move ! (0 ∷ 21 ∷ []) $ free1 ! $
-        move ! (18 ∷ 19 ∷ []) $ free1 ! $ move ! (16 ∷ 17 ∷ []) $ free1 ! $ move ! (14 ∷ 15 ∷ []) $ free1 ! $ move ! (12 ∷ 13 ∷ []) $ free1 ! $
-        move ! (10 ∷ 11 ∷ []) $ free1 ! $ move ! (8 ∷ 9 ∷ []) $ free1 ! $ free0 ! $
-        keep ! (0 ∷ 1 ∷ 2 ∷ 3 ∷ 5 ∷ 6 ∷ 7 ∷ []) $ by ! (exits r w (ws .1 .1 .1 .1 .1 .1 .1 .0) e l)))))))))))))))))))))))))))))))
+        move ! (1 ∷ []) $ split ! $ move ! (1 ∷ []) $ split ! $ move ! (1 ∷ []) $ split ! $ lft-end ! tt $ move ! (0 ∷ 8 ∷ 7 ∷ []) $
+        use3 W (later (‵ (Lies l₉ (ws .1 .1 .1 .1 .1 .1 .0)))) (ref-back 𝓤 H A W Words (ν₂ ∷ []) δ₂ (ws .1 .1 .1 .1 .1 .1 .0) l₉ 0) $ await ! tt $
+        fpick ! (λ vs. fsplit ! $ move ! (1 ∷ []) $ peeks ! Words (Is Words) (shows 𝓤 H A Words) (ws .1 .1 .1 .1 .1 .1 .0) vs (λ are. drop ! $
+        rewrite ! 0 (λ (us : List Val). ‵ (cellAt fullShare (Words .mir) us l₉ 0)) (array-tells u32 (uint-vals w32) (uint-tells w32) 196603 (ws .1 .1 .1 .1 .1 .1 .0) vs are) refl $
+        -- [_9; the work's token; the order's token; the packages' token; the result; the last work; …; the nodes' token; what nodes owns; what order owns; what packages
+        -- owns; _15; …; _10; …; (_9's right to be freed); _8; …; _0; …]
+        returns ! (look ! 40 refl) $ forget ! 0 refl $ forget ! 11 refl $ forget ! 13 refl $ forget ! 15 refl $ forget ! 17 refl $ forget ! 19 refl $
+        forget ! 21 refl $ forget ! 24 refl $ forget ! 26 refl $ forget ! 28 refl $ forget ! 30 refl $ forget ! 32 refl $ forget ! 34 refl $ forget ! 36 refl $
+        forget ! 38 refl $ forget ! 40 refl $
+        move ! (40 ∷ 41 ∷ []) $ free1 ! $ move ! (38 ∷ 39 ∷ []) $ free1 ! $ move ! (36 ∷ 37 ∷ []) $ free1 ! $ move ! (34 ∷ 35 ∷ []) $ free1 ! $ move ! (32 ∷ 33 ∷ []) $ free1 ! $
+        move ! (30 ∷ 31 ∷ []) $ free1 ! $ move ! (28 ∷ 29 ∷ []) $ free1 ! $ move ! (26 ∷ 27 ∷ []) $ free1 ! $ move ! (24 ∷ 25 ∷ []) $ free1 ! $ move ! (0 ∷ 23 ∷ []) $ free1 ! $
+        move ! (20 ∷ 21 ∷ []) $ free1 ! $ move ! (18 ∷ 19 ∷ []) $ free1 ! $ move ! (16 ∷ 17 ∷ []) $ free1 ! $ move ! (14 ∷ 15 ∷ []) $ free1 ! $
+        move ! (12 ∷ 13 ∷ []) $ free1 ! $ move ! (10 ∷ 11 ∷ []) $ free1 ! $ free0 ! $
+        keep ! (0 ∷ 1 ∷ 2 ∷ 3 ∷ 4 ∷ 6 ∷ 7 ∷ 8 ∷ 9 ∷ []) $ by ! (exits r w (ws .1 .1 .1 .1 .1 .1 .1 .1 .0) e l))))))))))))))))))))))))))))))))
 
 module _ {M : Type 1} (𝓤 : URA M) (H : Heap 𝓤) (A : Atoms 𝓤) (W : Given 𝓤 H A) (mem : Memory → SProp 𝓤) (run : Routine → Fun 𝓤) (𝓣 : Tables 𝓤 H)
     (known-flatten : Triple 𝓤 (𝓣 .C #kiosk·flatten) (Flatten 𝓤 H A mem run)) (known-callee : Triple 𝓤 (𝓣 .C #kiosk·count-words) (Callee 𝓤 H A mem run)) where
   f-walks : Walks 𝓤 H A f.ended stayed (WpFn 𝓤 H (𝓣 .C) (𝓣 .Λ) code.function) (f.clauses 𝓤 H A mem run)
   f-walks = walked 𝓤 H A f.ended stayed (f.clauses 𝓤 H A mem run) (WpFn 𝓤 H (𝓣 .C) (𝓣 .Λ) code.function)
-      (λ κs. (uint-vals w32, (slice-vals, (LL.vals I.the-type I′.the-laws, (uint-vals w32, (slice-vals, (uint-vals w32, (slice-vals, tt))))))))
+      (λ κs. (uint-vals w32, (slice-vals, (LL.vals I.the-type I′.the-laws, (slice-vals, (uint-vals w32, (slice-vals, (uint-vals w32, (slice-vals, tt)))))))))
       (λ κs. (
         uint-tells w32,
         (
           shr-slice-tells (named 0) (κs .0) u64,
           (
             LL.tells I.the-type I′.the-laws,
-            (uint-tells w32, (shr-slice-tells (named 1) (κs .1 .0) T.the-row, (uint-tells w32, (mut-slice-tells (named 2) (κs .1 .1 .0) u64, tt)))),
+            (
+              shr-slice-tells (named 1) (κs .1 .0) u8,
+              (uint-tells w32, (shr-slice-tells (named 2) (κs .1 .1 .0) T.the-row, (uint-tells w32, (mut-slice-tells (named 3) (κs .1 .1 .1 .0) u64, tt)))),
+            ),
           ),
         ),
       ))
       (λ κs qs bounds a g are. via 𝓤 _ (fst∗ 𝓤 _ (emp 𝓤))
-      (walk 𝓤 H A W mem run (κs .0) (κs .1 .0) (κs .1 .1 .0) (qs .0) (qs .1 .0) (qs .1 .1 .0) (a .0) (a .1 .1 .1 .0) (a .1 .1 .1 .1 .1 .0) (are .0 .1)
-      (are .1 .1 .1 .0 .1) (are .1 .1 .1 .1 .1 .0 .1) (a .1 .1 .0) (are .1 .1 .0)
-      (a .1 .0 .ptr .0) (a .1 .0 .ptr .1) (a .1 .0 .name) (a .1 .0 .now) (a .1 .1 .1 .1 .0 .ptr .0) (a .1 .1 .1 .1 .0 .ptr .1) (a .1 .1 .1 .1 .0 .name) (a .1 .1 .1 .1 .0 .now)
-      (a .1 .1 .1 .1 .1 .1 .0 .ptr .0) (a .1 .1 .1 .1 .1 .1 .0 .ptr .1) (a .1 .1 .1 .1 .1 .1 .0 .name) (a .1 .1 .1 .1 .1 .1 .0 .now)
-      (are .1 .0 .0 .1) (are .1 .1 .1 .1 .0 .0 .1) (are .1 .1 .1 .1 .1 .1 .0 .0 .1)
+      (walk 𝓤 H A W mem run (κs .0) (κs .1 .0) (κs .1 .1 .0) (κs .1 .1 .1 .0) (qs .0) (qs .1 .0) (qs .1 .1 .0) (qs .1 .1 .1 .0)
+      (a .0) (a .1 .1 .1 .1 .0) (a .1 .1 .1 .1 .1 .1 .0) (are .0 .1) (are .1 .1 .1 .1 .0 .1) (are .1 .1 .1 .1 .1 .1 .0 .1) (a .1 .1 .0) (are .1 .1 .0)
+      (a .1 .0 .ptr .0) (a .1 .0 .ptr .1) (a .1 .0 .name) (a .1 .0 .now) (a .1 .1 .1 .0 .ptr .0) (a .1 .1 .1 .0 .ptr .1) (a .1 .1 .1 .0 .name) (a .1 .1 .1 .0 .now)
+      (a .1 .1 .1 .1 .1 .0 .ptr .0) (a .1 .1 .1 .1 .1 .0 .ptr .1) (a .1 .1 .1 .1 .1 .0 .name) (a .1 .1 .1 .1 .1 .0 .now)
+      (a .1 .1 .1 .1 .1 .1 .1 .0 .ptr .0) (a .1 .1 .1 .1 .1 .1 .1 .0 .ptr .1) (a .1 .1 .1 .1 .1 .1 .1 .0 .name) (a .1 .1 .1 .1 .1 .1 .1 .0 .now)
+      (are .1 .0 .0 .1) (are .1 .1 .1 .0 .0 .1) (are .1 .1 .1 .1 .1 .0 .0 .1) (are .1 .1 .1 .1 .1 .1 .1 .0 .0 .1)
       (𝓣 .C) (𝓣 .Λ) (fmOf 𝓤 H (W .laws) 𝓣) known-flatten known-callee))
 
   f-meets : Meets 𝓤 H A f.signature (WpFn 𝓤 H (𝓣 .C) (𝓣 .Λ) code.function) (f.spec 𝓤 H A mem run)
   f-meets = walk-meets 𝓤 H A f.ended stayed W (
-    goes-none 𝓤 H A W 3 (λ _. u32) yes (λ κs x f. refl),
+    goes-none 𝓤 H A W 4 (λ _. u32) yes (λ κs x f. refl),
     (
-      goes-none-slice 𝓤 H A W 3 (0 ∷ []) tt (plain (λ _. u64)) yes,
+      goes-none-slice 𝓤 H A W 4 (0 ∷ []) tt (plain (λ _. u64)) yes,
       (
-        goes-none 𝓤 H A W 3 (λ _. I.the-row) yes (λ κs x f. refl),
+        goes-none 𝓤 H A W 4 (λ _. I.the-row) yes (λ κs x f. refl),
         (
-          goes-none 𝓤 H A W 3 (λ _. u32) yes (λ κs x f. refl),
+          goes-none-slice 𝓤 H A W 4 (1 ∷ []) tt (plain (λ _. u8)) yes,
           (
-            goes-none-slice 𝓤 H A W 3 (1 ∷ []) tt (plain (λ _. T.the-row)) yes,
-            (goes-none 𝓤 H A W 3 (λ _. u32) yes (λ κs x f. refl), (goes-gave-slice 𝓤 H A W 3 2 tt (plain (λ _. u64)), tt)),
+            goes-none 𝓤 H A W 4 (λ _. u32) yes (λ κs x f. refl),
+            (
+              goes-none-slice 𝓤 H A W 4 (2 ∷ []) tt (plain (λ _. T.the-row)) yes,
+              (goes-none 𝓤 H A W 4 (λ _. u32) yes (λ κs x f. refl), (goes-gave-slice 𝓤 H A W 4 3 tt (plain (λ _. u64)), tt)),
+            ),
           ),
         ),
       ),

@@ -6,7 +6,7 @@ use Rattle.kiosk.proofs.Walking.{fst∗, Lft, GName, Share, Fml, ftrue, fsep, f
 use Rattle.kiosk.proofs.Walking.{Given, ‵, raw, _⊛_, some, later, ⋆, _$_, _∵_, !, qed, by, move, keep, use1, use2, drop, split, join, pick, given, learn, fsplit, fjoin}
 use Rattle.kiosk.proofs.Walking.{feqL, suffices, frame, await, done, agg, whole, sub, look-in, look, init, forget, stop, hop, fld, from, load, lit, addr, of-opd}
 use Rattle.kiosk.proofs.Walking.{and-then, no-more, assigns, land, returns, enter, alloc1, alloc0, params1, pass1, pass0, free1, free0, FmC, fmOf, WpFn-mono, owns}
-use Rattle.kiosk.proofs.Walking.{array-tells, array-typed, array-copy, Is, shows, uint-vals, uint-tells, uint-makes, u32, u64, RefT, sliceVal, ShrSlice, MutSlice, Room}
+use Rattle.kiosk.proofs.Walking.{array-tells, array-typed, array-copy, Is, shows, uint-vals, uint-tells, uint-makes, u8, u32, u64, RefT, sliceVal, ShrSlice, MutSlice, Room}
 use Rattle.kiosk.proofs.Walking.{finally, slice-vals, shr-slice-tells, mut-slice-tells, shr-slice-copy, plain, owned, peeks, heard, nothing, calls-at, ensured, lasts}
 use Rattle.kiosk.proofs.Walking.{Vals, onEntry, Meets, tripleOf, Contract, Triple, entered, cited, says, Stays, stay-none, stay-none-slice, gave-slice, walkOf}
 use Rattle.kiosk.proofs.Walking.{goes-none, goes-none-slice, goes-gave-slice, Walks, ends-at, walked, walk-meets, yes}
@@ -46,14 +46,18 @@ stayed = (
     stay-none-slice (0 ∷ []) tt (plain (λ _. u64)) yes,
     (
       stay-none (λ _. I.the-row) yes,
-      (stay-none (λ _. u32) yes, (stay-none (λ _. Six) yes, (stay-none (λ _. u32) yes, (gave-slice (1 ∷ []) tt (plain (λ _. u64)), tt)))),
+      (
+        stay-none-slice (1 ∷ []) tt (plain (λ _. u8)) yes,
+        (stay-none (λ _. u32) yes, (stay-none (λ _. Six) yes, (stay-none (λ _. u32) yes, (gave-slice (2 ∷ []) tt (plain (λ _. u64)), tt)))),
+      ),
     ),
   ),
 )
 
-module _ {M : Type 1} (𝓤 : URA M) (H : Heap 𝓤) (A : Atoms 𝓤) (W : Given 𝓤 H A) (mem : Memory → SProp 𝓤) (run : Routine → Fun 𝓤) (κ κ′ : Lft) (q q′ : Share)
+module _ {M : Type 1} (𝓤 : URA M) (H : Heap 𝓤) (A : Atoms 𝓤) (W : Given 𝓤 H A) (mem : Memory → SProp 𝓤) (run : Routine → Fun 𝓤) (κ κo κ′ : Lft) (q qo q′ : Share)
     (m n c : ℕ) (m-fits : m < 2 ^ 32) (n-fits : n < 2 ^ 32) (c-fits : c < 2 ^ 32) (d : Items) (d-is : Is I.the-row d (LL.vals I.the-type I′.the-laws d))
-    (b o : ℕ) (γ : GName) (ps : List ℕ) (gp : Room u64 (length ps)) (b′ o′ : ℕ) (γ′ : GName) (ks : List ℕ) (gk : Room u64 (length ks)) (xs : List Node)
+    (b o : ℕ) (γ : GName) (ps : List ℕ) (gp : Room u64 (length ps)) (bo oo : ℕ) (γo : GName) (os : List ℕ) (go : Room u8 (length os))
+    (b′ o′ : ℕ) (γ′ : GName) (ks : List ℕ) (gk : Room u64 (length ks)) (xs : List Node)
     (wt : Holds (hasTy sixTy (value xs)) × WT (value xs)) where
   abbrev u : Val
   u = sliceVal (b, o) (length ps)
@@ -62,161 +66,195 @@ module _ {M : Type 1} (𝓤 : URA M) (H : Heap 𝓤) (A : Atoms 𝓤) (W : Given
   abbrev i : Val
   i = LL.val I.the-type I′.the-laws d
 
+  -- the order, likewise
+  abbrev h : Val
+  h = sliceVal (bo, oo) (length os)
+
   abbrev t : Val
   t = sliceVal (b′, o′) (length ks)
 
   abbrev p : RefT (List ℕ)
   p = record { ptr = (b, o); name = γ; now = ps }
 
+  abbrev y : RefT (List ℕ)
+  y = record { ptr = (bo, oo); name = γo; now = os }
+
   abbrev k : RefT (List ℕ)
   k = record { ptr = (b′, o′); name = γ′; now = ks }
 
   abbrev Arg : Type 0
-  Arg = ℕ × (RefT (List ℕ) × (Items × (ℕ × (List Node × (ℕ × (RefT (List ℕ) × Unit {0}))))))
+  Arg = ℕ × (RefT (List ℕ) × (Items × (RefT (List ℕ) × (ℕ × (List Node × (ℕ × (RefT (List ℕ) × Unit {0})))))))
 
   abbrev a : Arg
-  a = (m, (p, (d, (n, (xs, (c, (k, tt)))))))
+  a = (m, (p, (d, (y, (n, (xs, (c, (k, tt))))))))
 
-  abbrev vals : Vals f.signature (κ, (κ′, tt))
-  vals = (vint w32 m ∷ [], (u ∷ [], (i ∷ [], (vint w32 n ∷ [], (value xs ∷ [], (vint w32 c ∷ [], (t ∷ [], tt)))))))
+  abbrev vals : Vals f.signature (κ, (κo, (κ′, tt)))
+  vals = (vint w32 m ∷ [], (u ∷ [], (i ∷ [], (h ∷ [], (vint w32 n ∷ [], (value xs ∷ [], (vint w32 c ∷ [], (t ∷ [], tt))))))))
 
   abbrev Post : Val → SProp 𝓤
-  Post = walkOf 𝓤 H A f.ended stayed (f.clauses 𝓤 H A mem run) .post (((κ, (κ′, tt)), (q, (q′, tt)), tt, a, vals), tt)
+  Post = walkOf 𝓤 H A f.ended stayed (f.clauses 𝓤 H A mem run) .post (((κ, (κo, (κ′, tt))), (q, (qo, (q′, tt))), tt, a, vals), tt)
 
   abbrev Pack : Fml
   Pack = ShrSlice (named 0) κ u64 .own p (u ∷ [])
 
+  abbrev Ord : Fml
+  Ord = ShrSlice (named 1) κo u8 .own y (h ∷ [])
+
   abbrev Work : Fml
-  Work = MutSlice (named 2) κ′ u64 .own k (t ∷ [])
+  Work = MutSlice (named 3) κ′ u64 .own k (t ∷ [])
 
   abbrev Says : Counted → Type 0
-  Says r = KioskCountPost (problemOf ps (setOf d)) m n (nodesIn xs) c (length ks) r
+  Says r = KioskCountPost (problemOf ps (setOf d) os) m n (nodesIn xs) c (length ks) r
 
   -- what the callee's triple binds outside, and that the caller has what it asks
   abbrev Passed : Type 0
-  Passed = ℕ × (RefT (List ℕ) × (Items × (ℕ × (RefT (List Node) × (ℕ × (RefT (List ℕ) × Unit {0}))))))
+  Passed = ℕ × (RefT (List ℕ) × (Items × (RefT (List ℕ) × (ℕ × (RefT (List Node) × (ℕ × (RefT (List ℕ) × Unit {0})))))))
 
   abbrev passed : ℕ → GName → Passed
-  passed s δ = (m, (p, (d, (n, (lentAs xs s δ, (c, (k, tt)))))))
+  passed s δ = (m, (p, (d, (y, (n, (lentAs xs s δ, (c, (k, tt))))))))
 
   abbrev to : ℕ → ℕ → GName → Callee 𝓤 H A mem run .Ghost
   to s ν δ = (
     (
-      (κ, (ν ∷ [], (κ′, tt))),
-      (q, (fullShare, (q′, tt))),
+      (κ, (κo, (ν ∷ [], (κ′, tt)))),
+      (q, (qo, (fullShare, (q′, tt)))),
       tt,
       passed s δ,
-      (vint w32 m ∷ [], (u ∷ [], (i ∷ [], (vint w32 n ∷ [], (sliceVal (s, 0) 6 ∷ [], (vint w32 c ∷ [], (t ∷ [], tt))))))),
+      (vint w32 m ∷ [], (u ∷ [], (i ∷ [], (h ∷ [], (vint w32 n ∷ [], (sliceVal (s, 0) 6 ∷ [], (vint w32 c ∷ [], (t ∷ [], tt)))))))),
     ),
     tt,
   )
 
   abbrev Asked : ℕ → ℕ → GName → Fml
   Asked s ν δ = fsep (u32 .own m (vint w32 m ∷ [])) (fsep Pack
-      (fsep (I.the-row .own d (i ∷ [])) (fsep (u32 .own n (vint w32 n ∷ [])) (fsep (Borrowed xs s ν δ) (fsep (u32 .own c (vint w32 c ∷ [])) (fsep Work ftrue))))))
+      (fsep (I.the-row .own d (i ∷ [])) (fsep Ord (fsep (u32 .own n (vint w32 n ∷ [])) (fsep (Borrowed xs s ν δ) (fsep (u32 .own c (vint w32 c ∷ [])) (fsep Work ftrue)))))))
 
-  asks : (s ν : ℕ) (δ : GName) → ent 𝓤 (⋆ 𝓤 H A ((‵ (flft κ q) ⊛ ‵ (flft (ν ∷ []) fullShare) ⊛ ‵ (flft κ′ q′) ⊛ ‵ ftrue) ∷ ‵ (Asked s ν δ) ∷ [])) (Callee 𝓤 H A mem run .pre (to s ν δ))
-  asks s ν δ = qed W ((‵ (flft κ q) ⊛ ‵ (flft (ν ∷ []) fullShare) ⊛ ‵ (flft κ′ q′) ⊛ ‵ ftrue) ∷ ‵ (Asked s ν δ) ∷ []) ∵ join ! $ frame ! $ done !
+  asks : (s ν : ℕ) (δ : GName) → ent 𝓤 (⋆ 𝓤 H A ((‵ (flft κ q) ⊛ ‵ (flft κo qo) ⊛ ‵ (flft (ν ∷ []) fullShare) ⊛ ‵ (flft κ′ q′) ⊛ ‵ ftrue) ∷ ‵ (Asked s ν δ) ∷ []))
+      (Callee 𝓤 H A mem run .pre (to s ν δ))
+  asks s ν δ = qed W ((‵ (flft κ q) ⊛ ‵ (flft κo qo) ⊛ ‵ (flft (ν ∷ []) fullShare) ⊛ ‵ (flft κ′ q′) ⊛ ‵ ftrue) ∷ ‵ (Asked s ν δ) ∷ []) ∵ join ! $ frame ! $ done !
 
   exits : (s : ℕ) (r : Counted) (w : Val) (ks′ : List ℕ) → Says r → length ks′ ≡ length ks
-      → ent 𝓤 (⋆ 𝓤 H A ((‵ (flft κ′ q′) ⊛ ‵ ftrue) ∷ ‵ (flft κ q) ∷ ‵ (S.the-row .own r (w ∷ [])) ∷ ‵ (finally u64 γ′ ks′) ∷ ‵ (Own xs s) ∷ ‵ Pack ∷ [])) (Post w)
+      → ent 𝓤 (⋆ 𝓤 H A ((‵ (flft κ′ q′) ⊛ ‵ ftrue) ∷ ‵ (flft κo qo) ∷ ‵ (flft κ q) ∷ ‵ (S.the-row .own r (w ∷ [])) ∷ ‵ (finally u64 γ′ ks′) ∷ ‵ (Own xs s) ∷ ‵ Ord ∷ ‵ Pack ∷ [])) (Post w)
   exits s r w ks′ e l =
-      qed W ((‵ (flft κ′ q′) ⊛ ‵ ftrue) ∷ ‵ (flft κ q) ∷ ‵ (S.the-row .own r (w ∷ [])) ∷ ‵ (finally u64 γ′ ks′) ∷ ‵ (Own xs s) ∷ ‵ Pack ∷ []) ∵
-      suffices ! _ (ends-at 𝓤 H A f.ended stayed (f.clauses 𝓤 H A mem run) W (((κ, (κ′, tt)), (q, (q′, tt)), tt, a, vals), tt) w r
-      (tt, (tt, (tt, (tt, (tt, (tt, (ks′, tt))))))) (tt, (tt, (tt, (tt, (tt, (tt, (l, tt)))))))) $ says ! e $
-      move ! (1 ∷ 0 ∷ []) $ join ! $ frame ! $ nothing ! $ move ! (2 ∷ 0 ∷ []) $ fjoin ! $ owned ! u32 (Is u32) (uint-makes 𝓤 H A W w32) c _ (refl, c-fits) $ fjoin ! $ move ! (2 ∷ 0 ∷ []) $ fjoin ! $
-      owned ! u32 (Is u32) (uint-makes 𝓤 H A W w32) n _ (refl, n-fits) $ fjoin ! $
+      qed W ((‵ (flft κ′ q′) ⊛ ‵ ftrue) ∷ ‵ (flft κo qo) ∷ ‵ (flft κ q) ∷ ‵ (S.the-row .own r (w ∷ [])) ∷ ‵ (finally u64 γ′ ks′) ∷ ‵ (Own xs s) ∷ ‵ Ord ∷ ‵ Pack ∷ []) ∵
+      suffices ! _ (ends-at 𝓤 H A f.ended stayed (f.clauses 𝓤 H A mem run) W (((κ, (κo, (κ′, tt))), (q, (qo, (q′, tt))), tt, a, vals), tt) w r
+      (tt, (tt, (tt, (tt, (tt, (tt, (tt, (ks′, tt)))))))) (tt, (tt, (tt, (tt, (tt, (tt, (tt, (l, tt))))))))) $ says ! e $
+      move ! (1 ∷ 0 ∷ []) $ join ! $ move ! (1 ∷ 0 ∷ []) $ join ! $ frame ! $ nothing ! $ move ! (2 ∷ 0 ∷ []) $ fjoin ! $
+      owned ! u32 (Is u32) (uint-makes 𝓤 H A W w32) c _ (refl, c-fits) $ fjoin ! $ move ! (2 ∷ 0 ∷ []) $ fjoin ! $
+      owned ! u32 (Is u32) (uint-makes 𝓤 H A W w32) n _ (refl, n-fits) $ fjoin ! $ move ! (2 ∷ 0 ∷ []) $ fjoin ! $
       owned ! I.the-row (Is I.the-row) (LL.makes I.the-type I′.the-plain 𝓤 H A) d _ d-is $ fjoin ! $
       move ! (2 ∷ 0 ∷ []) $ fjoin ! $ owned ! u32 (Is u32) (uint-makes 𝓤 H A W w32) m _ (refl, m-fits) $ fjoin ! $ done !
 
   module _ (C : Calls 𝓤 H) (Λ : Loops 𝓤 H) (fm : FmC 𝓤 H (W .laws) C) (known : Triple 𝓤 (C #kiosk·count) (Callee 𝓤 H A mem run)) where
-    walk : ent 𝓤 (onEntry 𝓤 H A f.signature (κ, (κ′, tt)) (q, (q′, tt)) a vals) (WpFn 𝓤 H C Λ code.function (vint w32 m ∷ u ∷ i ∷ vint w32 n ∷ value xs ∷ vint w32 c ∷ t ∷ []) Post)
+    walk : ent 𝓤 (onEntry 𝓤 H A f.signature (κ, (κo, (κ′, tt))) (q, (qo, (q′, tt))) a vals)
+        (WpFn 𝓤 H C Λ code.function (vint w32 m ∷ u ∷ i ∷ h ∷ vint w32 n ∷ value xs ∷ vint w32 c ∷ t ∷ []) Post)
     walk =
-        qed W ((‵ (flft κ q) ⊛ ‵ (flft κ′ q′) ⊛ ‵ ftrue) ∷ ‵ (owns (u32 ∷ ShrSlice (named 0) κ u64 ∷ I.the-row ∷ u32 ∷ Six ∷ u32 ∷ MutSlice (named 1) κ′ u64 ∷ []) a vals) ∷ []) ∵
-        enter ! C Λ code.function (vint w32 m ∷ u ∷ i ∷ vint w32 n ∷ value xs ∷ vint w32 c ∷ t ∷ []) _ $
+        qed W ((‵ (flft κ q) ⊛ ‵ (flft κo qo) ⊛ ‵ (flft κ′ q′) ⊛ ‵ ftrue) ∷
+        ‵ (owns (u32 ∷ ShrSlice (named 0) κ u64 ∷ I.the-row ∷ ShrSlice (named 1) κo u8 ∷ u32 ∷ Six ∷ u32 ∷ MutSlice (named 2) κ′ u64 ∷ []) a vals) ∷ []) ∵
+        enter ! C Λ code.function (vint w32 m ∷ u ∷ i ∷ h ∷ vint w32 n ∷ value xs ∷ vint w32 c ∷ t ∷ []) _ $
         alloc1 ! (λ l₀. alloc1 ! (λ l₁. alloc1 ! (λ l₂. alloc1 ! (λ l₃.
-        alloc1 ! (λ l₄. alloc1 ! (λ l₅. alloc1 ! (λ l₆. alloc1 ! (λ l₇. alloc1 ! (λ l₈. alloc1 ! (λ l₉. alloc1 ! (λ l₁₀. alloc1 ! (λ l₁₁. alloc1 ! (λ l₁₂. alloc0 ! $ params1 ! $
-        pass1 ! (init ! 22 refl (tt, record { fits = m-fits })) $ pass1 ! (init ! 20 refl (tt, (tt, (record { fits = gp .0 }, tt)))) $
-        pass1 ! (init ! 18 refl (LL.lawful I.the-type I′.the-laws 𝓤 H A W .typed d _ d-is .0)) $
+        alloc1 ! (λ l₄. alloc1 ! (λ l₅. alloc1 ! (λ l₆. alloc1 ! (λ l₇. alloc1 ! (λ l₈. alloc1 ! (λ l₉. alloc1 ! (λ l₁₀. alloc1 ! (λ l₁₁. alloc1 ! (λ l₁₂. alloc1 ! (λ l₁₃.
+        alloc0 ! $ params1 ! $
+        pass1 ! (init ! 24 refl (tt, record { fits = m-fits })) $ pass1 ! (init ! 22 refl (tt, (tt, (record { fits = gp .0 }, tt)))) $
+        pass1 ! (init ! 20 refl (LL.lawful I.the-type I′.the-laws 𝓤 H A W .typed d _ d-is .0)) $ pass1 ! (init ! 18 refl (tt, (tt, (record { fits = go .0 }, tt)))) $
         pass1 ! (init ! 16 refl (tt, record { fits = n-fits })) $ pass1 ! (init ! 14 refl wt) $
         pass1 ! (init ! 12 refl (tt, record { fits = c-fits })) $ pass1 ! (init ! 10 refl (tt, (tt, (record { fits = gk .0 }, tt)))) $ pass0 ! $
-        -- [_12; …; _11; …; _10; …; _9; …; _8; …; _7; …; _6; …; _5; …; _4; …; _3; …; _2; …; _1; …; room for _0; …; the tokens; what the parameters own]
+        -- [_13; …; _12; …; _11; …; _10; …; _9; …; _8; …; _7; …; _6; …; _5; …; _4; …; _3; …; _2; …; _1; …; room for _0; …; the tokens; what the parameters own]
         assigns ! (of-opd ! (load ! (from ! (stop !)) (look ! 14 refl))) (from ! (stop !)) (init ! 8 refl wt) $
         assigns ! (addr ! (from ! (stop !))) (from ! (stop !)) (init ! 6 refl (tt, tt)) $
         assigns ! (agg ! (and-then ! (load ! (from ! (stop !)) (look ! 6 refl)) (and-then ! (lit ! tt) (no-more !)))) (from ! (stop !)) (init ! 4 refl (tt, (tt, (record { fits = lit< tt }, tt)))) $
         assigns ! (addr ! (from ! (fld ! refl (hop ! (look-in ! 10 (sub ! 0 refl (whole !))) (stop !))))) (from ! (stop !)) (init ! 2 refl (tt, tt)) $
         assigns ! (agg ! (and-then ! (load ! (from ! (stop !)) (look ! 2 refl)) (and-then ! (load ! (from ! (fld ! refl (stop !))) (look-in ! 10 (sub ! 1 refl (whole !)))) (no-more !))))
         (from ! (stop !)) (init ! 0 refl (tt, (tt, (record { fits = gk .0 }, tt)))) $
-        move ! (27 ∷ []) $ fsplit ! $ drop ! $ fsplit ! $ use1 W (‵ Pack ⊛ ‵ Pack) (shr-slice-copy 𝓤 H A W (named 0) κ u64 .twice p (u ∷ [])) $ split ! $
-        move ! (2 ∷ []) $ fsplit ! $ drop ! $ fsplit ! $ drop ! $ fsplit ! $
-        use1 W (‵ (Own xs l₈) ⊛ ‵ (Own xs l₈)) (array-copy 𝓤 H A W T.the-row ((LL.copy T.the-type T′.the-copy) 𝓤 H A W) 6 .twice xs (value xs ∷ [])) $ split ! $
-        move ! (2 ∷ []) $ fsplit ! $ drop ! $ fsplit ! $ move ! (1 ∷ []) $ drop ! $ move ! (31 ∷ []) $ split ! $ move ! (1 ∷ []) $ split ! $ move ! (1 ∷ []) $ drop ! $
-        -- [the work's token; the packages' token; what work owns; what list owns, twice; what packages owns, twice; _12; …]: the slot's array is lent for a lifetime ν of the call
-        move ! (15 ∷ 3 ∷ []) $ use2 W (later (some (λ (ν : ℕ). some (λ (δ : GName). given (length xs ≡ 6) (‵ (flft (ν ∷ []) fullShare) ⊛ ‵ (Borrowed xs l₈ ν δ) ⊛ ‵ (Lent xs l₈ ν))))))
-        (lends xs l₈ 𝓤 H A W) $ await ! tt $
+        move ! (29 ∷ []) $ fsplit ! $ drop ! $ fsplit ! $ use1 W (‵ Pack ⊛ ‵ Pack) (shr-slice-copy 𝓤 H A W (named 0) κ u64 .twice p (u ∷ [])) $ split ! $
+        move ! (2 ∷ []) $ fsplit ! $ drop ! $ fsplit ! $ use1 W (‵ Ord ⊛ ‵ Ord) (shr-slice-copy 𝓤 H A W (named 1) κo u8 .twice y (h ∷ [])) $ split ! $
+        move ! (2 ∷ []) $ fsplit ! $ drop ! $ fsplit ! $
+        use1 W (‵ (Own xs l₉) ⊛ ‵ (Own xs l₉)) (array-copy 𝓤 H A W T.the-row ((LL.copy T.the-type T′.the-copy) 𝓤 H A W) 6 .twice xs (value xs ∷ [])) $ split ! $
+        move ! (2 ∷ []) $ fsplit ! $ drop ! $ fsplit ! $ move ! (1 ∷ []) $ drop ! $ move ! (35 ∷ []) $ split ! $ move ! (1 ∷ []) $ split ! $ move ! (1 ∷ []) $ split ! $ move ! (1 ∷ []) $
+        drop ! $
+        -- [the work's token; the order's token; the packages' token; what work owns; what list owns, twice; what order owns, twice; what packages owns, twice; _13; …]:
+        -- the slot's array is lent for a lifetime ν of the call
+        move ! (18 ∷ 4 ∷ []) $ use2 W (later (some (λ (ν : ℕ). some (λ (δ : GName). given (length xs ≡ 6) (‵ (flft (ν ∷ []) fullShare) ⊛ ‵ (Borrowed xs l₉ ν δ) ⊛ ‵ (Lent xs l₉ ν))))))
+        (lends xs l₉ 𝓤 H A W) $ await ! tt $
         pick ! (λ ν. pick ! (λ δ. learn ! (λ six. split ! $ move ! (1 ∷ []) $ split ! $
-        -- [the slice; the lender's part; the call's token; the work's token; the packages' token; what work owns; what list owns; what packages owns, twice; _12; …]
-        nothing ! $ move ! (6 ∷ 0 ∷ []) $ fjoin ! $ owned ! u32 (Is u32) (uint-makes 𝓤 H A W w32) c _ (refl, c-fits) $ fjoin ! $ move ! (1 ∷ 0 ∷ []) $
+        -- [the slice; the lender's part; the call's token; the work's token; the order's token; the packages' token; what work owns; what list owns; what order owns, twice;
+        -- what packages owns, twice; _13; …]
+        nothing ! $ move ! (7 ∷ 0 ∷ []) $ fjoin ! $ owned ! u32 (Is u32) (uint-makes 𝓤 H A W w32) c _ (refl, c-fits) $ fjoin ! $ move ! (1 ∷ 0 ∷ []) $
         fjoin ! $ owned ! u32 (Is u32) (uint-makes 𝓤 H A W w32) n _ (refl, n-fits) $ fjoin ! $
-        owned ! I.the-row (Is I.the-row) (LL.makes I.the-type I′.the-plain 𝓤 H A) d _ d-is $ fjoin ! $ move ! (6 ∷ 0 ∷ []) $ fjoin ! $
+        move ! (7 ∷ 0 ∷ []) $ fjoin ! $ owned ! I.the-row (Is I.the-row) (LL.makes I.the-type I′.the-plain 𝓤 H A) d _ d-is $ fjoin ! $ move ! (8 ∷ 0 ∷ []) $ fjoin ! $
         owned ! u32 (Is u32) (uint-makes 𝓤 H A W w32) m _ (refl, m-fits) $ fjoin ! $
-        nothing ! $ move ! (4 ∷ 0 ∷ []) $ join ! $ move ! (3 ∷ 0 ∷ []) $ join ! $ move ! (3 ∷ 0 ∷ []) $ join ! $ use2 W (raw (Callee 𝓤 H A mem run .pre (to l₈ ν δ))) (asks l₈ ν δ) $
-        -- [what the callee asks; the lender's part; what list owns; what packages owns; _12; …]
-        calls-at ! fm (Callee 𝓤 H A mem run) known (to l₈ ν δ) (and-then ! (load ! (from ! (stop !)) (look ! 25 refl))
-        (and-then ! (load ! (from ! (stop !)) (look ! 23 refl)) (and-then ! (load ! (from ! (stop !)) (look ! 21 refl)) (and-then ! (load ! (from ! (stop !)) (look ! 19 refl))
-        (and-then ! (load ! (from ! (stop !)) (look ! 8 refl)) (and-then ! (load ! (from ! (stop !)) (look ! 15 refl)) (and-then ! (load ! (from ! (stop !)) (look ! 4 refl)) (no-more !)))))))) (λ w.
-        use1 W (later (some (λ (r : Counted). ((‵ (flft κ q) ⊛ ‵ (flft (ν ∷ []) fullShare) ⊛ ‵ (flft κ′ q′) ⊛ ‵ ftrue) ⊛ ‵ (S.the-row .own r (w ∷ [])))
-        ⊛ raw (ensured 𝓤 H A callee.ended (callee.clauses 𝓤 H A mem run) (κ, (ν ∷ [], (κ′, tt))) (passed l₈ δ) tt r)))) (id⊢ 𝓤 _) $ await ! tt $ pick ! (λ r.
-        split ! $ move ! (1 ∷ []) $ use1 W (some (λ (ws : Unit {0} × (Unit {0} × (Unit {0} × (Unit {0} × (Unit {0} × (Unit {0} × (List ℕ × Unit {0}))))))). ‵ (lasts callee.ended
-        (κ, (ν ∷ [], (κ′, tt))) (passed l₈ δ) ws) ⊛ raw (fact 𝓤 (Says r)))) (id⊢ 𝓤 _) $ pick ! (λ ws.
-        split ! $ move ! (1 ∷ []) $ heard ! (Says r) (λ e. fsplit ! $ drop ! $ fsplit ! $ drop ! $ fsplit ! $ drop ! $ fsplit ! $ drop ! $ fsplit ! $ drop ! $ fsplit ! $
+        nothing ! $ move ! (4 ∷ 0 ∷ []) $ join ! $ move ! (3 ∷ 0 ∷ []) $ join ! $ move ! (3 ∷ 0 ∷ []) $ join ! $ move ! (3 ∷ 0 ∷ []) $ join ! $
+        use2 W (raw (Callee 𝓤 H A mem run .pre (to l₉ ν δ))) (asks l₉ ν δ) $
+        -- [what the callee asks; the lender's part; what list owns; what order owns; what packages owns; _13; …]
+        calls-at ! fm (Callee 𝓤 H A mem run) known (to l₉ ν δ) (and-then ! (load ! (from ! (stop !)) (look ! 28 refl))
+        (and-then ! (load ! (from ! (stop !)) (look ! 26 refl)) (and-then ! (load ! (from ! (stop !)) (look ! 24 refl)) (and-then ! (load ! (from ! (stop !)) (look ! 22 refl))
+        (and-then ! (load ! (from ! (stop !)) (look ! 20 refl))
+        (and-then ! (load ! (from ! (stop !)) (look ! 9 refl)) (and-then ! (load ! (from ! (stop !)) (look ! 16 refl)) (and-then ! (load ! (from ! (stop !)) (look ! 5 refl)) (no-more !))))))))) (λ w.
+        use1 W (later (some (λ (r : Counted). ((‵ (flft κ q) ⊛ ‵ (flft κo qo) ⊛ ‵ (flft (ν ∷ []) fullShare) ⊛ ‵ (flft κ′ q′) ⊛ ‵ ftrue) ⊛ ‵ (S.the-row .own r (w ∷ [])))
+        ⊛ raw (ensured 𝓤 H A callee.ended (callee.clauses 𝓤 H A mem run) (κ, (κo, (ν ∷ [], (κ′, tt)))) (passed l₉ δ) tt r)))) (id⊢ 𝓤 _) $ await ! tt $ pick ! (λ r.
+        split ! $ move ! (1 ∷ []) $ use1 W (some (λ (ws : Unit {0} × (Unit {0} × (Unit {0} × (Unit {0} × (Unit {0} × (Unit {0} × (Unit {0} × (List ℕ × Unit {0})))))))). ‵ (lasts callee.ended
+        (κ, (κo, (ν ∷ [], (κ′, tt)))) (passed l₉ δ) ws) ⊛ raw (fact 𝓤 (Says r)))) (id⊢ 𝓤 _) $ pick ! (λ ws.
+        split ! $ move ! (1 ∷ []) $ heard ! (Says r) (λ e. fsplit ! $ drop ! $ fsplit ! $ drop ! $ fsplit ! $ drop ! $ fsplit ! $ drop ! $ fsplit ! $ drop ! $ fsplit ! $ drop ! $ fsplit ! $
         drop ! $ fsplit ! $ fsplit ! $ move ! (1 ∷ []) $ feqL ! (λ l.
         move ! (2 ∷ []) $ split ! $ move ! (1 ∷ []) $ peeks ! S.the-row (Is S.the-row) (shows 𝓤 H A S.the-row) r (w ∷ []) (λ is.
-        -- [the result; the tokens; the last work; …; the lender's part; what list owns; what packages owns; _12; …]
-        land ! (from ! (stop !)) (init ! 30 refl (EL.lawful S.the-type S′.the-laws 𝓤 H A W tt .typed r _ is .0)) $
-        move ! (1 ∷ []) $ split ! $ move ! (1 ∷ []) $ split ! $ move ! (0 ∷ 6 ∷ []) $ use2 W (later (‵ (Cell xs l₈))) (backs xs l₈ 𝓤 H A W ν six) $ await ! tt $
-        -- [_8; the work's token; the packages' token; the result; the last work; …; what list owns; what packages owns; _12; …; _9; …; (_8's right to be freed); _7; …; _0; …]
-        returns ! (look ! 31 refl) $ forget ! 0 refl $ forget ! 8 refl $ forget ! 10 refl $ forget ! 12 refl $ forget ! 14 refl $ forget ! 17 refl $
-        forget ! 19 refl $ forget ! 21 refl $ forget ! 23 refl $ forget ! 25 refl $ forget ! 27 refl $ forget ! 29 refl $ forget ! 31 refl $
-        move ! (31 ∷ 32 ∷ []) $ free1 ! $ move ! (29 ∷ 30 ∷ []) $ free1 ! $ move ! (27 ∷ 28 ∷ []) $ free1 ! $ move ! (25 ∷ 26 ∷ []) $ free1 ! $ move ! (23 ∷ 24 ∷ []) $ free1 ! $
-        move ! (21 ∷ 22 ∷ []) $ free1 ! $ move ! (19 ∷ 20 ∷ []) $ free1 ! $ move ! (17 ∷ 18 ∷ []) $ free1 ! $ move ! (0 ∷ 16 ∷ []) $ free1 ! $
-        move ! (13 ∷ 14 ∷ []) $ free1 ! $ move ! (11 ∷ 12 ∷ []) $ free1 ! $ move ! (9 ∷ 10 ∷ []) $ free1 ! $ move ! (7 ∷ 8 ∷ []) $ free1 ! $ free0 ! $
-        keep ! (0 ∷ 1 ∷ 2 ∷ 3 ∷ 5 ∷ 6 ∷ []) $ by ! (exits l₈ r w (ws .1 .1 .1 .1 .1 .1 .0) e l)))))))))))))))))))))))
+        -- [the result; the tokens; the last work; …; the lender's part; what list owns; what order owns; what packages owns; _13; …]
+        land ! (from ! (stop !)) (init ! 33 refl (EL.lawful S.the-type S′.the-laws 𝓤 H A W tt .typed r _ is .0)) $
+        move ! (1 ∷ []) $ split ! $ move ! (1 ∷ []) $ split ! $ move ! (1 ∷ []) $ split ! $ move ! (0 ∷ 7 ∷ []) $ use2 W (later (‵ (Cell xs l₉))) (backs xs l₉ 𝓤 H A W ν six) $ await ! tt $
+        -- [_9; the work's token; the order's token; the packages' token; the result; the last work; …; what list owns; what order owns; what packages owns; _13; …; _10; …;
+        -- (_9's right to be freed); _8; …; _0; …]
+        returns ! (look ! 35 refl) $ forget ! 0 refl $ forget ! 10 refl $ forget ! 12 refl $ forget ! 14 refl $ forget ! 16 refl $ forget ! 19 refl $ forget ! 21 refl $
+        forget ! 23 refl $ forget ! 25 refl $ forget ! 27 refl $ forget ! 29 refl $ forget ! 31 refl $ forget ! 33 refl $ forget ! 35 refl $
+        move ! (35 ∷ 36 ∷ []) $ free1 ! $ move ! (33 ∷ 34 ∷ []) $ free1 ! $ move ! (31 ∷ 32 ∷ []) $ free1 ! $ move ! (29 ∷ 30 ∷ []) $ free1 ! $ move ! (27 ∷ 28 ∷ []) $ free1 ! $
+        move ! (25 ∷ 26 ∷ []) $ free1 ! $ move ! (23 ∷ 24 ∷ []) $ free1 ! $ move ! (21 ∷ 22 ∷ []) $ free1 ! $ move ! (19 ∷ 20 ∷ []) $ free1 ! $ move ! (0 ∷ 18 ∷ []) $ free1 ! $
+        move ! (15 ∷ 16 ∷ []) $ free1 ! $ move ! (13 ∷ 14 ∷ []) $ free1 ! $ move ! (11 ∷ 12 ∷ []) $ free1 ! $ move ! (9 ∷ 10 ∷ []) $ free1 ! $ free0 ! $
+        keep ! (0 ∷ 1 ∷ 2 ∷ 3 ∷ 4 ∷ 6 ∷ 7 ∷ 8 ∷ []) $ by ! (exits l₉ r w (ws .1 .1 .1 .1 .1 .1 .1 .0) e l))))))))))))))))))))))))
 
 module _ {M : Type 1} (𝓤 : URA M) (H : Heap 𝓤) (A : Atoms 𝓤) (W : Given 𝓤 H A) (mem : Memory → SProp 𝓤) (run : Routine → Fun 𝓤) (𝓣 : Tables 𝓤 H)
     (known : Triple 𝓤 (𝓣 .C #kiosk·count) (Callee 𝓤 H A mem run)) where
   f-walks : Walks 𝓤 H A f.ended stayed (WpFn 𝓤 H (𝓣 .C) (𝓣 .Λ) code.function) (f.clauses 𝓤 H A mem run)
   f-walks = walked 𝓤 H A f.ended stayed (f.clauses 𝓤 H A mem run) (WpFn 𝓤 H (𝓣 .C) (𝓣 .Λ) code.function)
-      (λ κs. (uint-vals w32, (slice-vals, (LL.vals I.the-type I′.the-laws, (uint-vals w32, (valsOf, (uint-vals w32, (slice-vals, tt))))))))
+      (λ κs. (uint-vals w32, (slice-vals, (LL.vals I.the-type I′.the-laws, (slice-vals, (uint-vals w32, (valsOf, (uint-vals w32, (slice-vals, tt)))))))))
       (λ κs. (
         uint-tells w32,
         (
           shr-slice-tells (named 0) (κs .0) u64,
           (
             LL.tells I.the-type I′.the-laws,
-            (uint-tells w32, (array-tells T.the-row (LL.vals T.the-type T′.the-laws) (LL.tells T.the-type T′.the-laws) 6, (uint-tells w32, (mut-slice-tells (named 1) (κs .1 .0) u64, tt)))),
+            (
+              shr-slice-tells (named 1) (κs .1 .0) u8,
+              (
+                uint-tells w32,
+                (array-tells T.the-row (LL.vals T.the-type T′.the-laws) (LL.tells T.the-type T′.the-laws) 6, (uint-tells w32, (mut-slice-tells (named 2) (κs .1 .1 .0) u64, tt))),
+              ),
+            ),
           ),
         ),
       ))
       (λ κs qs bounds a g are. via 𝓤 _ (fst∗ 𝓤 _ (emp 𝓤))
-      (walk 𝓤 H A W mem run (κs .0) (κs .1 .0) (qs .0) (qs .1 .0) (a .0) (a .1 .1 .1 .0) (a .1 .1 .1 .1 .1 .0) (are .0 .1) (are .1 .1 .1 .0 .1) (are .1 .1 .1 .1 .1 .0 .1)
-      (a .1 .1 .0) (are .1 .1 .0)
-      (a .1 .0 .ptr .0) (a .1 .0 .ptr .1) (a .1 .0 .name) (a .1 .0 .now) (are .1 .0 .0 .1) (a .1 .1 .1 .1 .1 .1 .0 .ptr .0) (a .1 .1 .1 .1 .1 .1 .0 .ptr .1)
-      (a .1 .1 .1 .1 .1 .1 .0 .name) (a .1 .1 .1 .1 .1 .1 .0 .now) (are .1 .1 .1 .1 .1 .1 .0 .0 .1)
-      (a .1 .1 .1 .1 .0) (array-typed T.the-row (LL.lawful T.the-type T′.the-laws 𝓤 H A W .typed) 6 (a .1 .1 .1 .1 .0) _ (are .1 .1 .1 .1 .0) .0) (𝓣 .C) (𝓣 .Λ) (fmOf 𝓤 H (W .laws) 𝓣) known))
+      (walk 𝓤 H A W mem run (κs .0) (κs .1 .0) (κs .1 .1 .0) (qs .0) (qs .1 .0) (qs .1 .1 .0) (a .0) (a .1 .1 .1 .1 .0) (a .1 .1 .1 .1 .1 .1 .0)
+      (are .0 .1) (are .1 .1 .1 .1 .0 .1) (are .1 .1 .1 .1 .1 .1 .0 .1) (a .1 .1 .0) (are .1 .1 .0)
+      (a .1 .0 .ptr .0) (a .1 .0 .ptr .1) (a .1 .0 .name) (a .1 .0 .now) (are .1 .0 .0 .1)
+      (a .1 .1 .1 .0 .ptr .0) (a .1 .1 .1 .0 .ptr .1) (a .1 .1 .1 .0 .name) (a .1 .1 .1 .0 .now) (are .1 .1 .1 .0 .0 .1)
+      (a .1 .1 .1 .1 .1 .1 .1 .0 .ptr .0) (a .1 .1 .1 .1 .1 .1 .1 .0 .ptr .1) (a .1 .1 .1 .1 .1 .1 .1 .0 .name) (a .1 .1 .1 .1 .1 .1 .1 .0 .now)
+      (are .1 .1 .1 .1 .1 .1 .1 .0 .0 .1)
+      (a .1 .1 .1 .1 .1 .0) (array-typed T.the-row (LL.lawful T.the-type T′.the-laws 𝓤 H A W .typed) 6 (a .1 .1 .1 .1 .1 .0) _ (are .1 .1 .1 .1 .1 .0) .0)
+      (𝓣 .C) (𝓣 .Λ) (fmOf 𝓤 H (W .laws) 𝓣) known))
 
   f-meets : Meets 𝓤 H A f.signature (WpFn 𝓤 H (𝓣 .C) (𝓣 .Λ) code.function) (f.spec 𝓤 H A mem run)
   f-meets = walk-meets 𝓤 H A f.ended stayed W (
-    goes-none 𝓤 H A W 2 (λ _. u32) yes (λ κs x f. refl),
+    goes-none 𝓤 H A W 3 (λ _. u32) yes (λ κs x f. refl),
     (
-      goes-none-slice 𝓤 H A W 2 (0 ∷ []) tt (plain (λ _. u64)) yes,
+      goes-none-slice 𝓤 H A W 3 (0 ∷ []) tt (plain (λ _. u64)) yes,
       (
-        goes-none 𝓤 H A W 2 (λ _. I.the-row) yes (λ κs x f. refl),
+        goes-none 𝓤 H A W 3 (λ _. I.the-row) yes (λ κs x f. refl),
         (
-          goes-none 𝓤 H A W 2 (λ _. u32) yes (λ κs x f. refl),
+          goes-none-slice 𝓤 H A W 3 (1 ∷ []) tt (plain (λ _. u8)) yes,
           (
-            goes-none 𝓤 H A W 2 (λ _. Six) yes (λ κs x f. refl),
-            (goes-none 𝓤 H A W 2 (λ _. u32) yes (λ κs x f. refl), (goes-gave-slice 𝓤 H A W 2 1 tt (plain (λ _. u64)), tt)),
+            goes-none 𝓤 H A W 3 (λ _. u32) yes (λ κs x f. refl),
+            (
+              goes-none 𝓤 H A W 3 (λ _. Six) yes (λ κs x f. refl),
+              (goes-none 𝓤 H A W 3 (λ _. u32) yes (λ κs x f. refl), (goes-gave-slice 𝓤 H A W 3 2 tt (plain (λ _. u64)), tt)),
+            ),
           ),
         ),
       ),
