@@ -1,7 +1,7 @@
 # What a caller from C needs. The gate is .ci/run; nothing here is part of it. `rt`, a C compiler, for test-c one of C++ and, for test-rust
 # and bench, cargo are on the path.
 PREFIX ?= /usr/local
-VERSION = 0.3.0
+VERSION = 0.4.0
 CC ?= cc
 CXX ?= c++
 CFLAGS ?= -O2
@@ -54,7 +54,7 @@ stack: $(build)/stack
 test-rust: $(archive)
 	MOGEDORN_LIB='$(abspath target/staticlib)' $(CARGO) run --quiet --release --manifest-path tests/rust/Cargo.toml --target-dir target/tests-rust -- $(SEED) $(CALLS)
 
-# The benchmarks. OLD is an earlier archive to stand beside this one, whose calls take no optional items; its functions are set to multiples of 64 bytes too. Rust's
+# The benchmarks. OLD is an earlier archive to stand beside this one, whose calls take no order; its functions are set to multiples of 64 bytes too. Rust's
 # loops start at multiples of 32, where they were fastest.
 bench_run = MOGEDORN_LIB='$(abspath target/staticlib)' $(if $(OLD),MOGEDORN_OLD='$(abspath $(OLD))') RUSTFLAGS='-C llvm-args=-align-loops=32' $(CARGO) run --quiet --release --manifest-path bench/Cargo.toml --target-dir target/bench
 

@@ -1,5 +1,5 @@
 /* A week at the pool: two schools and two slots, six packages, as document 01's example has them. Builds the bids file, reads it, covers all items, and
-   asks what the desk would ask; then once more with a slot that may go to the public. `make example` builds and runs it. */
+   asks what the desk would ask; then once more with a slot that may go to the public, and once with the slots first. `make example` builds and runs it. */
 #include <stdint.h>
 #include <stdio.h>
 #include <stdlib.h>
@@ -11,7 +11,7 @@ enum { NODES = 1800, PLACES = 1801, PAGE = 64 };
 
 enum { TABLE = 1 + 3 * NODES, WORK = 4 * PLACES };
 
-static uint32_t table[TABLE], public_table[TABLE]; /* all zeros: empty tables */
+static uint32_t table[TABLE], public_table[TABLE], ordered_table[TABLE]; /* all zeros: empty tables */
 static uint64_t work[WORK];
 static uint64_t packages[3 * 512]; /* three words a package */
 static uint16_t costs[512];
@@ -113,13 +113,26 @@ static void open_swimming(const mogedorn_week *school_week, const uint64_t every
     printf("all items optional: refused %u\n", (unsigned)mogedorn_week_check(&week, public_table, TABLE));
 }
 
+/* The same bids in an order of the items that has the slots before the schools. Another order, so another table: the old one is not sound under it. */
+static void slots_first(const mogedorn_week *school_week, const uint64_t everything[3]) {
+    mogedorn_week week = *school_week;
+    static const uint8_t order[] = {2, 3, 0, 1};
+    week.order = order, week.order_len = sizeof order;
+    uint32_t all = answer("cover with the slots first", mogedorn_week_cover(&week, ordered_table, TABLE, everything, 1000000, work, WORK));
+    list(&week, ordered_table, all); /* 3 1 is written by its slots: package 3 has slot 0, package 1 slot 1 */
+    printf("the table of the other order: refused %u\n", (unsigned)mogedorn_week_check(&week, table, TABLE));
+    /* each item just once */
+    week.order_len = 3;
+    printf("an order without item 1: refused %u\n", (unsigned)mogedorn_week_check(&week, ordered_table, TABLE));
+}
+
 int main(void) {
     uint8_t file[256];
     size_t length = make_file(file);
     bids = mogedorn_read_bids(file, length, packages, 3 * 512, costs, 512);
     if (bids.refusal) stop("read", bids.refusal);
     printf("%u schools, %u slots, %u packages\n", (unsigned)bids.schools, (unsigned)bids.slots, (unsigned)bids.packages);
-    /* the fields that are not named are zeros: no slot is optional */
+    /* the fields that are not named are zeros: no slot is optional, and the order is that of the items' numbers */
     const mogedorn_week week = {.m = bids.schools + bids.slots, .packages = packages, .packages_len = 3 * bids.packages};
     uint64_t everything[3];
     mogedorn_week_all(&week, everything);
@@ -134,6 +147,7 @@ int main(void) {
     with_and_without(&week, all);
     pages(&week, all);
     open_swimming(&week, everything);
+    slots_first(&week, everything);
     return 0;
 }
 
@@ -169,4 +183,11 @@ cover with slot 1 optional: answer 7, 9 steps, 6 nodes made
   packages: 1 3
   packages: 4 5
 all items optional: refused 30
+cover with the slots first: answer 7, 7 steps, 6 nodes made
+  3 timetables
+  packages: 0 2
+  packages: 3 1
+  packages: 4 5
+the table of the other order: refused 4
+an order without item 1: refused 34
 */

@@ -18,17 +18,27 @@
  *
  * Optional items. A slot that no school takes may go to the public: every call is lent a set of optional items, and all other items are compulsory. A timetable
  * covers an item set D when its packages lie inside D, each compulsory item of D is in just one of them and each optional item of D in at most one. With an
- * empty optional set that is an exact cover. Precedence: package p comes before q when p's lowest compulsory item is lower, or these are equal and p is lower.
- * So the optional set also decides in which order packages are written and timetables listed, and whether a table is sound. Lend one optional set to all calls
- * on a table, as one list of packages: what is promised of a history of calls is promised of such.
+ * empty optional set that is an exact cover.
  *
- * Most callers will keep m, packages and optional set in one struct and call the inline functions at the end, mogedorn_week_cover and so on.
+ * Order. Every call is lent an order of the items, a list of each item below M just once, and what is early in it is tried first: the diagram is small where
+ * contested items come early. The lead of a package is its earliest compulsory item in the lent order. Precedence: package p comes before q when p's lead is
+ * earlier, or these are equal and p is lower. Which timetables cover a set does not depend on the order, and neither does a set's place in cover's memo; steps,
+ * nodes, the order in which packages are written and timetables listed, and every place in the listing do. In the order 0 .. M - 1 earliest is lowest.
+ *
+ * Optional set and order both decide whether a table is sound. Lend one optional set and one order to all calls on a table, as one list of packages: what is
+ * promised of a history of calls is promised of such. A table made under another order is refused (4) where its labels no longer ascend in precedence; where
+ * they still do it is sound under this order too.
+ *
+ * Most callers will keep m, packages, optional set and order in one struct and call the inline functions at the end, mogedorn_week_cover and so on: there a
+ * null order is 0 .. M - 1. To an entry itself pass the order explicitly, whatever it is: its pointer is not null, and its length is M.
  *
  * The arguments that most entries share, by document 01's names:
  *   m                        M, the number of items: 0 to 192
  *   packages, packages_len   the N packages, 0 to 512, as item sets of three words each, and none is empty. packages_len counts the words: N is
  *                            packages_len / 3 rounded down, and one or two words left over mean nothing
  *   optional                 the optional items, three words: items below M (29), and each package has an item that is not among them (30)
+ *   order, order_len         the order of the items: each item below M just once, one byte each, so that order_len is M; any other list is refused (34), and
+ *                            for M 0 any but the empty one
  *   table, table_len         the node table, all zeros at first; c nodes need 1 + 3 c words, and no more than 65534 nodes count. Keep it as the calls
  *                            leave it. Every call checks the whole table first and reads every word: lend no longer a table than is needed
  *   work, work_len           working words: their contents mean nothing before and after a call. With too few the call is refused (8)
@@ -62,6 +72,7 @@ enum {
     MOGEDORN_STRAY = 2,            /* an empty package, or an item of M or above in one */
     MOGEDORN_STRAY_OPTIONAL = 29,  /* an optional item of M or above */
     MOGEDORN_ALL_OPTIONAL = 30,    /* a package without a compulsory item */
+    MOGEDORN_DISORDERED = 34,      /* the order is not each item below M just once */
     MOGEDORN_COST_LIST = 3,        /* its length is not N */
     MOGEDORN_SPOILT = 4,           /* the table is not sound */
     MOGEDORN_UNKNOWN_ANSWER = 5,   /* an operand that the table does not know */
@@ -116,20 +127,21 @@ typedef struct {
     uint64_t packages; /* N */
 } mogedorn_bids;
 
-/* Whether the table is sound: 0, or the refusal 1, 2, 29, 30 or 4. Stack: 265 KB. */
-uint32_t mogedorn_check(uint32_t m, const uint64_t *packages, size_t packages_len, const uint64_t optional[3], const uint32_t *table, size_t table_len);
+/* Whether the table is sound: 0, or the refusal 1, 2, 29, 30, 34 or 4. Stack: 266 KB. */
+uint32_t mogedorn_check(uint32_t m, const uint64_t *packages, size_t packages_len, const uint64_t optional[3], const uint8_t *order, size_t order_len,
+                        const uint32_t *table, size_t table_len);
 
 /* Writes the set of all items below m to d, what cover of a whole week takes; of an m above 192 the set of 192 items. Stack: 1 KB. */
 void mogedorn_all_items(uint32_t m, uint64_t d[3]);
 
 /* The timetables that cover the item set d; where d has no compulsory item that is the empty one alone (answer 1). At most `limit` steps. Search tries the
-   packages of the lowest compulsory item left, and the memo goes by all items left. Four working words are one place of it, three for a set and one for its
-   answer: at least 4, P is work_len / 4 rounded down, and the more places the fewer steps. Lend an odd, best a prime number of places: a set's place is its
-   value as a 192-bit number modulo P. Refusals 1, 2, 29, 30, 4, 7, 8, 9, 10. Stack: 338 KB. */
-mogedorn_report mogedorn_cover(uint32_t m, const uint64_t *packages, size_t packages_len, const uint64_t optional[3], uint32_t *table, size_t table_len,
-                               const uint64_t d[3], uint32_t limit, uint64_t *work, size_t work_len);
+   packages of the compulsory item left that is earliest in the lent order, and the memo goes by all items left. Four working words are one place of it, three
+   for a set and one for its answer: at least 4, P is work_len / 4 rounded down, and the more places the fewer steps. Lend an odd, best a prime number of
+   places: a set's place is its value as a 192-bit number modulo P, whatever the order. Refusals 1, 2, 29, 30, 34, 4, 7, 8, 9, 10. Stack: 351 KB. */
+mogedorn_report mogedorn_cover(uint32_t m, const uint64_t *packages, size_t packages_len, const uint64_t optional[3], const uint8_t *order, size_t order_len,
+                               uint32_t *table, size_t table_len, const uint64_t d[3], uint32_t limit, uint64_t *work, size_t work_len);
 
-/* The timetables of a or b; of a and b; of a and not of b. At least 2 working words. Refusals 1, 2, 29, 30, 4, 5, 8, 10. Stack: 642 KB.
+/* The timetables of a or b; of a and b; of a and not of b. At least 2 working words. Refusals 1, 2, 29, 30, 34, 4, 5, 8, 10. Stack: 642 KB.
    Results of pairs of nodes are remembered in the working words where these are 131,072 or more, two results a word, otherwise in 65,536 places of the
    call's own. With too few for two large answers results are computed again and again. Lend a * b / 2p words or more, and 131,072 at least, where a and b
    are here the nodes of the two answers and p the packages on them. Measured by `make words` on answers made to meet in as many pairs as they can, seconds of `both`, - is over 5:
@@ -139,45 +151,49 @@ mogedorn_report mogedorn_cover(uint32_t m, const uint64_t *packages, size_t pack
                 14878         -     0.32      0.04      0.06      0.12
                 29214         -     0.60      0.13      0.10      0.22
                 57886         -     0.95      0.15      0.20      0.42 */
-mogedorn_report mogedorn_either(uint32_t m, const uint64_t *packages, size_t packages_len, const uint64_t optional[3], uint32_t *table, size_t table_len,
-                                uint32_t a, uint32_t b, uint64_t *work, size_t work_len);
-mogedorn_report mogedorn_both(uint32_t m, const uint64_t *packages, size_t packages_len, const uint64_t optional[3], uint32_t *table, size_t table_len,
-                              uint32_t a, uint32_t b, uint64_t *work, size_t work_len);
-mogedorn_report mogedorn_only(uint32_t m, const uint64_t *packages, size_t packages_len, const uint64_t optional[3], uint32_t *table, size_t table_len,
-                              uint32_t a, uint32_t b, uint64_t *work, size_t work_len);
+mogedorn_report mogedorn_either(uint32_t m, const uint64_t *packages, size_t packages_len, const uint64_t optional[3], const uint8_t *order, size_t order_len,
+                                uint32_t *table, size_t table_len, uint32_t a, uint32_t b, uint64_t *work, size_t work_len);
+mogedorn_report mogedorn_both(uint32_t m, const uint64_t *packages, size_t packages_len, const uint64_t optional[3], const uint8_t *order, size_t order_len,
+                              uint32_t *table, size_t table_len, uint32_t a, uint32_t b, uint64_t *work, size_t work_len);
+mogedorn_report mogedorn_only(uint32_t m, const uint64_t *packages, size_t packages_len, const uint64_t optional[3], const uint8_t *order, size_t order_len,
+                              uint32_t *table, size_t table_len, uint32_t a, uint32_t b, uint64_t *work, size_t work_len);
 
-/* The timetables of a that hold the package p; that do not. At least 2 working words. Refusals 1, 2, 29, 30, 4, 5, 6, 8, 10. Stack: 470 KB. */
-mogedorn_report mogedorn_with(uint32_t m, const uint64_t *packages, size_t packages_len, const uint64_t optional[3], uint32_t *table, size_t table_len,
-                              uint32_t a, uint32_t p, uint64_t *work, size_t work_len);
-mogedorn_report mogedorn_without(uint32_t m, const uint64_t *packages, size_t packages_len, const uint64_t optional[3], uint32_t *table, size_t table_len,
-                                 uint32_t a, uint32_t p, uint64_t *work, size_t work_len);
+/* The timetables of a that hold the package p; that do not. At least 2 working words. Refusals 1, 2, 29, 30, 34, 4, 5, 6, 8, 10. Stack: 470 KB. */
+mogedorn_report mogedorn_with(uint32_t m, const uint64_t *packages, size_t packages_len, const uint64_t optional[3], const uint8_t *order, size_t order_len,
+                              uint32_t *table, size_t table_len, uint32_t a, uint32_t p, uint64_t *work, size_t work_len);
+mogedorn_report mogedorn_without(uint32_t m, const uint64_t *packages, size_t packages_len, const uint64_t optional[3], const uint8_t *order, size_t order_len,
+                                 uint32_t *table, size_t table_len, uint32_t a, uint32_t p, uint64_t *work, size_t work_len);
 
-/* How many timetables the answer holds. At least answer + 1 working words. Refusals 1, 2, 29, 30, 4, 5, 8, 11. Stack: 265 KB. */
-mogedorn_number mogedorn_count(uint32_t m, const uint64_t *packages, size_t packages_len, const uint64_t optional[3], const uint32_t *table, size_t table_len,
-                               uint32_t answer, uint64_t *work, size_t work_len);
+/* How many timetables the answer holds. At least answer + 1 working words. Refusals 1, 2, 29, 30, 34, 4, 5, 8, 11. Stack: 266 KB. */
+mogedorn_number mogedorn_count(uint32_t m, const uint64_t *packages, size_t packages_len, const uint64_t optional[3], const uint8_t *order, size_t order_len,
+                               const uint32_t *table, size_t table_len, uint32_t answer, uint64_t *work, size_t work_len);
 
 /* How many packages the k-th timetable has, in listing order, from 0: what pick returns on a page with so many places or more; on a shorter one pick is
-   refused (15). At least answer + 1 working words. Refusals 1, 2, 29, 30, 4, 5, 8, 11, 12. Stack: 265 KB. */
-mogedorn_number mogedorn_measure(uint32_t m, const uint64_t *packages, size_t packages_len, const uint64_t optional[3], const uint32_t *table, size_t table_len,
-                                 uint32_t answer, uint64_t k, uint64_t *work, size_t work_len);
+   refused (15). At least answer + 1 working words. Refusals 1, 2, 29, 30, 34, 4, 5, 8, 11, 12. Stack: 266 KB. */
+mogedorn_number mogedorn_measure(uint32_t m, const uint64_t *packages, size_t packages_len, const uint64_t optional[3], const uint8_t *order, size_t order_len,
+                                 const uint32_t *table, size_t table_len, uint32_t answer, uint64_t k, uint64_t *work, size_t work_len);
 
-/* The k-th timetable in listing order, from 0, written to the page. At least answer + 1 working words. Refusals 1, 2, 29, 30, 4, 5, 8, 11, 12, 15.
-   Stack: 265 KB. */
-mogedorn_timetable mogedorn_pick(uint32_t m, const uint64_t *packages, size_t packages_len, const uint64_t optional[3], const uint32_t *table, size_t table_len,
-                                 uint32_t answer, uint64_t k, uint64_t *work, size_t work_len, uint16_t *page, size_t page_len);
+/* The k-th timetable in listing order, from 0, written to the page. At least answer + 1 working words. Refusals 1, 2, 29, 30, 34, 4, 5, 8, 11, 12, 15.
+   Stack: 266 KB. */
+mogedorn_timetable mogedorn_pick(uint32_t m, const uint64_t *packages, size_t packages_len, const uint64_t optional[3], const uint8_t *order, size_t order_len,
+                                 const uint32_t *table, size_t table_len, uint32_t answer, uint64_t k, uint64_t *work, size_t work_len, uint16_t *page,
+                                 size_t page_len);
 
-/* The k of a timetable, given as its packages in precedence. At least answer + 1 working words. Refusals 1, 2, 29, 30, 4, 5, 6, 8, 11, 14. Stack: 265 KB. */
-mogedorn_number mogedorn_place(uint32_t m, const uint64_t *packages, size_t packages_len, const uint64_t optional[3], const uint32_t *table, size_t table_len,
-                               uint32_t answer, const uint16_t *list, size_t list_len, uint64_t *work, size_t work_len);
+/* The k of a timetable, given as its packages in precedence. At least answer + 1 working words. Refusals 1, 2, 29, 30, 34, 4, 5, 6, 8, 11, 14.
+   Stack: 266 KB. */
+mogedorn_number mogedorn_place(uint32_t m, const uint64_t *packages, size_t packages_len, const uint64_t optional[3], const uint8_t *order, size_t order_len,
+                               const uint32_t *table, size_t table_len, uint32_t answer, const uint16_t *list, size_t list_len, uint64_t *work,
+                               size_t work_len);
 
 /* The timetable of least cost, the first listed of equals, written to the page. `costs` has one cost for each package. At least answer + 1 working words.
-   Refusals 1, 2, 29, 30, 3, 4, 5, 8, 13, 15. Stack: 265 KB. */
-mogedorn_timetable mogedorn_cheapest(uint32_t m, const uint64_t *packages, size_t packages_len, const uint64_t optional[3], const uint16_t *costs,
-                                     size_t costs_len, const uint32_t *table, size_t table_len, uint32_t answer, uint64_t *work, size_t work_len,
-                                     uint16_t *page, size_t page_len);
+   Refusals 1, 2, 29, 30, 34, 3, 4, 5, 8, 13, 15. Stack: 266 KB. */
+mogedorn_timetable mogedorn_cheapest(uint32_t m, const uint64_t *packages, size_t packages_len, const uint64_t optional[3], const uint8_t *order,
+                                     size_t order_len, const uint16_t *costs, size_t costs_len, const uint32_t *table, size_t table_len, uint32_t answer,
+                                     uint64_t *work, size_t work_len, uint16_t *page, size_t page_len);
 
 /* Reads a bids file: its N packages as item sets, three words each, and their costs, to the start of the buffers, whose rest is unchanged. The buffers have at
-   least 3 N words and N costs (15). M is then schools + slots, at most 64. The file names no optional items. Refusals 20 to 27, and 15. Stack: 1 KB. */
+   least 3 N words and N costs (15). M is then schools + slots, at most 64. The file names no optional items and no order. Refusals 20 to 27, and 15.
+   Stack: 1 KB. */
 mogedorn_bids mogedorn_read_bids(const uint8_t *file, size_t file_len, uint64_t *packages, size_t packages_len, uint16_t *costs, size_t costs_len);
 
 /* What every call on a table is lent besides it, in one struct. Later versions may add fields, and a field of zeros will mean what held before there was one. So
@@ -188,18 +204,41 @@ typedef struct {
     const uint64_t *packages; /* null: no packages, whatever packages_len says */
     size_t packages_len;
     uint64_t optional[3];     /* all zeros: no item is optional */
+    const uint8_t *order;     /* null: 0 .. m - 1, whatever order_len says */
+    size_t order_len;
 } mogedorn_week;
 
-/* The entries with a week in place of m, packages and optional set. Only the entries are proved. These functions just pass on what they are lent, and a word of
-   their own where the pointer to packages is null; each returns what its entry returns. */
+/* The entries with a week in place of m, packages, optional set and order. Only the entries are proved. These functions just pass on what they are lent, a word
+   of their own where the pointer to packages is null, and a list of their own where that to the order is; each returns what its entry returns. */
 
 static inline const uint64_t *mogedorn_week_packages(const mogedorn_week *week) {
     static const uint64_t none = 0;
     return week->packages ? week->packages : &none;
 }
 
+static inline const uint8_t *mogedorn_week_order(const mogedorn_week *week) {
+    static const uint8_t plain[192] = {
+        0, 1, 2, 3, 4, 5, 6, 7, 8, 9, 10, 11, 12, 13, 14, 15, 16, 17, 18, 19, 20, 21, 22, 23,
+        24, 25, 26, 27, 28, 29, 30, 31, 32, 33, 34, 35, 36, 37, 38, 39, 40, 41, 42, 43, 44, 45, 46, 47,
+        48, 49, 50, 51, 52, 53, 54, 55, 56, 57, 58, 59, 60, 61, 62, 63, 64, 65, 66, 67, 68, 69, 70, 71,
+        72, 73, 74, 75, 76, 77, 78, 79, 80, 81, 82, 83, 84, 85, 86, 87, 88, 89, 90, 91, 92, 93, 94, 95,
+        96, 97, 98, 99, 100, 101, 102, 103, 104, 105, 106, 107, 108, 109, 110, 111, 112, 113, 114, 115, 116, 117, 118, 119,
+        120, 121, 122, 123, 124, 125, 126, 127, 128, 129, 130, 131, 132, 133, 134, 135, 136, 137, 138, 139, 140, 141, 142, 143,
+        144, 145, 146, 147, 148, 149, 150, 151, 152, 153, 154, 155, 156, 157, 158, 159, 160, 161, 162, 163, 164, 165, 166, 167,
+        168, 169, 170, 171, 172, 173, 174, 175, 176, 177, 178, 179, 180, 181, 182, 183, 184, 185, 186, 187, 188, 189, 190, 191,
+    };
+    return week->order ? week->order : plain;
+}
+
+/* Of an m above 192, which the entry refuses, no more than the list has. */
+static inline size_t mogedorn_week_order_len(const mogedorn_week *week) {
+    return week->order ? week->order_len : week->m < 192 ? week->m : 192;
+}
+
 /* The arguments that a week stands for. */
-#define MOGEDORN_LENT(week) (week)->m, mogedorn_week_packages(week), (week)->packages ? (week)->packages_len : 0, (week)->optional
+#define MOGEDORN_LENT(week)                                                                                 \
+    (week)->m, mogedorn_week_packages(week), (week)->packages ? (week)->packages_len : 0, (week)->optional, \
+        mogedorn_week_order(week), mogedorn_week_order_len(week)
 
 static inline uint32_t mogedorn_week_check(const mogedorn_week *week, const uint32_t *table, size_t table_len) {
     return mogedorn_check(MOGEDORN_LENT(week), table, table_len);

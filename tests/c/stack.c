@@ -15,6 +15,7 @@ static void (*current)(void);
 
 static uint64_t packages[3 * N], pairs[3 * 2 * M], everything[3], work[4 * NODES];
 static const uint64_t optional[3]; /* none: the more items are compulsory, the deeper cover goes */
+static uint8_t order[M];           /* reversed: in the plain order nothing is permuted */
 static uint16_t costs[N], page[N], list[N];
 static uint32_t table[1 + 3 * NODES], pairs_table[1 + 3 * NODES];
 static uint32_t all, subsets;
@@ -52,23 +53,27 @@ static void deep_table(void) {
     all = one, subsets = any;
 }
 
-static void do_check(void) { refused |= mogedorn_check(M, packages, 3 * N, optional, table, sizeof table / 4); }
+static void do_check(void) { refused |= mogedorn_check(M, packages, 3 * N, optional, order, M, table, sizeof table / 4); }
 static void do_all_items(void) { mogedorn_all_items(M, everything); }
 /* search goes down one item a time: 192 items with two packages each */
 static void do_cover(void) {
-    refused |= mogedorn_cover(M, pairs, 3 * 2 * M, optional, pairs_table, sizeof pairs_table / 4, everything, 1000000, work, 4 * 503).refusal;
+    refused |= mogedorn_cover(M, pairs, 3 * 2 * M, optional, order, M, pairs_table, sizeof pairs_table / 4, everything, 1000000, work, 4 * 503).refusal;
 }
-static void do_either(void) { refused |= mogedorn_either(M, packages, 3 * N, optional, table, sizeof table / 4, all, subsets, work, 2).refusal; }
-static void do_both(void) { refused |= mogedorn_both(M, packages, 3 * N, optional, table, sizeof table / 4, all, subsets, work, 2).refusal; }
-static void do_only(void) { refused |= mogedorn_only(M, packages, 3 * N, optional, table, sizeof table / 4, subsets, all, work, 2).refusal; }
-static void do_with(void) { refused |= mogedorn_with(M, packages, 3 * N, optional, table, sizeof table / 4, all, N - 1, work, 2).refusal; }
-static void do_without(void) { refused |= mogedorn_without(M, packages, 3 * N, optional, table, sizeof table / 4, all, N - 1, work, 2).refusal; }
-static void do_count(void) { refused |= mogedorn_count(M, packages, 3 * N, optional, table, sizeof table / 4, all, work, 4 * NODES).refusal; }
-static void do_pick(void) { refused |= mogedorn_pick(M, packages, 3 * N, optional, table, sizeof table / 4, all, 0, work, 4 * NODES, page, N).refusal; }
-static void do_measure(void) { refused |= mogedorn_measure(M, packages, 3 * N, optional, table, sizeof table / 4, all, 0, work, 4 * NODES).refusal; }
-static void do_place(void) { refused |= mogedorn_place(M, packages, 3 * N, optional, table, sizeof table / 4, all, list, N, work, 4 * NODES).refusal; }
+static void do_either(void) { refused |= mogedorn_either(M, packages, 3 * N, optional, order, M, table, sizeof table / 4, all, subsets, work, 2).refusal; }
+static void do_both(void) { refused |= mogedorn_both(M, packages, 3 * N, optional, order, M, table, sizeof table / 4, all, subsets, work, 2).refusal; }
+static void do_only(void) { refused |= mogedorn_only(M, packages, 3 * N, optional, order, M, table, sizeof table / 4, subsets, all, work, 2).refusal; }
+static void do_with(void) { refused |= mogedorn_with(M, packages, 3 * N, optional, order, M, table, sizeof table / 4, all, N - 1, work, 2).refusal; }
+static void do_without(void) { refused |= mogedorn_without(M, packages, 3 * N, optional, order, M, table, sizeof table / 4, all, N - 1, work, 2).refusal; }
+static void do_count(void) { refused |= mogedorn_count(M, packages, 3 * N, optional, order, M, table, sizeof table / 4, all, work, 4 * NODES).refusal; }
+static void do_pick(void) {
+    refused |= mogedorn_pick(M, packages, 3 * N, optional, order, M, table, sizeof table / 4, all, 0, work, 4 * NODES, page, N).refusal;
+}
+static void do_measure(void) { refused |= mogedorn_measure(M, packages, 3 * N, optional, order, M, table, sizeof table / 4, all, 0, work, 4 * NODES).refusal; }
+static void do_place(void) {
+    refused |= mogedorn_place(M, packages, 3 * N, optional, order, M, table, sizeof table / 4, all, list, N, work, 4 * NODES).refusal;
+}
 static void do_cheapest(void) {
-    refused |= mogedorn_cheapest(M, packages, 3 * N, optional, costs, N, table, sizeof table / 4, all, work, 4 * NODES, page, N).refusal;
+    refused |= mogedorn_cheapest(M, packages, 3 * N, optional, order, M, costs, N, table, sizeof table / 4, all, work, 4 * NODES, page, N).refusal;
 }
 static void do_read_bids(void) { refused |= mogedorn_read_bids(file, sizeof file, packages, 3 * N, costs, N).refusal; }
 
@@ -88,7 +93,8 @@ static void make_file(void) {
 static void single(uint64_t *sets, int p, int item) { sets[3 * p + item / 64] = 1ull << (item % 64); }
 
 int main(void) {
-    for (int p = 0; p < N; p++) single(packages, p, p * M / N), list[p] = (uint16_t)p;
+    for (int i = 0; i < M; i++) order[i] = (uint8_t)(M - 1 - i);
+    for (int p = 0; p < N; p++) single(packages, p, order[p * M / N]), list[p] = (uint16_t)p;
     for (int p = 0; p < 2 * M; p++) single(pairs, p, p / 2);
     mogedorn_all_items(M, everything);
     deep_table();

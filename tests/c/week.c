@@ -10,7 +10,9 @@ enum { TABLE = 31, WORK = 4 * 64 + 3, PAGE = 5 };
 /* {0}, {0, 2}, {1, 2}, {1}, item 2 optional; the word behind them is no package */
 static const uint64_t packages[13] = {1, 0, 0, 5, 0, 0, 6, 0, 0, 2, 0, 0, 9};
 static const uint16_t costs[4] = {7, 1, 1, 3};
+static const uint8_t plain[3] = {0, 1, 2}, reversed[3] = {2, 1, 0};
 static mogedorn_week week;
+static const uint8_t *order; /* what the entries are lent: never null */
 
 static uint32_t table[TABLE], entry_table[TABLE];
 static uint64_t work[WORK];
@@ -18,7 +20,7 @@ static uint16_t page[PAGE], entry_page[PAGE];
 static int failed;
 
 /* What an entry takes for the week. */
-#define LENT 3, packages, 13, week.optional
+#define LENT 3, packages, 13, week.optional, order, 3
 
 static void expect(const char *what, int holds) {
     if (!holds) printf("%s: not as expected\n", what);
@@ -41,7 +43,7 @@ static void timetable(const char *what, mogedorn_timetable x, mogedorn_timetable
     expect(what, x.refusal == 0 && x.packages == 2 && page[0] == first && page[1] == second);
 }
 
-static uint32_t cover(void) {
+static uint32_t cover(uint32_t made) {
     uint64_t d[3], all[3];
     mogedorn_week_all(&week, d);
     mogedorn_all_items(3, all);
@@ -49,7 +51,7 @@ static uint32_t cover(void) {
     mogedorn_report spent = mogedorn_week_cover(&week, table, TABLE, d, 5, work, WORK);
     expect("cover", spent.refusal == MOGEDORN_SPENT);
     mogedorn_report x = mogedorn_week_cover(&week, table, TABLE, d, 6, work, WORK);
-    expect("cover", x.refusal == 0 && x.steps == 6 && x.made == 4);
+    expect("cover", x.refusal == 0 && x.steps == 6 && x.made == made);
     return report("cover", x, mogedorn_cover(LENT, entry_table, TABLE, d, 6, work, WORK));
 }
 
@@ -62,20 +64,77 @@ static void operations(uint32_t all) {
     report("only", mogedorn_week_only(&week, table, TABLE, a, b, work, WORK), mogedorn_only(LENT, entry_table, TABLE, a, b, work, WORK));
 }
 
-/* The listing is 0 2, 0 3, 1 3; the last is the cheapest. */
-static void questions(uint32_t all) {
-    static const uint16_t second[2] = {0, 3};
+/* The second timetable and the cheapest. */
+static void questions(uint32_t all, const uint16_t second[2], const uint16_t least[2]) {
     expect("check", mogedorn_week_check(&week, table, TABLE) == 0 && mogedorn_check(LENT, table, TABLE) == 0);
     number("count", mogedorn_week_count(&week, table, TABLE, all, work, WORK), mogedorn_count(LENT, table, TABLE, all, work, WORK), 3);
     number("measure", mogedorn_week_measure(&week, table, TABLE, all, 1, work, WORK), mogedorn_measure(LENT, table, TABLE, all, 1, work, WORK), 2);
     number("place", mogedorn_week_place(&week, table, TABLE, all, second, 2, work, WORK), mogedorn_place(LENT, table, TABLE, all, second, 2, work, WORK), 1);
     timetable("pick", mogedorn_week_pick(&week, table, TABLE, all, 1, work, WORK, page, PAGE),
-              mogedorn_pick(LENT, table, TABLE, all, 1, work, WORK, entry_page, PAGE), 0, 3);
+              mogedorn_pick(LENT, table, TABLE, all, 1, work, WORK, entry_page, PAGE), second[0], second[1]);
     timetable("cheapest", mogedorn_week_cheapest(&week, costs, 4, table, TABLE, all, work, WORK, page, PAGE),
-              mogedorn_cheapest(LENT, costs, 4, table, TABLE, all, work, WORK, entry_page, PAGE), 1, 3);
+              mogedorn_cheapest(LENT, costs, 4, table, TABLE, all, work, WORK, entry_page, PAGE), least[0], least[1]);
 }
 
-/* A week of zeros has no item and no package, and its pointer to packages is null: the empty timetable covers the empty set, in one step. */
+/* Every call, on empty tables. The week has the order that the entries are lent, or null for the plain one. */
+static void every_call(const uint8_t *week_order, size_t week_order_len, uint32_t made, const uint16_t second[2], const uint16_t least[2]) {
+    week.order = week_order, week.order_len = week_order_len;
+    memset(table, 0, sizeof table);
+    memset(entry_table, 0, sizeof entry_table);
+    uint32_t all = cover(made);
+    operations(all);
+    questions(all, second, least);
+}
+
+/* In the plain order the listing is 0 2, 0 3, 1 3, and reversed it is 2 0, 3 0, 3 1; each time the last is the cheapest. */
+static void orders(void) {
+    static const uint16_t second[2] = {0, 3}, last[2] = {1, 3}, second_reversed[2] = {3, 0}, last_reversed[2] = {3, 1};
+    order = plain;
+    every_call(NULL, 0, 4, second, last);
+    every_call(NULL, 99, 4, second, last);
+    every_call(plain, 3, 4, second, last);
+    order = reversed;
+    every_call(reversed, 3, 5, second_reversed, last_reversed);
+    /* a table made under another order */
+    week.order = NULL;
+    expect("check under another order", mogedorn_week_check(&week, table, TABLE) == MOGEDORN_SPOILT);
+}
+
+/* An order of the week and of its entry that is not each item just once. */
+static void disordered(const uint8_t *bad, size_t bad_len) {
+    uint64_t d[3];
+    week.order = bad, week.order_len = bad_len;
+    mogedorn_week_all(&week, d);
+    expect("check of a bad order", mogedorn_week_check(&week, table, TABLE) == MOGEDORN_DISORDERED);
+    expect("check of a bad order", mogedorn_check(3, packages, 13, week.optional, bad, bad_len, table, TABLE) == MOGEDORN_DISORDERED);
+    mogedorn_report x = mogedorn_week_cover(&week, table, TABLE, d, 6, work, WORK);
+    expect("cover in a bad order", x.refusal == MOGEDORN_DISORDERED);
+    report("cover in a bad order", x, mogedorn_cover(3, packages, 13, week.optional, bad, bad_len, entry_table, TABLE, d, 6, work, WORK));
+    /* before the length of the cost list */
+    expect("cheapest in a bad order", mogedorn_week_cheapest(&week, costs, 3, table, TABLE, 1, work, WORK, page, PAGE).refusal == MOGEDORN_DISORDERED);
+}
+
+static void bad_orders(void) {
+    static const uint8_t twice[3] = {0, 1, 1}, above[3] = {3, 1, 0}, longer[4] = {0, 1, 2, 2};
+    disordered(twice, 3);
+    disordered(above, 3);
+    disordered(longer, 4);
+    disordered(reversed, 2);
+    disordered(plain, 0);
+}
+
+/* A null order around the greatest M: the list that stands for it has 192 items, and of more M is refused before it is read. */
+static void greatest_m(void) {
+    mogedorn_week wide;
+    uint32_t empty[1] = {0};
+    memset(&wide, 0, sizeof wide);
+    for (wide.m = 190; wide.m < 200; wide.m++)
+        expect("check of many items", mogedorn_week_check(&wide, empty, 1) == (wide.m > 192 ? (uint32_t)MOGEDORN_OVERSIZE : 0));
+    wide.m = 0xffffffff;
+    expect("check of most items", mogedorn_week_check(&wide, empty, 1) == MOGEDORN_OVERSIZE);
+}
+
+/* A week of zeros has no item and no package, and its pointers to packages and order are null: the empty timetable covers the empty set, in one step. */
 static void zeros(void) {
     mogedorn_week none;
     uint32_t empty[1] = {0};
@@ -85,15 +144,19 @@ static void zeros(void) {
     expect("check of zeros", mogedorn_week_check(&none, empty, 1) == 0);
     mogedorn_report x = mogedorn_week_cover(&none, empty, 1, d, 1, work, 4);
     expect("cover of zeros", x.refusal == 0 && x.answer == 1 && x.steps == 1 && x.made == 0);
+    none.order = plain, none.order_len = 1;
+    expect("check of an order for no item", mogedorn_week_check(&none, empty, 1) == MOGEDORN_DISORDERED);
+    none.order_len = 0;
+    expect("check of an empty order", mogedorn_week_check(&none, empty, 1) == 0);
     none.optional[2] = 1;
     expect("check of an optional item of M or above", mogedorn_week_check(&none, empty, 1) == MOGEDORN_STRAY_OPTIONAL);
 }
 
 int main(void) {
     week.m = 3, week.packages = packages, week.packages_len = 13, week.optional[0] = 4;
-    uint32_t all = cover();
-    operations(all);
-    questions(all);
+    orders();
+    bad_orders();
+    greatest_m();
     zeros();
     week.optional[0] = 6;
     expect("check of a package without a compulsory item", mogedorn_week_check(&week, table, TABLE) == MOGEDORN_ALL_OPTIONAL);

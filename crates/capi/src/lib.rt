@@ -201,11 +201,17 @@ fn reading(b: Reading) -> Bids
 // The entries.
 
 #[no_mangle]
-pub extern "C" fn mogedorn_check(m: u32, packages: &[u64], optional: &[u64; 3], t: &[u32]) -> u32
-    ensures { λ r. ⌜ CheckPost (problemOf (now (packages .entry)) (valueOf (now (optional .entry)))) m (now (t .entry)) (soundnessOf r) ⌝ }
+pub extern "C" fn mogedorn_check(
+    m: u32,
+    packages: &[u64],
+    optional: &[u64; 3],
+    order: &[u8],
+    t: &[u32],
+) -> u32
+    ensures { λ r. ⌜ CheckPost (problemOf (now (packages .entry)) (valueOf (now (optional .entry))) (now (order .entry))) m (now (t .entry)) (soundnessOf r) ⌝ }
 {
     let o = itemset::of_words(optional);
-    let s = engine::check(m, packages, o, t);
+    let s = engine::check(m, packages, o, order, t);
     soundness(s)
 }
 
@@ -214,15 +220,16 @@ pub extern "C" fn mogedorn_count(
     m: u32,
     packages: &[u64],
     optional: &[u64; 3],
+    order: &[u8],
     t: &[u32],
     answer: u32,
     work: &mut [u64],
 ) -> Number
-    ensures { λ r. ⌜ CountPost (problemOf (now (packages .entry)) (valueOf (now (optional .entry)))) m (now (t .entry)) answer (length (now (work .entry))) (countedOf r) ⌝ }
+    ensures { λ r. ⌜ CountPost (problemOf (now (packages .entry)) (valueOf (now (optional .entry))) (now (order .entry))) m (now (t .entry)) answer (length (now (work .entry))) (countedOf r) ⌝ }
     ensures { λ r. ⌜ BlankNumber r ⌝ }
 {
     let o = itemset::of_words(optional);
-    let c = engine::count(m, packages, o, t, answer, work);
+    let c = engine::count(m, packages, o, order, t, answer, work);
     counted(c)
 }
 
@@ -231,16 +238,17 @@ pub extern "C" fn mogedorn_measure(
     m: u32,
     packages: &[u64],
     optional: &[u64; 3],
+    order: &[u8],
     t: &[u32],
     answer: u32,
     k: u64,
     work: &mut [u64],
 ) -> Number
-    ensures { λ r. ⌜ MeasurePost (problemOf (now (packages .entry)) (valueOf (now (optional .entry)))) m (now (t .entry)) answer k (length (now (work .entry))) (measuredOf r) ⌝ }
+    ensures { λ r. ⌜ MeasurePost (problemOf (now (packages .entry)) (valueOf (now (optional .entry))) (now (order .entry))) m (now (t .entry)) answer k (length (now (work .entry))) (measuredOf r) ⌝ }
     ensures { λ r. ⌜ BlankNumber r ⌝ }
 {
     let o = itemset::of_words(optional);
-    let p = engine::measure(m, packages, o, t, answer, k, work);
+    let p = engine::measure(m, packages, o, order, t, answer, k, work);
     measured(p)
 }
 
@@ -249,18 +257,19 @@ pub extern "C" fn mogedorn_pick(
     m: u32,
     packages: &[u64],
     optional: &[u64; 3],
+    order: &[u8],
     t: &[u32],
     answer: u32,
     k: u64,
     work: &mut [u64],
     page: &mut [u16],
 ) -> Timetable
-    ensures { λ r. ⌜ PickPost (problemOf (now (packages .entry)) (valueOf (now (optional .entry)))) m (now (t .entry)) answer k (length (now (work .entry)))
+    ensures { λ r. ⌜ PickPost (problemOf (now (packages .entry)) (valueOf (now (optional .entry))) (now (order .entry))) m (now (t .entry)) answer k (length (now (work .entry)))
         (now (page .entry)) (pickedOf r) (now (page .exit)) ⌝ }
     ensures { λ r. ⌜ BlankPick r ⌝ }
 {
     let o = itemset::of_words(optional);
-    let p = engine::pick(m, packages, o, t, answer, k, work, page);
+    let p = engine::pick(m, packages, o, order, t, answer, k, work, page);
     picked(p)
 }
 
@@ -269,16 +278,18 @@ pub extern "C" fn mogedorn_place(
     m: u32,
     packages: &[u64],
     optional: &[u64; 3],
+    order: &[u8],
     t: &[u32],
     answer: u32,
     list: &[u16],
     work: &mut [u64],
 ) -> Number
-    ensures { λ r. ⌜ PlacePost (problemOf (now (packages .entry)) (valueOf (now (optional .entry)))) m (now (t .entry)) answer (now (list .entry)) (length (now (work .entry))) (placedOf r) ⌝ }
+    ensures { λ r. ⌜ PlacePost (problemOf (now (packages .entry)) (valueOf (now (optional .entry))) (now (order .entry))) m (now (t .entry)) answer (now (list .entry))
+        (length (now (work .entry))) (placedOf r) ⌝ }
     ensures { λ r. ⌜ BlankNumber r ⌝ }
 {
     let o = itemset::of_words(optional);
-    let p = engine::place(m, packages, o, t, answer, list, work);
+    let p = engine::place(m, packages, o, order, t, answer, list, work);
     placed(p)
 }
 
@@ -287,18 +298,19 @@ pub extern "C" fn mogedorn_cheapest(
     m: u32,
     packages: &[u64],
     optional: &[u64; 3],
+    order: &[u8],
     costs: &[u16],
     t: &[u32],
     answer: u32,
     work: &mut [u64],
     page: &mut [u16],
 ) -> Timetable
-    ensures { λ r. ⌜ CheapestPost (problemOf (now (packages .entry)) (valueOf (now (optional .entry)))) m (now (costs .entry))
+    ensures { λ r. ⌜ CheapestPost (problemOf (now (packages .entry)) (valueOf (now (optional .entry))) (now (order .entry))) m (now (costs .entry))
         (now (t .entry)) answer (length (now (work .entry))) (now (page .entry)) (pricedOf r) (now (page .exit)) ⌝ }
     ensures { λ r. ⌜ BlankTimetable r ⌝ }
 {
     let o = itemset::of_words(optional);
-    let p = engine::cheapest(m, packages, o, costs, t, answer, work, page);
+    let p = engine::cheapest(m, packages, o, order, costs, t, answer, work, page);
     priced(p)
 }
 
@@ -307,18 +319,19 @@ pub extern "C" fn mogedorn_cover(
     m: u32,
     packages: &[u64],
     optional: &[u64; 3],
+    order: &[u8],
     t: &mut [u32],
     d: &[u64; 3],
     limit: u32,
     work: &mut [u64],
 ) -> Report
-    ensures { λ r. ⌜ CoverPost (problemOf (now (packages .entry)) (valueOf (now (optional .entry)))) m (now (t .entry)) (valueOf (now (d .entry))) limit
+    ensures { λ r. ⌜ CoverPost (problemOf (now (packages .entry)) (valueOf (now (optional .entry))) (now (order .entry))) m (now (t .entry)) (valueOf (now (d .entry))) limit
         (length (now (work .entry))) (reportOf r) (now (t .exit)) ⌝ }
     ensures { λ r. ⌜ BlankReport r ⌝ }
 {
     let o = itemset::of_words(optional);
     let items = itemset::of_words(d);
-    let r = engine::cover(m, packages, o, t, items, limit, work);
+    let r = engine::cover(m, packages, o, order, t, items, limit, work);
     shown(r)
 }
 
@@ -327,16 +340,18 @@ pub extern "C" fn mogedorn_either(
     m: u32,
     packages: &[u64],
     optional: &[u64; 3],
+    order: &[u8],
     t: &mut [u32],
     a: u32,
     b: u32,
     work: &mut [u64],
 ) -> Report
-    ensures { λ r. ⌜ EitherPost (problemOf (now (packages .entry)) (valueOf (now (optional .entry)))) m (now (t .entry)) a b (length (now (work .entry))) (reportOf r) (now (t .exit)) ⌝ }
+    ensures { λ r. ⌜ EitherPost (problemOf (now (packages .entry)) (valueOf (now (optional .entry))) (now (order .entry))) m (now (t .entry)) a b
+        (length (now (work .entry))) (reportOf r) (now (t .exit)) ⌝ }
     ensures { λ r. ⌜ BlankReport r ⌝ }
 {
     let o = itemset::of_words(optional);
-    let r = engine::either(m, packages, o, t, a, b, work);
+    let r = engine::either(m, packages, o, order, t, a, b, work);
     shown(r)
 }
 
@@ -345,16 +360,18 @@ pub extern "C" fn mogedorn_both(
     m: u32,
     packages: &[u64],
     optional: &[u64; 3],
+    order: &[u8],
     t: &mut [u32],
     a: u32,
     b: u32,
     work: &mut [u64],
 ) -> Report
-    ensures { λ r. ⌜ BothPost (problemOf (now (packages .entry)) (valueOf (now (optional .entry)))) m (now (t .entry)) a b (length (now (work .entry))) (reportOf r) (now (t .exit)) ⌝ }
+    ensures { λ r. ⌜ BothPost (problemOf (now (packages .entry)) (valueOf (now (optional .entry))) (now (order .entry))) m (now (t .entry)) a b
+        (length (now (work .entry))) (reportOf r) (now (t .exit)) ⌝ }
     ensures { λ r. ⌜ BlankReport r ⌝ }
 {
     let o = itemset::of_words(optional);
-    let r = engine::both(m, packages, o, t, a, b, work);
+    let r = engine::both(m, packages, o, order, t, a, b, work);
     shown(r)
 }
 
@@ -363,16 +380,18 @@ pub extern "C" fn mogedorn_only(
     m: u32,
     packages: &[u64],
     optional: &[u64; 3],
+    order: &[u8],
     t: &mut [u32],
     a: u32,
     b: u32,
     work: &mut [u64],
 ) -> Report
-    ensures { λ r. ⌜ OnlyPost (problemOf (now (packages .entry)) (valueOf (now (optional .entry)))) m (now (t .entry)) a b (length (now (work .entry))) (reportOf r) (now (t .exit)) ⌝ }
+    ensures { λ r. ⌜ OnlyPost (problemOf (now (packages .entry)) (valueOf (now (optional .entry))) (now (order .entry))) m (now (t .entry)) a b
+        (length (now (work .entry))) (reportOf r) (now (t .exit)) ⌝ }
     ensures { λ r. ⌜ BlankReport r ⌝ }
 {
     let o = itemset::of_words(optional);
-    let r = engine::only(m, packages, o, t, a, b, work);
+    let r = engine::only(m, packages, o, order, t, a, b, work);
     shown(r)
 }
 
@@ -381,16 +400,18 @@ pub extern "C" fn mogedorn_with(
     m: u32,
     packages: &[u64],
     optional: &[u64; 3],
+    order: &[u8],
     t: &mut [u32],
     a: u32,
     p: u32,
     work: &mut [u64],
 ) -> Report
-    ensures { λ r. ⌜ WithPost (problemOf (now (packages .entry)) (valueOf (now (optional .entry)))) m (now (t .entry)) a p (length (now (work .entry))) (reportOf r) (now (t .exit)) ⌝ }
+    ensures { λ r. ⌜ WithPost (problemOf (now (packages .entry)) (valueOf (now (optional .entry))) (now (order .entry))) m (now (t .entry)) a p
+        (length (now (work .entry))) (reportOf r) (now (t .exit)) ⌝ }
     ensures { λ r. ⌜ BlankReport r ⌝ }
 {
     let o = itemset::of_words(optional);
-    let r = engine::with(m, packages, o, t, a, p, work);
+    let r = engine::with(m, packages, o, order, t, a, p, work);
     shown(r)
 }
 
@@ -399,16 +420,18 @@ pub extern "C" fn mogedorn_without(
     m: u32,
     packages: &[u64],
     optional: &[u64; 3],
+    order: &[u8],
     t: &mut [u32],
     a: u32,
     p: u32,
     work: &mut [u64],
 ) -> Report
-    ensures { λ r. ⌜ WithoutPost (problemOf (now (packages .entry)) (valueOf (now (optional .entry)))) m (now (t .entry)) a p (length (now (work .entry))) (reportOf r) (now (t .exit)) ⌝ }
+    ensures { λ r. ⌜ WithoutPost (problemOf (now (packages .entry)) (valueOf (now (optional .entry))) (now (order .entry))) m (now (t .entry)) a p
+        (length (now (work .entry))) (reportOf r) (now (t .exit)) ⌝ }
     ensures { λ r. ⌜ BlankReport r ⌝ }
 {
     let o = itemset::of_words(optional);
-    let r = engine::without(m, packages, o, t, a, p, work);
+    let r = engine::without(m, packages, o, order, t, a, p, work);
     shown(r)
 }
 
