@@ -1,5 +1,6 @@
 // The calls either, both, only, with and without on tables made by hand: every pair of answers of a small table, with room to spare, with room for
-// exactly the nodes that are missing, and with one place fewer; each refusal; and answers of 2^400 timetables, which only remembered results end.
+// exactly the nodes that are missing, and with one place fewer; each refusal; and answers of 2^400 timetables, which only remembered results end. The items are
+// lent in the plain order.
 //
 // Tables and packages go by value, and cases are rows of a table: a proof is as long as there are borrows and calls.
 ghost use Prim.Native.Nat.{_≤_, _<_};
@@ -94,6 +95,7 @@ const NO_ITEMS: Items = Items {
 fn call(
     m: u32,
     packages: &[u64],
+    order: &[u8],
     t: &mut [u32],
     op: usize,
     a: u32,
@@ -101,18 +103,18 @@ fn call(
     work: &mut [u64],
 ) -> Report {
     if op == 0 {
-        return engine::either(m, packages, NO_ITEMS, t, a, b, work);
+        return engine::either(m, packages, NO_ITEMS, order, t, a, b, work);
     }
     if op == 1 {
-        return engine::both(m, packages, NO_ITEMS, t, a, b, work);
+        return engine::both(m, packages, NO_ITEMS, order, t, a, b, work);
     }
     if op == 2 {
-        return engine::only(m, packages, NO_ITEMS, t, a, b, work);
+        return engine::only(m, packages, NO_ITEMS, order, t, a, b, work);
     }
     if op == 3 {
-        return engine::with(m, packages, NO_ITEMS, t, a, b, work);
+        return engine::with(m, packages, NO_ITEMS, order, t, a, b, work);
     }
-    engine::without(m, packages, NO_ITEMS, t, a, b, work)
+    engine::without(m, packages, NO_ITEMS, order, t, a, b, work)
 }
 
 // M, how many packages and words of the table are lent, the call with its operands, and how many working words.
@@ -136,11 +138,14 @@ fn lend(packages: [u64; 1539], t: [u32; 12001], memory: [u64; 70000], q: Questio
     let n = least(q.packages, 513);
     let room = least(q.room, 12001);
     let words = least(q.words, 70000);
+    let order = exact_cover::plain_order();
+    let m = least(base::wide(q.m), 192);
     let mut table = t;
     let mut work = memory;
     let r = call(
         q.m,
         &packages[0..3 * n],
+        &order[0..m],
         &mut table[0..room],
         q.op,
         q.a,
@@ -327,11 +332,14 @@ fn rows(first: u32, end: u32, last: u32) {
 fn print_count(packages: [u64; 1539], t: [u32; 12001], q: Question, answer: u32) {
     let n = least(q.packages, 513);
     let room = least(q.room, 12001);
+    let order = exact_cover::plain_order();
+    let m = least(base::wide(q.m), 192);
     let mut tally = [0u64; 4096];
     let c = engine::count(
         q.m,
         &packages[0..3 * n],
         NO_ITEMS,
+        &order[0..m],
         &t[0..room],
         answer,
         &mut tally,

@@ -1,5 +1,6 @@
 // Runs a script of calls on Figure 1 of document 000 through the runner, on tables and working words of several lengths, and prints each report.
-// A second script has calls on four packages one of whose items is optional.
+// A second script has calls on four packages one of whose items is optional, and a third calls on the figure in another order than the plain one, and with an order
+// that is none.
 ghost use Prim.Native.Nat.{_≤_};
 use itemset::Items;
 
@@ -182,6 +183,12 @@ const NO_ITEMS: Items = Items {
     w2: 0,
 };
 
+const PLAIN: [u8; 6] = [0, 1, 2, 3, 4, 5];
+
+const REVERSED: [u8; 6] = [5, 4, 3, 2, 1, 0];
+
+const REPEATED: [u8; 6] = [0, 1, 2, 3, 4, 4];
+
 // {0}, {0, 2}, {1, 2}, {1}, numbered from 0.
 const SLOTS: [u64; 12] = [1, 0, 0, 5, 0, 0, 6, 0, 0, 2, 0, 0];
 
@@ -204,12 +211,25 @@ const SLOT_CALLS: [[u64; 7]; 9] = [
     [2, 3, 6, 0, 0, 7, 2], // what both have: 0 3 again
 ];
 
+// Calls on the figure in the reversed order. The timetables of all items are 2 0 and 2 4 1.
+const REVERSED_CALLS: [[u64; 7]; 9] = [
+    [0, 6, 63, 0, 0, 6, 256], // cover all items
+    [0, 6, 63, 0, 0, 5, 256], // B too small
+    [4, 6, 5, 0, 0, 0, 2], // with package 0
+    [5, 6, 5, 0, 0, 0, 2], // without it
+    [1, 6, 7, 0, 0, 8, 2], // either of the two: the number of both again
+    [3, 6, 5, 0, 0, 8, 2], // only what has package 0
+    [2, 6, 7, 0, 0, 8, 2], // nothing in both
+    [0, 6, 23, 0, 0, 4, 256], // items 0, 1, 2 and 4: a node that was there already
+    [0, 6, 40, 0, 0, 2, 256], // items 3 and 5: package 2 alone
+];
+
 // The rows, one after the other.
-fn slot_script() -> [u64; 63] {
+fn script(calls: [[u64; 7]; 9]) -> [u64; 63] {
     let mut script = [0u64; 63];
     let mut i: usize = 0;
     while i < 63 {
-        let row = SLOT_CALLS[i / 7];
+        let row = calls[i / 7];
         script[i] = row[i % 7];
         i += 1;
     }
@@ -272,21 +292,30 @@ fn scenario(what: &[u8], t: &mut [u32], room: usize, places: usize)
     let n = history::run(
         &figure(),
         NO_ITEMS,
+        &PLAIN,
         t,
-        &mut work[..room],
+        &mut work[0..room],
         &SCRIPT,
-        &mut out[..words],
+        &mut out[0..words],
     );
     show_run(what, &out, n, 21);
 }
 
-// The second script, on a table of 8 nodes.
-fn optional_scenario() {
+// Nine calls, on a table of 8 nodes.
+fn nine(what: &[u8], packages: &[u64], optional: Items, order: &[u8], calls: [[u64; 7]; 9]) {
     let mut t = [7u32; 25];
     let mut work = [7u64; 256];
     let mut out = [0u64; 63];
-    let n = history::run(&SLOTS, ITEM_2, &mut t, &mut work, &slot_script(), &mut out);
-    show_run(b"item 2 optional", &out, n, 9);
+    let n = history::run(
+        packages,
+        optional,
+        order,
+        &mut t,
+        &mut work,
+        &script(calls),
+        &mut out,
+    );
+    show_run(what, &out, n, 9);
 }
 
 fn main() {
@@ -295,5 +324,19 @@ fn main() {
     scenario(b"no word", &mut [7u32; 0], 256, 21);
     scenario(b"places for 2 reports", &mut [7u32; 25], 256, 2);
     scenario(b"fewer working words", &mut [7u32; 25], 200, 21);
-    optional_scenario();
+    nine(b"item 2 optional", &SLOTS, ITEM_2, &PLAIN[0..3], SLOT_CALLS);
+    nine(
+        b"the order 5 4 3 2 1 0",
+        &figure(),
+        NO_ITEMS,
+        &REVERSED,
+        REVERSED_CALLS,
+    );
+    nine(
+        b"item 4 twice in the order",
+        &figure(),
+        NO_ITEMS,
+        &REPEATED,
+        REVERSED_CALLS,
+    );
 }

@@ -1,6 +1,6 @@
 // Runs a history on the program's example file of document 01 through the runner, on tables of three lengths, and lists the table that it leaves: each node
 // with the answers that it is below. A table with room for just the nodes made answers as a longer one does, and with room for one fewer a call is refused.
-// Among the calls is one that is refused always: a search cut short by its limit, whose nodes are gone again.
+// Among the calls is one that is refused always: a search cut short by its limit, whose nodes are gone again. The items are lent in the plain order.
 ghost use Prim.Native.Nat.{_≤_, _<_};
 use itemset::Items;
 
@@ -108,6 +108,9 @@ const NO_ITEMS: Items = Items {
     w1: 0,
     w2: 0,
 };
+
+// The items in the plain order.
+const ORDER: [u8; 4] = [0, 1, 2, 3];
 
 // Whether k is below a in the table: the numbers below a are marked, from a down to the children of the nodes marked.
 fn is_below(t: &[u32; 61], a: usize, k: usize) -> bool
@@ -223,7 +226,8 @@ fn scenario(what: &[u8], words: usize)
     let n = history::run(
         &packages(),
         NO_ITEMS,
-        &mut t[..words],
+        &ORDER,
+        &mut t[0..words],
         &mut work,
         &SCRIPT,
         &mut out,

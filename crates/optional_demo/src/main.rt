@@ -1,144 +1,15 @@
 // Weeks with optional items by the public calls: small weeks in one word and over all three, refusals 29 and 30, and queens, whose diagonals are optional.
-// A line gives the answer of cover, nodes made, steps, timetables and the first three of these in quotes, or the refusal.
+// The items are lent in the plain order. A line gives the answer of cover, nodes made, steps, timetables and the first three of these in quotes, or the refusal.
 ghost use Prim.Native.Nat.{_+_, _*_, _≤_, _<_};
 ghost use lib.ListN.{length};
 use itemset::Items;
-use statement::Counted;
-use statement::Outcome;
-use statement::Picked;
-use statement::Priced;
-use statement::Report;
+use weeks::Week;
 
-// The lesser of the two.
-fn least(x: usize, y: usize) -> usize
-    ensures { λ r. ⌜ r ≤ y ⌝ }
-{
-    if x < y {
-        return x;
-    }
-    y
-}
-
-// What cover is lent besides packages and table; `words` is how many working words.
-struct Week {
-    m: u32,
-    optional: Items,
-    d: Items,
-    words: usize,
-}
-
-// ---- what is printed
-
-fn print(word: &[u8], n: u64) {
-    io::write_all(1, word);
-    io::print_decimal(1, n);
-}
-
-fn print_refused(n: u8) {
-    print(b" refused ", n as u64);
-}
-
-// Package p, the i-th of its timetable.
-fn print_package(i: usize, p: u16) {
-    if 0 < i {
-        io::write_all(1, b" ");
-    }
-    io::print_decimal(1, p as u64);
-}
-
-// The first n packages of the page.
-fn print_timetable(page: [u16; 16], n: usize) {
-    io::write_all(1, b" \"");
-    let end = least(n, 16);
-    let mut i: usize = 0;
-    while i < end {
-        print_package(i, page[i]);
-        i += 1;
-    }
-    io::write_all(1, b"\"");
-}
-
-fn print_picked(page: [u16; 16], r: Picked) {
-    match r {
-        Picked::Packages(n) => print_timetable(page, n as usize),
-        Picked::Refused(n) => print_refused(n),
-    }
-}
-
-fn print_pick(packages: &[u64], w: Week, t: &[u32], a: u32, k: u64) {
-    let mut page = [0u16; 16];
-    let r = engine::pick(
-        w.m,
-        packages,
-        w.optional,
-        t,
-        a,
-        k,
-        &mut [0u64; 65536],
-        &mut page,
-    );
-    print_picked(page, r);
-}
-
-// The first three of n timetables.
-fn print_first(packages: &[u64], w: Week, t: &[u32], a: u32, n: u64) {
-    let end = least(n as usize, 3);
-    let mut k: usize = 0;
-    while k < end {
-        print_pick(packages, w, t, a, k as u64);
-        k += 1;
-    }
-}
-
-// How many there are, which is given back.
-fn print_count(c: Counted) -> u64 {
-    match c {
-        Counted::Count(n) => {
-            print(b" timetables ", n);
-            n
-        }
-        Counted::Refused(n) => {
-            print_refused(n);
-            0
-        }
-    }
-}
-
-fn print_timetables(packages: &[u64], w: Week, t: &[u32], a: u32) {
-    let c = engine::count(w.m, packages, w.optional, t, a, &mut [0u64; 65536]);
-    let n = print_count(c);
-    print_first(packages, w, t, a, n);
-}
-
-fn print_report(packages: &[u64], w: Week, t: &[u32], r: Report) {
-    let outcome = r.outcome;
-    match outcome {
-        Outcome::Answer(a) => {
-            print(b" answer ", a as u64);
-            print(b" nodes ", r.made as u64);
-            print(b" steps ", r.steps as u64);
-            print_timetables(packages, w, t, a)
-        }
-        Outcome::Refused(n) => print_refused(n),
-    }
-}
-
-// Cover on a table of 65,534 nodes, and in at most the working words of a memo of 65,521 places (a prime, as in table1_demo).
+// Cover in the plain order of all items.
 fn run(packages: &[u64], w: Week) {
-    let mut t = [0u32; 196603];
-    let mut work = [0u64; 262084];
-    let lent = least(w.words, 262084);
-    let report = engine::cover(
-        w.m,
-        packages,
-        w.optional,
-        &mut t,
-        w.d,
-        4294967295,
-        &mut work[0..lent],
-    );
-    print_report(packages, w, &t, report);
-    io::write_all(1, b"\n");
+    let order = exact_cover::plain_order();
+    let m = weeks::least(base::wide(w.m), 192);
+    weeks::run(packages, w, &order[0..m]);
 }
 
 // ---- small weeks
@@ -173,6 +44,7 @@ fn small(m: u32, optional: Items, d: Items) -> Week {
         optional,
         d,
         words: 256,
+        shown: 3,
     }
 }
 
@@ -233,15 +105,27 @@ fn weeks() {
 
 // ---- one set throughout
 
+// The items of three in the plain order.
+const ORDER: [u8; 3] = [0, 1, 2];
+
 // The answer "0 1" of the two packages, counted with these items optional. Where item 0 is compulsory, package 1 comes first, and the table is not sound.
 fn count_with(name: &[u8], optional: Items) {
     io::write_all(1, name);
     let packages = LATE;
     let mut t = [0u32; 7];
     let mut work = [0u64; 256];
-    engine::cover(3, &packages, low(1), &mut t, low(7), 4294967295, &mut work);
-    let c = engine::count(3, &packages, optional, &t, 3, &mut work);
-    print_count(c);
+    engine::cover(
+        3,
+        &packages,
+        low(1),
+        &ORDER,
+        &mut t,
+        low(7),
+        4294967295,
+        &mut work,
+    );
+    let c = engine::count(3, &packages, optional, &ORDER, &t, 3, &mut work);
+    weeks::print_count(c);
     io::write_all(1, b"\n");
 }
 
@@ -250,39 +134,31 @@ fn count_with(name: &[u8], optional: Items) {
 // No table: it has no room for the node that it says it has.
 const SPOILT: [u32; 1] = [1];
 
-fn print_outcome(o: Outcome) {
-    match o {
-        Outcome::Answer(a) => print(b" answer ", a as u64),
-        Outcome::Refused(n) => print_refused(n),
-    }
-}
-
-fn print_priced(r: Priced) {
-    match r {
-        Priced::Cheapest { packages, cost } => {
-            print(b" packages ", packages as u64);
-            print(b" cost ", cost as u64);
-        }
-        Priced::Refused(n) => print_refused(n),
-    }
-}
-
 fn refuse_cover(optional: Items) {
     let packages = SLOTS;
     let mut t = SPOILT;
-    let r = engine::cover(3, &packages, optional, &mut t, low(7), 6, &mut [0u64; 256]);
+    let r = engine::cover(
+        3,
+        &packages,
+        optional,
+        &ORDER,
+        &mut t,
+        low(7),
+        6,
+        &mut [0u64; 256],
+    );
     io::write_all(1, b" cover");
     let outcome = r.outcome;
-    print_outcome(outcome);
+    weeks::print_outcome(outcome);
 }
 
 fn refuse_without(optional: Items) {
     let packages = SLOTS;
     let mut t = SPOILT;
-    let r = engine::without(3, &packages, optional, &mut t, 1, 0, &mut [0u64; 2]);
+    let r = engine::without(3, &packages, optional, &ORDER, &mut t, 1, 0, &mut [0u64; 2]);
     io::write_all(1, b" without");
     let outcome = r.outcome;
-    print_outcome(outcome);
+    weeks::print_outcome(outcome);
 }
 
 // Three costs for the four packages.
@@ -293,6 +169,7 @@ fn refuse_cheapest(optional: Items) {
         3,
         &packages,
         optional,
+        &ORDER,
         &[0u16; 3],
         &t,
         1,
@@ -300,7 +177,7 @@ fn refuse_cheapest(optional: Items) {
         &mut [0u16; 4],
     );
     io::write_all(1, b" cheapest");
-    print_priced(r);
+    weeks::print_priced(r);
 }
 
 // 4 for the table and 3 for the costs come behind 29 and 30.
@@ -401,7 +278,7 @@ fn items(first: u32, end: u32, apart: u32) -> Items
 fn run_board(board: [u64; 300], n: usize, w: Week)
     requires { ⌜ n ≤ 100 ⌝ }
 {
-    print(b", packages ", n as u64);
+    weeks::print(b", packages ", n as u64);
     io::write_all(1, b":");
     run(&board[0..3 * n], w);
 }
@@ -412,9 +289,9 @@ fn queens(n: u32, m: u32, apart: u32)
     requires { ⌜ 0 < n ⌝ }
     requires { ⌜ apart < 192 ⌝ }
 {
-    print(b"queens ", n as u64);
-    print(b", items apart ", apart as u64);
-    print(b", M ", m as u64);
+    weeks::print(b"queens ", n as u64);
+    weeks::print(b", items apart ", apart as u64);
+    weeks::print(b", M ", m as u64);
     let mut board = [0u64; 300];
     let squares = put_queens(&mut board, n, apart);
     let w = Week {
@@ -422,6 +299,7 @@ fn queens(n: u32, m: u32, apart: u32)
         optional: items(2 * n, 6 * n - 2, apart),
         d: items(0, 6 * n - 2, apart),
         words: 262084,
+        shown: 3,
     };
     run_board(board, squares, w);
 }

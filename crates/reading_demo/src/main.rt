@@ -1,5 +1,5 @@
 // Runs the calls that read an answer on three tables made by hand, and prints what each gives. The page holds 9s before each call; its first five
-// words are printed after it.
+// words are printed after it. The items are lent in the plain order.
 //
 // The first table is Figure 1 of document 000: number 5 holds "0 2" and "1 4 2". The second holds chains over 66 packages: number j from 2 to 67
 // holds all 2^(j - 1) subsets of the last j - 1 packages, and number 67 + i the 2^i - 1 non-empty ones of the last i, for i from 1 to 65. The third is one path
@@ -287,7 +287,17 @@ fn costs(rest: usize) -> [u16; 5] {
 fn count(packages: &[u64], optional: Items, t: &[u32], c: Case) {
     let words = least(c.words, 264);
     let mut work = [7u64; 264];
-    let r = engine::count(c.m, packages, optional, t, c.answer, &mut work[0..words]);
+    let order = exact_cover::plain_order();
+    let m = least(base::wide(c.m), 192);
+    let r = engine::count(
+        c.m,
+        packages,
+        optional,
+        &order[0..m],
+        t,
+        c.answer,
+        &mut work[0..words],
+    );
     mark(b':');
     tell_counted(r);
 }
@@ -297,7 +307,18 @@ fn measure(packages: &[u64], optional: Items, t: &[u32], c: Case, k: u64) {
     mark(b':');
     let words = least(c.words, 264);
     let mut work = [7u64; 264];
-    let r = engine::measure(c.m, packages, optional, t, c.answer, k, &mut work[0..words]);
+    let order = exact_cover::plain_order();
+    let m = least(base::wide(c.m), 192);
+    let r = engine::measure(
+        c.m,
+        packages,
+        optional,
+        &order[0..m],
+        t,
+        c.answer,
+        k,
+        &mut work[0..words],
+    );
     tell_measured(r);
 }
 
@@ -317,10 +338,13 @@ fn pick(packages: &[u64], optional: Items, t: &[u32], c: Case, k: u64) {
     let room = least(c.page, 66);
     let mut work = [7u64; 264];
     let mut page = [9u16; 66];
+    let order = exact_cover::plain_order();
+    let m = least(base::wide(c.m), 192);
     let r = engine::pick(
         c.m,
         packages,
         optional,
+        &order[0..m],
         t,
         c.answer,
         k,
@@ -338,10 +362,13 @@ fn place(packages: &[u64], optional: Items, t: &[u32], c: Case, list: [u16; 66])
     mark(b':');
     let words = least(c.words, 264);
     let mut work = [7u64; 264];
+    let order = exact_cover::plain_order();
+    let m = least(base::wide(c.m), 192);
     let r = engine::place(
         c.m,
         packages,
         optional,
+        &order[0..m],
         t,
         c.answer,
         &list[0..n],
@@ -357,10 +384,13 @@ fn cheapest(packages: &[u64], optional: Items, t: &[u32], c: Case, costs: [u16; 
     let room = least(c.page, 66);
     let mut work = [7u64; 264];
     let mut page = [9u16; 66];
+    let order = exact_cover::plain_order();
+    let m = least(base::wide(c.m), 192);
     let r = engine::cheapest(
         c.m,
         packages,
         optional,
+        &order[0..m],
         &costs[0..n],
         t,
         c.answer,
@@ -474,10 +504,13 @@ fn on_path(c: Case) {
     let words = least(c.words, 514);
     let mut work = [7u64; 514];
     let mut page = [9u16; 512];
+    let order = exact_cover::plain_order();
+    let m = least(base::wide(c.m), 192);
     let r = engine::cheapest(
         c.m,
         &[1; 1536],
         NO_ITEMS,
+        &order[0..m],
         &[65535; 512],
         &t,
         c.answer,

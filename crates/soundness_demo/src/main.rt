@@ -90,6 +90,69 @@ fn optional(kind: u32) -> Items {
     }
 }
 
+// ---- the orders
+
+const REVERSED: u32 = 0;
+
+const REPEATED: u32 = 1;
+
+const SHORT: u32 = 2;
+
+const LONG: u32 = 3;
+
+const UNKNOWN: u32 = 4;
+
+const SINGLE: u32 = 5;
+
+const PLAIN: u32 = 6;
+
+// How many items are lent, and these, of each kind but the last.
+const ORDERS: [[u8; 8]; 6] = [
+    [6, 5, 4, 3, 2, 1, 0, 0],
+    [6, 0, 1, 2, 3, 4, 4, 0],
+    [5, 0, 1, 2, 3, 4, 0, 0],
+    [7, 0, 1, 2, 3, 4, 5, 6],
+    [6, 0, 1, 2, 3, 4, 6, 0],
+    [1, 0, 0, 0, 0, 0, 0, 0],
+];
+
+fn listed(kind: u32) -> [u8; 8] {
+    ORDERS[base::wide(kind) % 6]
+}
+
+// How many items are lent: in the plain order all m.
+fn lent(kind: u32, m: u32) -> usize
+    ensures { λ r. ⌜ r ≤ 192 ⌝ }
+{
+    let row = listed(kind);
+    if kind == PLAIN {
+        return least(m, 192);
+    }
+    least(row[0] as u32, 192)
+}
+
+// Item i of the order.
+fn item(kind: u32, i: u8) -> u8 {
+    let row = listed(kind);
+    if kind == PLAIN {
+        return i;
+    }
+    if i < 7 {
+        return row[i as usize + 1];
+    }
+    0
+}
+
+fn order(kind: u32) -> [u8; 192] {
+    let mut o = [0u8; 192];
+    let mut i: u8 = 0;
+    while i < 192 {
+        o[i as usize] = item(kind, i);
+        i += 1;
+    }
+    o
+}
+
 // ---- the tables
 
 const DIAGRAM: u32 = 0;
@@ -102,10 +165,12 @@ const LEAF: u32 = 3;
 
 const TWOS: u32 = 4;
 
-const FULL: u32 = 5;
+const TURNED: u32 = 5;
+
+const FULL: u32 = 6;
 
 // The first words of each kind but the last; zeros follow.
-const TABLES: [[u32; 16]; 5] = [
+const TABLES: [[u32; 16]; 6] = [
     // The diagram of figure 1: 2 is {2}; 3 is {4, 2}; 4 is {1, 4, 2}; 5 is {0, 2} and {1, 4, 2}. Room for one node more.
     [4, 2, 0, 1, 4, 0, 2, 1, 0, 3, 0, 4, 2, 0, 0, 0],
     [0, 0, 0, 0, 0, 0, 0, 0, 0, 0, 0, 0, 0, 0, 0, 0],
@@ -115,10 +180,12 @@ const TABLES: [[u32; 16]; 5] = [
     [1, 0, 0, 1, 0, 0, 0, 0, 0, 0, 0, 0, 0, 0, 0, 0],
     // No table in 4 words: n is above the capacity.
     [2, 2, 2, 2, 0, 0, 0, 0, 0, 0, 0, 0, 0, 0, 0, 0],
+    // The diagram in the order 5 4 3 2 1 0: 2 is {1}; 3 is {4, 1}; 4 is {0} and {4, 1}; 5 is {2, 0} and {2, 4, 1}.
+    [4, 1, 0, 1, 4, 0, 2, 0, 3, 1, 2, 0, 4, 0, 0, 0],
 ];
 
 fn first(kind: u32) -> [u32; 16] {
-    TABLES[base::wide(kind) % 5]
+    TABLES[base::wide(kind) % 6]
 }
 
 // Word i of a table of another kind.
@@ -168,69 +235,81 @@ fn part(i: u32, k: u32, label: u32, width: u32) -> u32
 // No word is changed: it is behind the last.
 const NONE: u32 = 196613;
 
-// M; how many packages, and of which kind; which items are optional; how many words, and of which table; the word that is changed in it, and what it becomes.
-const CASES: [[u32; 8]; 48] = [
-    [6, 5, FIGURE, NO_ITEM, 16, DIAGRAM, NONE, 0],
-    [6, 5, FIGURE, NO_ITEM, 16, ZEROS, NONE, 0],
-    [6, 5, FIGURE, NO_ITEM, 1, ZEROS, NONE, 0],
-    [6, 5, FIGURE, NO_ITEM, 0, DIAGRAM, NONE, 0],
-    [6, 5, FIGURE, NO_ITEM, 10, TWICE, NONE, 0],
+// M; how many packages, and of which kind; which items are optional; which order is lent; how many words, and of which table; the word that is changed in it, and what it becomes.
+const CASES: [[u32; 9]; 59] = [
+    [6, 5, FIGURE, NO_ITEM, PLAIN, 16, DIAGRAM, NONE, 0],
+    [6, 5, FIGURE, NO_ITEM, PLAIN, 16, ZEROS, NONE, 0],
+    [6, 5, FIGURE, NO_ITEM, PLAIN, 1, ZEROS, NONE, 0],
+    [6, 5, FIGURE, NO_ITEM, PLAIN, 0, DIAGRAM, NONE, 0],
+    [6, 5, FIGURE, NO_ITEM, PLAIN, 10, TWICE, NONE, 0],
     // Each clause broken once. n above the nodes written, above the capacity, of 32 bits, and below the nodes.
-    [6, 5, FIGURE, NO_ITEM, 16, DIAGRAM, 0, 5],
-    [6, 5, FIGURE, NO_ITEM, 16, DIAGRAM, 0, 6],
-    [6, 5, FIGURE, NO_ITEM, 16, DIAGRAM, 0, 4294967295],
-    [6, 5, FIGURE, NO_ITEM, 16, DIAGRAM, 0, 3],
+    [6, 5, FIGURE, NO_ITEM, PLAIN, 16, DIAGRAM, 0, 5],
+    [6, 5, FIGURE, NO_ITEM, PLAIN, 16, DIAGRAM, 0, 6],
+    [6, 5, FIGURE, NO_ITEM, PLAIN, 16, DIAGRAM, 0, 4294967295],
+    [6, 5, FIGURE, NO_ITEM, PLAIN, 16, DIAGRAM, 0, 3],
     // Label N.
-    [6, 5, FIGURE, NO_ITEM, 16, DIAGRAM, 1, 5],
+    [6, 5, FIGURE, NO_ITEM, PLAIN, 16, DIAGRAM, 1, 5],
     // lo the node itself, and a later number.
-    [6, 5, FIGURE, NO_ITEM, 16, DIAGRAM, 11, 5],
-    [6, 5, FIGURE, NO_ITEM, 16, DIAGRAM, 11, 6],
+    [6, 5, FIGURE, NO_ITEM, PLAIN, 16, DIAGRAM, 11, 5],
+    [6, 5, FIGURE, NO_ITEM, PLAIN, 16, DIAGRAM, 11, 6],
     // hi the node itself, and 0.
-    [6, 5, FIGURE, NO_ITEM, 16, DIAGRAM, 12, 5],
-    [6, 5, FIGURE, NO_ITEM, 16, DIAGRAM, 12, 0],
+    [6, 5, FIGURE, NO_ITEM, PLAIN, 16, DIAGRAM, 12, 5],
+    [6, 5, FIGURE, NO_ITEM, PLAIN, 16, DIAGRAM, 12, 0],
     // lo with the same label, and an earlier one; hi with an earlier label.
-    [6, 5, FIGURE, NO_ITEM, 16, DIAGRAM, 10, 1],
-    [6, 5, FIGURE, NO_ITEM, 16, DIAGRAM, 10, 2],
-    [6, 5, FIGURE, NO_ITEM, 16, DIAGRAM, 7, 2],
+    [6, 5, FIGURE, NO_ITEM, PLAIN, 16, DIAGRAM, 10, 1],
+    [6, 5, FIGURE, NO_ITEM, PLAIN, 16, DIAGRAM, 10, 2],
+    [6, 5, FIGURE, NO_ITEM, PLAIN, 16, DIAGRAM, 7, 2],
     // A nonzero word behind the last node, and at the end.
-    [6, 5, FIGURE, NO_ITEM, 16, DIAGRAM, 13, 1],
-    [6, 5, FIGURE, NO_ITEM, 16, DIAGRAM, 14, 1],
-    [6, 5, FIGURE, NO_ITEM, 16, DIAGRAM, 15, 1],
+    [6, 5, FIGURE, NO_ITEM, PLAIN, 16, DIAGRAM, 13, 1],
+    [6, 5, FIGURE, NO_ITEM, PLAIN, 16, DIAGRAM, 14, 1],
+    [6, 5, FIGURE, NO_ITEM, PLAIN, 16, DIAGRAM, 15, 1],
     // Refusals 1 and 2 come before 4, and 1 before 2. Label 511 is the last that 512 packages have.
-    [192, 1, HIGHEST, NO_ITEM, 4, LEAF, NONE, 0],
-    [193, 1, HIGHEST, NO_ITEM, 4, LEAF, NONE, 0],
-    [193, 1, EMPTY, NO_ITEM, 4, TWOS, NONE, 0],
-    [1, 512, ONES, NO_ITEM, 4, LEAF, 1, 511],
-    [1, 513, ONES, NO_ITEM, 4, LEAF, 1, 511],
-    [1, 513, EMPTY, NO_ITEM, 4, TWOS, NONE, 0],
-    [6, 3, GAP, NO_ITEM, 4, TWOS, NONE, 0],
-    [6, 3, STRAY, NO_ITEM, 4, TWOS, NONE, 0],
-    [7, 3, STRAY, NO_ITEM, 4, TWOS, NONE, 0],
-    [0, 0, EMPTY, NO_ITEM, 4, ZEROS, NONE, 0],
-    [0, 1, ONES, NO_ITEM, 4, ZEROS, NONE, 0],
+    [192, 1, HIGHEST, NO_ITEM, PLAIN, 4, LEAF, NONE, 0],
+    [193, 1, HIGHEST, NO_ITEM, PLAIN, 4, LEAF, NONE, 0],
+    [193, 1, EMPTY, NO_ITEM, PLAIN, 4, TWOS, NONE, 0],
+    [1, 512, ONES, NO_ITEM, PLAIN, 4, LEAF, 1, 511],
+    [1, 513, ONES, NO_ITEM, PLAIN, 4, LEAF, 1, 511],
+    [1, 513, EMPTY, NO_ITEM, PLAIN, 4, TWOS, NONE, 0],
+    [6, 3, GAP, NO_ITEM, PLAIN, 4, TWOS, NONE, 0],
+    [6, 3, STRAY, NO_ITEM, PLAIN, 4, TWOS, NONE, 0],
+    [7, 3, STRAY, NO_ITEM, PLAIN, 4, TWOS, NONE, 0],
+    [0, 0, EMPTY, NO_ITEM, PLAIN, 4, ZEROS, NONE, 0],
+    [0, 1, ONES, NO_ITEM, PLAIN, 4, ZEROS, NONE, 0],
     // A table of 65,534 nodes, in a slice that is just long enough and in longer ones. A scan of the table for each node would take seconds.
-    [1, 512, ONES, NO_ITEM, 196603, FULL, NONE, 0],
-    [1, 512, ONES, NO_ITEM, 196602, FULL, NONE, 0],
-    [1, 512, ONES, NO_ITEM, 196613, FULL, NONE, 0],
-    [1, 512, ONES, NO_ITEM, 196613, FULL, 196612, 7],
-    [1, 512, ONES, NO_ITEM, 196613, FULL, 0, 65535],
-    [1, 512, ONES, NO_ITEM, 196613, FULL, 0, 65533],
-    [1, 512, ONES, NO_ITEM, 196613, FULL, 196602, 254],
+    [1, 512, ONES, NO_ITEM, PLAIN, 196603, FULL, NONE, 0],
+    [1, 512, ONES, NO_ITEM, PLAIN, 196602, FULL, NONE, 0],
+    [1, 512, ONES, NO_ITEM, PLAIN, 196613, FULL, NONE, 0],
+    [1, 512, ONES, NO_ITEM, PLAIN, 196613, FULL, 196612, 7],
+    [1, 512, ONES, NO_ITEM, PLAIN, 196613, FULL, 0, 65535],
+    [1, 512, ONES, NO_ITEM, PLAIN, 196613, FULL, 0, 65533],
+    [1, 512, ONES, NO_ITEM, PLAIN, 196613, FULL, 196602, 254],
     // A table is sound by the lowest compulsory items. 29 comes behind 1 and 2, 30 behind 29, and 4 behind both.
-    [6, 5, FIGURE, ITEM_4, 16, DIAGRAM, NONE, 0],
-    [6, 5, FIGURE, ITEM_2, 16, DIAGRAM, NONE, 0],
-    [6, 5, FIGURE, ITEMS_2_4, 16, DIAGRAM, NONE, 0],
-    [6, 5, FIGURE, ITEMS_2_4, 16, DIAGRAM, 0, 5],
-    [6, 5, FIGURE, ITEMS_2_4_6, 16, DIAGRAM, 0, 5],
-    [7, 5, FIGURE, ITEMS_2_4_6, 16, DIAGRAM, 0, 5],
-    [6, 3, STRAY, ITEMS_2_4_6, 16, DIAGRAM, 0, 5],
-    [192, 5, FIGURE, ITEM_191, 16, DIAGRAM, NONE, 0],
-    [191, 5, FIGURE, ITEM_191, 16, DIAGRAM, NONE, 0],
-    [193, 5, FIGURE, ITEM_191, 16, DIAGRAM, NONE, 0],
+    [6, 5, FIGURE, ITEM_4, PLAIN, 16, DIAGRAM, NONE, 0],
+    [6, 5, FIGURE, ITEM_2, PLAIN, 16, DIAGRAM, NONE, 0],
+    [6, 5, FIGURE, ITEMS_2_4, PLAIN, 16, DIAGRAM, NONE, 0],
+    [6, 5, FIGURE, ITEMS_2_4, PLAIN, 16, DIAGRAM, 0, 5],
+    [6, 5, FIGURE, ITEMS_2_4_6, PLAIN, 16, DIAGRAM, 0, 5],
+    [7, 5, FIGURE, ITEMS_2_4_6, PLAIN, 16, DIAGRAM, 0, 5],
+    [6, 3, STRAY, ITEMS_2_4_6, PLAIN, 16, DIAGRAM, 0, 5],
+    [192, 5, FIGURE, ITEM_191, PLAIN, 16, DIAGRAM, NONE, 0],
+    [191, 5, FIGURE, ITEM_191, PLAIN, 16, DIAGRAM, NONE, 0],
+    [193, 5, FIGURE, ITEM_191, PLAIN, 16, DIAGRAM, NONE, 0],
+    // 34 comes behind 30, and 4 behind it. A table is sound by the items that come first in the order.
+    [6, 5, FIGURE, NO_ITEM, REPEATED, 16, DIAGRAM, NONE, 0],
+    [6, 5, FIGURE, NO_ITEM, SHORT, 16, DIAGRAM, NONE, 0],
+    [6, 5, FIGURE, NO_ITEM, LONG, 16, DIAGRAM, NONE, 0],
+    [6, 5, FIGURE, NO_ITEM, UNKNOWN, 16, DIAGRAM, NONE, 0],
+    [0, 0, EMPTY, NO_ITEM, PLAIN, 4, ZEROS, NONE, 0],
+    [0, 0, EMPTY, NO_ITEM, SINGLE, 4, ZEROS, NONE, 0],
+    [6, 5, FIGURE, ITEMS_2_4, REPEATED, 16, DIAGRAM, NONE, 0],
+    [6, 5, FIGURE, NO_ITEM, REPEATED, 16, DIAGRAM, 0, 5],
+    [6, 5, FIGURE, NO_ITEM, REVERSED, 16, DIAGRAM, NONE, 0],
+    [6, 5, FIGURE, NO_ITEM, REVERSED, 16, TURNED, NONE, 0],
+    [6, 5, FIGURE, NO_ITEM, PLAIN, 16, TURNED, NONE, 0],
 ];
 
 // What the cases are called, a line for each.
-const NAMES: [u8; 971] = *b"the diagram of figure 1
+const NAMES: [u8; 1328] = *b"the diagram of figure 1
 all zeros
 one word
 no word
@@ -278,20 +357,31 @@ an item of M optional and in a package
 item 191 optional with M 192
 item 191 optional with M 191
 item 191 optional with M 193
+an item twice in the order
+the order one item short
+the order one item too long
+an item of M in the order
+M 0 and an empty order
+M 0 and an item in the order
+a package of optional items and an item twice in the order
+an item twice in the order and word 0 set to 5
+figure 1 in the reversed order
+the diagram of the reversed order
+the same in the plain order
 ";
 
 // Word i of the table of this case.
-fn word(c: [u32; 8], i: u32) -> u32 {
-    if i == c[6] {
-        return c[7];
+fn word(c: [u32; 9], i: u32) -> u32 {
+    if i == c[7] {
+        return c[8];
     }
-    if c[5] == FULL {
+    if c[6] == FULL {
         return full(i);
     }
-    small(c[5], base::wide(i))
+    small(c[6], base::wide(i))
 }
 
-fn table(c: [u32; 8]) -> [u32; 196613] {
+fn table(c: [u32; 9]) -> [u32; 196613] {
     let mut t = [0u32; 196613];
     let mut i: u32 = 0;
     while i < 196613 {
@@ -312,12 +402,20 @@ fn least(x: u32, y: usize) -> usize
     y
 }
 
-fn check(c: [u32; 8]) -> Soundness {
+fn check(c: [u32; 9]) -> Soundness {
     let p = packages(c[2]);
     let t = table(c);
     let n = least(c[1], 513);
-    let words = least(c[4], 196613);
-    engine::check(c[0], &p[0..3 * n], optional(c[3]), &t[0..words])
+    let order = order(c[4]);
+    let items = lent(c[4], c[0]);
+    let words = least(c[5], 196613);
+    engine::check(
+        c[0],
+        &p[0..3 * n],
+        optional(c[3]),
+        &order[0..items],
+        &t[0..words],
+    )
 }
 
 // 0 for sound, or the number of the refusal.
@@ -328,8 +426,8 @@ fn number(s: Soundness) -> u64 {
     }
 }
 
-fn row(i: usize) -> [u32; 8] {
-    CASES[i % 48]
+fn row(i: usize) -> [u32; 9] {
+    CASES[i % 59]
 }
 
 fn answer(i: usize) {
@@ -340,7 +438,7 @@ fn answer(i: usize) {
 }
 
 fn letter(i: usize) -> u8 {
-    NAMES[i % 971]
+    NAMES[i % 1328]
 }
 
 fn mark(c: u8) {
@@ -351,7 +449,7 @@ fn mark(c: u8) {
 fn main() {
     let mut i: usize = 0;
     let mut at: usize = 0;
-    while at < 971 {
+    while at < 1328 {
         let c = letter(at);
         at += 1;
         if c != b'\n' {

@@ -1,4 +1,5 @@
-// Three instances of document 000's Table 1, covered and counted by the public calls: nodes made, steps, timetables.
+// Three instances of document 000's Table 1, covered and counted by the public calls in the plain order of the items: nodes made, steps, timetables.
+ghost use Prim.Native.Nat.{_≤_};
 use itemset::Items;
 use statement::Counted;
 use statement::Outcome;
@@ -70,10 +71,17 @@ fn print_count(c: Counted) {
 }
 
 // How many timetables the answer has; or the refusal of cover.
-fn print_timetables(m: u32, packages: &[u64], t: &[u32], work: &mut [u64], outcome: Outcome) {
+fn print_timetables(
+    m: u32,
+    packages: &[u64],
+    order: &[u8],
+    t: &[u32],
+    work: &mut [u64],
+    outcome: Outcome,
+) {
     match outcome {
         Outcome::Answer(a) => {
-            let c = engine::count(m, packages, NO_ITEMS, t, a, work);
+            let c = engine::count(m, packages, NO_ITEMS, order, t, a, work);
             print_count(c)
         }
         Outcome::Refused(n) => print(b" refused ", n as u64),
@@ -81,15 +89,28 @@ fn print_timetables(m: u32, packages: &[u64], t: &[u32], work: &mut [u64], outco
 }
 
 // All m items are covered on a table of 65,534 nodes, with a memo of 65,521 places (a prime: item sets share their low bits).
-fn run(name: &[u8], m: u32, packages: &[u64]) {
+fn run(name: &[u8], m: u32, packages: &[u64])
+    requires { ⌜ m ≤ 192 ⌝ }
+{
+    let plain = exact_cover::plain_order();
+    let order = &plain[0..m as usize];
     let mut t = [0u32; 196603];
     let mut work = [0u64; 262084];
     let items = itemset::all_below(m);
-    let report = engine::cover(m, packages, NO_ITEMS, &mut t, items, 4294967295, &mut work);
+    let report = engine::cover(
+        m,
+        packages,
+        NO_ITEMS,
+        order,
+        &mut t,
+        items,
+        4294967295,
+        &mut work,
+    );
     print_word(name, report.made);
     print_word(b" steps ", report.steps);
     let outcome = report.outcome;
-    print_timetables(m, packages, &t, &mut work, outcome);
+    print_timetables(m, packages, order, &t, &mut work, outcome);
     io::write_all(1, b"\n");
 }
 

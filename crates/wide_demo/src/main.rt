@@ -1,5 +1,5 @@
-// Weeks of up to 192 items by the public calls: sets that reach over all three words, the limits of M, D, packages and working words, and dominoes on more cells
-// than one word has. A line gives nodes made, steps and timetables, or the refusal of cover.
+// Weeks of up to 192 items by the public calls, in the plain order: sets that reach over all three words, the limits of M, D, packages and working words, and
+// dominoes on more cells than one word has. A line gives nodes made, steps and timetables, or the refusal of cover.
 ghost use Prim.Native.Nat.{_+_, _*_, _≤_, _<_};
 ghost use lib.ListN.{length};
 use itemset::Items;
@@ -43,13 +43,13 @@ fn print_count(c: Counted) {
 }
 
 // What cover gave, and how many timetables the answer has.
-fn print_report(m: u32, packages: &[u64], t: &[u32], r: Report) {
+fn print_report(m: u32, packages: &[u64], order: &[u8], t: &[u32], r: Report) {
     let outcome = r.outcome;
     match outcome {
         Outcome::Answer(a) => {
             print(b" nodes ", r.made as u64);
             print(b" steps ", r.steps as u64);
-            let c = engine::count(m, packages, NO_ITEMS, t, a, &mut [0u64; 65536]);
+            let c = engine::count(m, packages, NO_ITEMS, order, t, a, &mut [0u64; 65536]);
             print_count(c)
         }
         Outcome::Refused(n) => print_refused(n),
@@ -57,7 +57,7 @@ fn print_report(m: u32, packages: &[u64], t: &[u32], r: Report) {
 }
 
 // Cover of d on a table of 65,534 nodes and in so many working words, at most those of a memo of 65,521 places (a prime, as in table1_demo).
-fn run(m: u32, packages: &[u64], d: Items, words: usize) {
+fn cover(m: u32, packages: &[u64], order: &[u8], d: Items, words: usize) {
     let mut t = [0u32; 196603];
     let mut work = [0u64; 262084];
     let lent = least(words, 262084);
@@ -65,13 +65,21 @@ fn run(m: u32, packages: &[u64], d: Items, words: usize) {
         m,
         packages,
         NO_ITEMS,
+        order,
         &mut t,
         d,
         4294967295,
         &mut work[0..lent],
     );
-    print_report(m, packages, &t, report);
+    print_report(m, packages, order, &t, report);
     io::write_all(1, b"\n");
+}
+
+// The same, in the plain order of all m items; of more than 192 there is none.
+fn run(m: u32, packages: &[u64], d: Items, words: usize) {
+    let order = exact_cover::plain_order();
+    let lent = least(base::wide(m), 192);
+    cover(m, packages, &order[0..lent], d, words);
 }
 
 // All items of the packages.

@@ -4,10 +4,10 @@ use Rattle.soundness_demo.proofs.main.Statement.{statement}
 use Rattle.soundness_demo.proofs.main.Tie as tie
 
 abbrev Inv-loop : tie.InvT-loop
-Inv-loop i₀ at₀ i at = (i ≤ at) × (at ≤ 971)
+Inv-loop i₀ at₀ i at = (i ≤ at) × (at ≤ 1328)
 
 abbrev μ-loop : tie.MeasureT-loop
-μ-loop i₀ at₀ i at = 971 - at
+μ-loop i₀ at₀ i at = 1328 - at
 
 pub main-spec : {M : Type 1} → statement M
 main-spec =

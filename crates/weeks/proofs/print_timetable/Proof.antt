@@ -1,7 +1,7 @@
 use Prim.Native.Nat.{_-_, _≤_}
 use borrow.Author.Needs.{needs}
-use Rattle.optional_demo.proofs.print_timetable.Statement.{statement}
-use Rattle.optional_demo.proofs.print_timetable.Tie as tie
+use Rattle.weeks.proofs.print_timetable.Statement.{statement}
+use Rattle.weeks.proofs.print_timetable.Tie as tie
 
 abbrev Inv-loop : tie.InvT-loop
 Inv-loop n page end i₀ t7 i = i ≤ end
