@@ -1,11 +1,12 @@
 //! Random and damaged bids files.
 
+use crate::calls::Outcomes;
 use crate::ffi;
 use crate::model::{fnv, lent, read_bids};
 use crate::rng::Rng;
 
 /// Reads a few files, and counts the outcomes.
-pub fn some_files(rng: &mut Rng, outcomes: &mut [u64; 32]) -> u64 {
+pub fn some_files(rng: &mut Rng, outcomes: &mut Outcomes) -> u64 {
     let files = 12;
     for _ in 0..files {
         let file = random_file(rng);

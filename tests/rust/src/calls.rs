@@ -10,6 +10,10 @@ const MOST: u64 = 9;
 /// The greatest number of steps that the model counts.
 const STEPS: u64 = 20_000;
 
+/// How often each number was said, 0 for an answer.
+pub type Outcomes = [u64; 40];
+pub const NO_OUTCOME: Outcomes = [0; 40];
+
 /// What the calls of a history are lent besides the table.
 #[derive(Clone)]
 struct Lent {
@@ -18,15 +22,16 @@ struct Lent {
     /// The packages as they are lent: words that do not make up a package may follow.
     words: Vec<u64>,
     optional: Set,
+    order: Vec<u8>,
 }
 
 impl Lent {
     fn model(&self) -> Week<'_> {
-        Week::new(self.m, &self.sets, self.optional)
+        Week::new(self.m, &self.sets, self.optional, &self.order)
     }
 
     fn week(&self) -> ffi::Week<'_> {
-        ffi::Week { m: self.m, packages: &self.words, optional: &self.optional.0 }
+        ffi::Week { m: self.m, packages: &self.words, optional: &self.optional.0, order: &self.order }
     }
 }
 
@@ -43,7 +48,7 @@ pub struct History {
     /// Whether operands are, but for a few, answers given, as in document 01's histories; otherwise they are any numbers of the table.
     strict: bool,
     pub calls: u64,
-    pub outcomes: [u64; 32],
+    pub outcomes: Outcomes,
 }
 
 /// What a call that makes an answer should say.
@@ -68,9 +73,10 @@ impl History {
             words.extend((0..rng.from(1, 2)).map(|_| rng.next()).collect::<Vec<u64>>());
         }
         let optional = random_optional(&mut rng, m, &sets);
-        let lent = Lent { m, sets, words, optional };
+        let order = random_order(&mut rng, m, 60);
+        let lent = Lent { m, sets, words, optional, order };
         let (known, ledger, left) = (Vec::new(), Vec::new(), Vec::new());
-        let mut history = History { rng, lent, table, left, known, ledger, strict, calls: 0, outcomes: [0; 32] };
+        let mut history = History { rng, lent, table, left, known, ledger, strict, calls: 0, outcomes: NO_OUTCOME };
         history.learn();
         history
     }
@@ -105,7 +111,7 @@ impl History {
         self.outcomes[refusal as usize] += 1;
     }
 
-    /// 1, 2, 29, 30, 4, or 0.
+    /// 1, 2, 29, 30, 34, 4, or 0.
     fn first_refusal(&self) -> u32 {
         let s = self.lent.model();
         match s.refusal() {
@@ -478,15 +484,18 @@ impl History {
 
     // ---- damaged tables
 
-    /// Some calls on a table with words changed, or with another optional set than the table was made with; then all is put back.
+    /// Some calls on a table with words changed, or with another optional set or another order than the table was made with; then all is put back.
     fn damaged(&mut self) {
-        let (table, known, ledger, optional) = (self.table.clone(), self.known.clone(), self.ledger.clone(), self.lent.optional);
-        let what = self.rng.below(4);
-        if what != 0 && !self.table.is_empty() {
+        let (table, known, ledger, lent) = (self.table.clone(), self.known.clone(), self.ledger.clone(), self.lent.clone());
+        let what = self.rng.below(6);
+        if what > 1 && !self.table.is_empty() {
             self.change_words();
         }
-        if what < 2 {
+        if what == 0 || what == 2 {
             self.lent.optional = random_optional(&mut self.rng, self.lent.m, &self.lent.sets);
+        }
+        if what == 1 || what == 3 || self.rng.once_in(8) {
+            self.lent.order = random_order(&mut self.rng, self.lent.m, 4);
         }
         self.learn();
         self.ledger.clear();
@@ -503,7 +512,7 @@ impl History {
             }
         }
         self.check();
-        (self.table, self.known, self.ledger, self.lent.optional) = (table, known, ledger, optional);
+        (self.table, self.known, self.ledger, self.lent) = (table, known, ledger, lent);
     }
 
     /// Up to three words of a table that has some.
@@ -589,6 +598,37 @@ fn random_optional(rng: &mut Rng, m: u32, sets: &[Set]) -> Set {
         _ => {}
     }
     optional
+}
+
+/// An order of the items below m: often the plain one, or that reversed, or with two items exchanged, mostly any; once in `often` times it is spoilt.
+fn random_order(rng: &mut Rng, m: u32, often: u64) -> Vec<u8> {
+    let m = m.min(ITEMS) as usize;
+    let mut order: Vec<u8> = (0..m).map(|i| i as u8).collect();
+    match rng.below(8) {
+        0 | 1 => {}
+        2 => order.reverse(),
+        3 if m > 0 => order.swap(rng.below(m as u64) as usize, rng.below(m as u64) as usize),
+        _ => (1..m).for_each(|i| order.swap(i, rng.below(i as u64 + 1) as usize)),
+    }
+    if rng.once_in(often) {
+        spoil(rng, &mut order);
+    }
+    order
+}
+
+/// Makes a list of an order that, but for rare chance, is none: an item twice, an item of M or above, one item short or too many, none at all, or far too many.
+fn spoil(rng: &mut Rng, order: &mut Vec<u8>) {
+    let m = order.len() as u64;
+    let at = rng.below(m.max(1)) as usize;
+    match rng.below(7) {
+        0 if m > 0 => order[at] = rng.below(m) as u8,
+        1 if m > 0 => order[at] = rng.from(m, 255) as u8,
+        2 if m > 0 => drop(order.remove(at)),
+        3 => order.push(rng.below(m.max(1)) as u8),
+        4 => order.push(m as u8),
+        5 => order.clear(),
+        _ => order.extend((0..rng.from(1, 400)).map(|_| rng.next() as u8)),
+    }
 }
 
 /// M: mostly small, often next to where a word ends, rarely above the greatest.

@@ -1,6 +1,7 @@
 //! Edges that the random histories reach seldom or never: each M with the items around it, list lengths around a package and around the longest list, Figure 1
 //! over the words of a set with the memo's places counted out, 192 items one by one; 2^64 timetables, by two packages for each of 64 items; a timetable of 512
-//! packages at the greatest cost; and a table of 65534 nodes, whose last number is the one result that is not remembered. Optional items have theirs in optional.rs.
+//! packages at the greatest cost; and a table of 65534 nodes, whose last number is the one result that is not remembered. Optional items have
+//! theirs in optional.rs, orders in order.rs.
 
 use crate::ffi;
 use crate::model::{lent, Set, Week, ITEMS};
@@ -17,11 +18,12 @@ pub fn each_m() {
     for m in 0..=ITEMS + 1 {
         for i in [m.saturating_sub(1), m].into_iter().filter(|&i| i < ITEMS) {
             let set = Set::of([i]);
-            let refusal = Week::new(m, &[set], Set::NONE).refusal();
-            assert_eq!(ffi::check(ffi::Week::plain(m, &set.0), &[0]), refusal, "item {i} of {m}");
+            let week = ffi::Week::plain(m, &set.0);
+            let refusal = Week::new(m, &[set], Set::NONE, week.order).refusal();
+            assert_eq!(ffi::check(week, &[0]), refusal, "item {i} of {m}");
             let got = ffi::cover(ffi::Week::plain(m, &[]), &mut [0], &set.0, 9, &mut [0; 4]);
             assert_eq!(got.refusal, if refusal == 2 { 7 } else { refusal }, "item {i} of {m}");
-            let got = ffi::check(ffi::Week { m, packages: &[], optional: &set.0 }, &[0]);
+            let got = ffi::check(ffi::Week { optional: &set.0, ..ffi::Week::plain(m, &[]) }, &[0]);
             assert_eq!(got, if refusal == 2 { 29 } else { refusal }, "optional item {i} of {m}");
         }
     }
@@ -46,7 +48,8 @@ pub fn list_lengths() {
 fn figure_one_on(items: [u32; 6], steps: &[(usize, u64)]) {
     let sets = [&[0, 1, 2, 4][..], &[0, 1], &[3, 5], &[2, 3, 5], &[2, 4]].map(|pack| Set::of(pack.iter().map(|&i: &usize| items[i])));
     let (words, d, m) = (lent(&sets), Set::of(items), items[5] + 1);
-    let (model, week) = (Week::new(m, &sets, Set::NONE), ffi::Week::plain(m, &words));
+    let week = ffi::Week::plain(m, &words);
+    let model = Week::new(m, &sets, Set::NONE, week.order);
     let call = |nodes: usize, limit: u64, words_lent: usize| {
         let mut table = vec![0; 1 + 3 * nodes];
         (ffi::cover(week, &mut table, &d.0, limit as u32, &mut vec![5; words_lent]), table)

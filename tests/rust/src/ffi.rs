@@ -40,44 +40,55 @@ pub struct Week<'a> {
     /// Three words a package.
     pub packages: &'a [u64],
     pub optional: &'a [u64; 3],
+    /// Each item once.
+    pub order: &'a [u8],
 }
 
+/// 0 .. 191.
+static ITEMS: [u8; 192] = {
+    let mut all = [0; 192];
+    let mut i = 0;
+    while i < 192 {
+        all[i] = i as u8;
+        i += 1;
+    }
+    all
+};
+
 impl<'a> Week<'a> {
-    /// Without optional items.
+    /// Without optional items, in the order 0 .. m - 1; of an m above 192 the list is that of 192.
     pub fn plain(m: u32, packages: &'a [u64]) -> Week<'a> {
-        Week { m, packages, optional: &[0; 3] }
+        Week { m, packages, optional: &[0; 3], order: &ITEMS[..m.min(192) as usize] }
     }
 }
 
-type Combine = unsafe extern "C" fn(u32, *const u64, usize, *const u64, *mut u32, usize, u32, u32, *mut u64, usize) -> Report;
+type Combine = unsafe extern "C" fn(u32, *const u64, usize, *const u64, *const u8, usize, *mut u32, usize, u32, u32, *mut u64, usize) -> Report;
+
+/// Entries that take a week: the arguments that it stands for come first, then their own.
+macro_rules! entries {
+    ($($entry:ident($($own:ident: $type:ty),*) -> $result:ty;)*) => {
+        extern "C" {
+            $(fn $entry(m: u32, p: *const u64, pn: usize, o: *const u64, r: *const u8, rn: usize, $($own: $type),*) -> $result;)*
+        }
+    };
+}
+
+entries! {
+    mogedorn_check(t: *const u32, tn: usize) -> u32;
+    mogedorn_cover(t: *mut u32, tn: usize, d: *const u64, limit: u32, w: *mut u64, wn: usize) -> Report;
+    mogedorn_either(t: *mut u32, tn: usize, a: u32, b: u32, w: *mut u64, wn: usize) -> Report;
+    mogedorn_both(t: *mut u32, tn: usize, a: u32, b: u32, w: *mut u64, wn: usize) -> Report;
+    mogedorn_only(t: *mut u32, tn: usize, a: u32, b: u32, w: *mut u64, wn: usize) -> Report;
+    mogedorn_with(t: *mut u32, tn: usize, a: u32, k: u32, w: *mut u64, wn: usize) -> Report;
+    mogedorn_without(t: *mut u32, tn: usize, a: u32, k: u32, w: *mut u64, wn: usize) -> Report;
+    mogedorn_count(t: *const u32, tn: usize, a: u32, w: *mut u64, wn: usize) -> Number;
+    mogedorn_pick(t: *const u32, tn: usize, a: u32, k: u64, w: *mut u64, wn: usize, g: *mut u16, gn: usize) -> Timetable;
+    mogedorn_measure(t: *const u32, tn: usize, a: u32, k: u64, w: *mut u64, wn: usize) -> Number;
+    mogedorn_place(t: *const u32, tn: usize, a: u32, l: *const u16, ln: usize, w: *mut u64, wn: usize) -> Number;
+    mogedorn_cheapest(c: *const u16, cn: usize, t: *const u32, tn: usize, a: u32, w: *mut u64, wn: usize, g: *mut u16, gn: usize) -> Timetable;
+}
 
 extern "C" {
-    fn mogedorn_check(m: u32, p: *const u64, pn: usize, o: *const u64, t: *const u32, tn: usize) -> u32;
-    fn mogedorn_cover(m: u32, p: *const u64, pn: usize, o: *const u64, t: *mut u32, tn: usize, d: *const u64, limit: u32, w: *mut u64, wn: usize) -> Report;
-    fn mogedorn_either(m: u32, p: *const u64, pn: usize, o: *const u64, t: *mut u32, tn: usize, a: u32, b: u32, w: *mut u64, wn: usize) -> Report;
-    fn mogedorn_both(m: u32, p: *const u64, pn: usize, o: *const u64, t: *mut u32, tn: usize, a: u32, b: u32, w: *mut u64, wn: usize) -> Report;
-    fn mogedorn_only(m: u32, p: *const u64, pn: usize, o: *const u64, t: *mut u32, tn: usize, a: u32, b: u32, w: *mut u64, wn: usize) -> Report;
-    fn mogedorn_with(m: u32, p: *const u64, pn: usize, o: *const u64, t: *mut u32, tn: usize, a: u32, k: u32, w: *mut u64, wn: usize) -> Report;
-    fn mogedorn_without(m: u32, p: *const u64, pn: usize, o: *const u64, t: *mut u32, tn: usize, a: u32, k: u32, w: *mut u64, wn: usize) -> Report;
-    fn mogedorn_count(m: u32, p: *const u64, pn: usize, o: *const u64, t: *const u32, tn: usize, a: u32, w: *mut u64, wn: usize) -> Number;
-    fn mogedorn_pick(m: u32, p: *const u64, pn: usize, o: *const u64, t: *const u32, tn: usize, a: u32, k: u64, w: *mut u64, wn: usize, g: *mut u16, gn: usize) -> Timetable;
-    fn mogedorn_measure(m: u32, p: *const u64, pn: usize, o: *const u64, t: *const u32, tn: usize, a: u32, k: u64, w: *mut u64, wn: usize) -> Number;
-    fn mogedorn_place(m: u32, p: *const u64, pn: usize, o: *const u64, t: *const u32, tn: usize, a: u32, l: *const u16, ln: usize, w: *mut u64, wn: usize) -> Number;
-    fn mogedorn_cheapest(
-        m: u32,
-        p: *const u64,
-        pn: usize,
-        o: *const u64,
-        c: *const u16,
-        cn: usize,
-        t: *const u32,
-        tn: usize,
-        a: u32,
-        w: *mut u64,
-        wn: usize,
-        g: *mut u16,
-        gn: usize,
-    ) -> Timetable;
     fn mogedorn_all_items(m: u32, d: *mut u64);
     fn mogedorn_read_bids(f: *const u8, fnn: usize, p: *mut u64, pn: usize, c: *mut u16, cn: usize) -> Bids;
 }
@@ -85,7 +96,10 @@ extern "C" {
 /// A call of an entry, with the arguments that the week stands for.
 macro_rules! call {
     ($entry:expr, $week:ident, $($rest:expr),+) => {
-        unsafe { $entry($week.m, $week.packages.as_ptr(), $week.packages.len(), $week.optional.as_ptr(), $($rest),+) }
+        unsafe {
+            let (packages, order) = ($week.packages, $week.order);
+            $entry($week.m, packages.as_ptr(), packages.len(), $week.optional.as_ptr(), order.as_ptr(), order.len(), $($rest),+)
+        }
     };
 }
 

@@ -7,9 +7,10 @@ mod edge;
 mod ffi;
 mod model;
 mod optional;
+mod order;
 mod rng;
 
-use calls::History;
+use calls::{History, Outcomes, NO_OUTCOME};
 use rng::Rng;
 use std::panic;
 
@@ -30,6 +31,13 @@ fn edges() {
     optional::refusal_order();
     optional::few_places();
     optional::groups();
+    order::figure_one();
+    order::each_order();
+    order::another_order();
+    order::each_m();
+    order::no_items();
+    order::refusal_order();
+    order::one_by_one();
 }
 
 fn main() {
@@ -38,7 +46,7 @@ fn main() {
     let most = args.next().unwrap_or(120_000);
     edges();
     let (mut calls, mut files, mut seed) = (0, 0, first);
-    let mut outcomes = [0u64; 32];
+    let mut outcomes: Outcomes = NO_OUTCOME;
     while calls < most {
         let run = panic::catch_unwind(|| {
             let mut history = History::new(Rng(seed));
@@ -61,6 +69,6 @@ fn main() {
         seed += 1;
     }
     println!("{calls} calls in {} histories, {files} of them on bids files: no difference (seeds {first} to {})", seed - first, seed - 1);
-    let said: Vec<String> = (0..32).filter(|&i| outcomes[i] > 0).map(|i| format!("{i}: {}", outcomes[i])).collect();
+    let said: Vec<String> = (0..outcomes.len()).filter(|&i| outcomes[i] > 0).map(|i| format!("{i}: {}", outcomes[i])).collect();
     println!("outcomes (0: answered): {}", said.join(", "));
 }

@@ -24,16 +24,11 @@ impl Set {
     }
 
     pub fn has(self, i: u32) -> bool {
-        self.0[i as usize / 64] >> (i % 64) & 1 == 1
+        i < ITEMS && self.0[i as usize / 64] >> (i % 64) & 1 == 1
     }
 
     pub fn items(self) -> impl Iterator<Item = u32> {
         (0..ITEMS).filter(move |&i| self.has(i))
-    }
-
-    /// The least item; of the empty set the number that no item has.
-    pub fn lowest(self) -> u32 {
-        self.items().next().unwrap_or(ITEMS)
     }
 
     pub fn below(self, m: u32) -> bool {
@@ -116,18 +111,24 @@ pub struct Week<'a> {
     pub m: u32,
     pub sets: &'a [Set],
     pub optional: Set,
-    /// The lowest compulsory item of each package.
-    lowest: Vec<u32>,
+    pub order: &'a [u8],
+    /// Where the earliest compulsory item of each package stands in the order.
+    leads: Vec<Option<usize>>,
     /// The packages in precedence.
-    pub order: Vec<usize>,
+    precedence: Vec<usize>,
+}
+
+/// Where the earliest item of a set stands in an order that has one.
+fn earliest(order: &[u8], set: Set) -> Option<usize> {
+    order.iter().position(|&i| set.has(i as u32))
 }
 
 impl<'a> Week<'a> {
-    pub fn new(m: u32, sets: &'a [Set], optional: Set) -> Week<'a> {
-        let lowest: Vec<u32> = sets.iter().map(|s| s.without(optional).lowest()).collect();
-        let mut order: Vec<usize> = (0..sets.len()).collect();
-        order.sort_by_key(|&p| (lowest[p], p));
-        Week { m, sets, optional, lowest, order }
+    pub fn new(m: u32, sets: &'a [Set], optional: Set, order: &'a [u8]) -> Week<'a> {
+        let leads: Vec<Option<usize>> = sets.iter().map(|s| earliest(order, s.without(optional))).collect();
+        let mut precedence: Vec<usize> = (0..sets.len()).collect();
+        precedence.sort_by_key(|&p| (leads[p], p));
+        Week { m, sets, optional, order, leads, precedence }
     }
 
     pub fn n(&self) -> usize {
@@ -136,12 +137,12 @@ impl<'a> Week<'a> {
 
     /// p comes before q.
     pub fn before(&self, p: usize, q: usize) -> bool {
-        (self.lowest[p], p) < (self.lowest[q], q)
+        (self.leads[p], p) < (self.leads[q], q)
     }
 
     /// A timetable as it is written.
     pub fn written(&self, t: u32) -> Vec<u16> {
-        self.order.iter().filter(|&&p| p < 32 && t >> p & 1 == 1).map(|&p| p as u16).collect()
+        self.precedence.iter().filter(|&&p| p < 32 && t >> p & 1 == 1).map(|&p| p as u16).collect()
     }
 
     /// The listing of a set of timetables. "Of two timetables, find the first package in precedence that only one of them has: the one that has it is
@@ -149,7 +150,7 @@ impl<'a> Week<'a> {
     pub fn listing(&self, f: &Family) -> Vec<u32> {
         let mut all = f.members();
         all.sort_by(|&a, &b| {
-            for &p in &self.order {
+            for &p in &self.precedence {
                 let (x, y) = (a >> p & 1, b >> p & 1);
                 if x != y {
                     return y.cmp(&x);
@@ -190,8 +191,8 @@ impl<'a> Week<'a> {
 
     fn search(&self, a: Set, walk: &mut Walk) -> Family {
         walk.steps += 1;
-        let lowest = a.without(self.optional).lowest();
-        if lowest == ITEMS || walk.steps > walk.most {
+        let due = a.without(self.optional);
+        if due == Set::NONE || walk.steps > walk.most {
             return Family::empty_one(self.n());
         }
         let place = a.place(walk.memo.len());
@@ -199,10 +200,11 @@ impl<'a> Week<'a> {
             Some((known, f)) if *known == a => return f.clone(),
             _ => {}
         }
+        let lead = self.order[earliest(self.order, due).expect("an order of all items")] as u32;
         let mut f = Family::none(self.n());
         for p in (0..self.n()).rev() {
             let s = self.sets[p];
-            if s.has(lowest) && s.inside(a) {
+            if s.has(lead) && s.inside(a) {
                 let rest = self.search(a.without(s), walk);
                 rest.members().into_iter().for_each(|t| f.add(t | 1 << p));
             }
@@ -218,7 +220,7 @@ impl<'a> Week<'a> {
         }
         all.insert(f.clone());
         let members = f.members();
-        let first = *self.order.iter().find(|&&p| members.iter().any(|t| t >> p & 1 == 1)).unwrap();
+        let first = *self.precedence.iter().find(|&&p| members.iter().any(|t| t >> p & 1 == 1)).unwrap();
         let (mut hi, mut lo) = (Family::none(self.n()), Family::none(self.n()));
         for t in members {
             if t >> first & 1 == 1 {
@@ -238,7 +240,7 @@ impl<'a> Week<'a> {
         all.iter().filter(|b| !known.contains(b)).count() as u64
     }
 
-    /// 1 oversize, 2 stray, 29 optional item of M or above, 30 package without a compulsory item, or 0.
+    /// 1 oversize, 2 stray, 29 optional item of M or above, 30 package without a compulsory item, 34 order that is not each item just once, or 0.
     pub fn refusal(&self) -> u32 {
         if self.m > ITEMS || self.n() > 512 {
             return 1;
@@ -251,6 +253,10 @@ impl<'a> Week<'a> {
         }
         if self.sets.iter().any(|s| s.inside(self.optional)) {
             return 30;
+        }
+        let times = |i: u32| self.order.iter().filter(|&&j| j as u32 == i).count();
+        if self.order.len() != self.m as usize || (0..self.m).any(|i| times(i) != 1) {
+            return 34;
         }
         0
     }

@@ -4,7 +4,7 @@ use crate::ffi;
 use crate::model::{lent, Set, Week, ITEMS};
 
 /// The timetables of an answer, as pick writes them one after the other.
-fn listing(week: ffi::Week, table: &[u32], answer: u32) -> Vec<Vec<u16>> {
+pub fn listing(week: ffi::Week, table: &[u32], answer: u32) -> Vec<Vec<u16>> {
     let mut work = vec![0; answer as usize + 1];
     let count = ffi::count(week, table, answer, &mut work);
     assert_eq!(count.refusal, 0);
@@ -29,7 +29,8 @@ fn shared_slot_on([a, b, c]: [u32; 3]) {
     let sets = ways([a, b, c]);
     let (words, optional, d) = (lent(&sets), Set::of([c]), Set::of([a, b, c]));
     let m = a.max(b).max(c) + 1;
-    let (model, week) = (Week::new(m, &sets, optional), ffi::Week { m, packages: &words, optional: &optional.0 });
+    let week = ffi::Week { optional: &optional.0, ..ffi::Week::plain(m, &words) };
+    let model = Week::new(m, &sets, optional, week.order);
     assert_eq!(model.searched(d, 1009, 1000).1, 6, "the model's steps with many places");
     for places in (1..70).chain([1009]) {
         let (found, steps) = model.searched(d, places, 1000);
@@ -77,7 +78,7 @@ pub fn precedence() {
 pub fn nothing_compulsory() {
     let words = lent(&[Set::of([0, 70, 191]), Set::of([1, 2])]);
     let optional = Set::of([2, 5, 70, 191]);
-    let week = ffi::Week { m: ITEMS, packages: &words, optional: &optional.0 };
+    let week = ffi::Week { optional: &optional.0, ..ffi::Week::plain(ITEMS, &words) };
     for d in [Set::NONE, optional, Set::of([5]), Set::of([70]), Set::of([2, 191])] {
         let all = ffi::cover(week, &mut [0], &d.0, 1, &mut [0; 4]);
         assert_eq!(all, ffi::Report { refusal: 0, answer: 1, steps: 1, made: 0 }, "{d:?}");
@@ -86,7 +87,7 @@ pub fn nothing_compulsory() {
 }
 
 /// What each call refuses that is lent this week, a list with one cost, this table, and nothing else that would do. Cheapest comes last.
-fn refusals(week: ffi::Week, table: &[u32]) -> Vec<u32> {
+pub fn refusals(week: ffi::Week, table: &[u32]) -> Vec<u32> {
     let (t, unknown) = (&mut table.to_vec()[..], u32::MAX);
     let mut all = vec![ffi::check(week, t), ffi::cover(week, t, &[u64::MAX; 3], 0, &mut []).refusal];
     all.extend((0..5).map(|op| ffi::combine(op, week, t, unknown, unknown, &mut []).refusal));
@@ -103,7 +104,7 @@ fn refusals(week: ffi::Week, table: &[u32]) -> Vec<u32> {
 pub fn refusal_order() {
     let (stray, lost) = (lent(&[Set::of([0]), Set::of([64, 65])]), lent(&[Set::of([0]), Set::of([63])]));
     let (beyond, whole, part) = (Set::of([0, 64]).0, Set::of([0]).0, Set::of([1]).0);
-    let refused = |m: u32, packages: &[u64], optional: &[u64; 3]| refusals(ffi::Week { m, packages, optional }, &[1, 0, 0, 0]);
+    let refused = |m: u32, packages: &[u64], optional: &[u64; 3]| refusals(ffi::Week { optional, ..ffi::Week::plain(m, packages) }, &[1, 0, 0, 0]);
     assert_eq!(refused(193, &stray, &beyond), [1; 12]);
     assert_eq!(refused(64, &stray, &beyond), [2; 12]);
     assert_eq!(refused(64, &lost, &beyond), [29; 12]);
@@ -126,7 +127,8 @@ fn group(j: u32) -> [u32; 3] {
 pub fn few_places() {
     let sets = [ways(group(0)), ways(group(1))].concat();
     let (words, optional, d) = (lent(&sets), Set::of([group(0)[2], group(1)[2]]), Set::of(0..6));
-    let (model, week) = (Week::new(6, &sets, optional), ffi::Week { m: 6, packages: &words, optional: &optional.0 });
+    let week = ffi::Week { optional: &optional.0, ..ffi::Week::plain(6, &words) };
+    let model = Week::new(6, &sets, optional, week.order);
     for places in 1..200 {
         let got = ffi::cover(week, &mut [0; 1 + 3 * 8], &d.0, u32::MAX, &mut vec![5; 4 * places]);
         assert_eq!((got.refusal, got.steps as u64, got.made), (0, model.searched(d, places, 1000).1, 8), "{places} places");
@@ -139,7 +141,7 @@ pub fn groups() {
     const COVERED: u32 = 6;
     let words = lent(&(0..64).map(group).flat_map(ways).collect::<Vec<Set>>());
     let optional = Set::of((0..64).map(|j| group(j)[2]));
-    let week = ffi::Week { m: ITEMS, packages: &words, optional: &optional.0 };
+    let week = ffi::Week { optional: &optional.0, ..ffi::Week::plain(ITEMS, &words) };
     let d = Set::of((0..COVERED).flat_map(|i| group(i * 63 / (COVERED - 1))));
     let mut table = vec![0; 1 + 3 * 4 * COVERED as usize];
     let mut work = vec![3; 4 * 65521];
