@@ -1,5 +1,5 @@
-/* The same search over CUDD's ZDDs, as Debian's libbrial carries them: variable v is the package at place v in precedence. Nodes are made in CUDD's unique
-   table directly, so that nothing but the tables differs. */
+/* The same search over CUDD's ZDDs, as Debian's libbrial carries them, in the plain order of the items: variable v is the package at place v in precedence.
+   Nodes are made in CUDD's unique table directly, so that nothing but the tables differs. */
 #include <stdint.h>
 #include <stdio.h>
 #include <stdlib.h>

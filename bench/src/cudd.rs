@@ -1,4 +1,4 @@
-//! CUDD's ZDDs, through cudd.c.
+//! CUDD's ZDDs, through cudd.c; the items are in the plain order.
 
 use std::ffi::c_void;
 

@@ -1,4 +1,5 @@
-//! The library's algorithm written by hand in Rust, on item sets of 192 bits as well: every call checks the lent table and builds the index, then works.
+//! The library's algorithm written by hand in Rust, on item sets of 192 bits and in a lent order of the items as well: every call checks the lent table and
+//! builds the index, then works.
 
 /// A set of at most 192 items: item i is bit i % 64 of word i / 64.
 #[derive(Clone, Copy, PartialEq, Eq)]
@@ -38,6 +39,15 @@ impl Items {
         self.without(whole).is_empty()
     }
 
+    fn or(self, more: Items) -> Items {
+        Items { w0: self.w0 | more.w0, w1: self.w1 | more.w1, w2: self.w2 | more.w2 }
+    }
+
+    fn single(i: u32) -> Items {
+        let word = |j: u32| if i / 64 == j { 1 << (i % 64) } else { 0 };
+        Items { w0: word(0), w1: word(1), w2: word(2) }
+    }
+
     fn lowest(self) -> u32 {
         if self.w0 != 0 {
             self.w0.trailing_zeros()
@@ -55,6 +65,44 @@ impl Items {
         }
         let next = |r: u64, w: u64| (((r as u128) << 64 | w as u128) % places as u128) as u64;
         next(next(self.w2 % places, self.w1), self.w0)
+    }
+}
+
+/// Where each item stands in the lent order. There the earliest item of a set is the lowest.
+struct Positions {
+    plain: bool,
+    of: [u8; 192],
+}
+
+impl Positions {
+    /// None where the order is not each item below m once.
+    fn new(m: u32, order: &[u8]) -> Option<Positions> {
+        if order.len() != m as usize {
+            return None;
+        }
+        let mut positions = Positions { plain: true, of: [255; 192] };
+        for (j, &i) in order.iter().enumerate() {
+            if i as u32 >= m || positions.of[i as usize] != 255 {
+                return None;
+            }
+            positions.of[i as usize] = j as u8;
+            positions.plain &= i as usize == j;
+        }
+        Some(positions)
+    }
+
+    /// The positions of the items of a set, as a set; in the plain order that is the set itself.
+    fn set(&self, x: Items) -> Items {
+        if self.plain {
+            return x;
+        }
+        let (mut rest, mut at) = (x, Items::of(&[0; 3]));
+        while !rest.is_empty() {
+            let i = rest.lowest();
+            at = at.or(Items::single(self.of[i as usize] as u32));
+            rest = rest.without(Items::single(i));
+        }
+        at
     }
 }
 
@@ -130,28 +178,50 @@ impl Index {
     }
 }
 
-fn admit(m: u32, packs: &[[u64; 3]], optional: Items, t: &[u32], keys: &mut [u32; 512], index: &mut Index) -> u32 {
-    if m > 192 || packs.len() > 512 {
-        return 1;
-    }
-    let all = Items::below(m);
-    let mut bare = false;
-    for (p, s) in packs.iter().map(Items::of).enumerate() {
-        if s.is_empty() || !s.inside(all) {
-            return 2;
+/// What every call on a table is lent besides it.
+#[derive(Clone, Copy)]
+pub struct Week<'a> {
+    pub m: u32,
+    pub packs: &'a [[u64; 3]],
+    pub optional: &'a [u64; 3],
+    pub order: &'a [u8],
+}
+
+impl Week<'_> {
+    /// 1, 2, 29 or 30.
+    fn packages_refusal(self) -> Option<u32> {
+        let (all, optional) = (Items::below(self.m), Items::of(self.optional));
+        if self.m > 192 || self.packs.len() > 512 {
+            return Some(1);
         }
-        let compulsory = s.without(optional);
-        bare |= compulsory.is_empty();
-        keys[p] = compulsory.lowest() * 512 + p as u32;
+        let mut bare = false;
+        for s in self.packs.iter().map(Items::of) {
+            if s.is_empty() || !s.inside(all) {
+                return Some(2);
+            }
+            bare |= s.inside(optional);
+        }
+        if !optional.inside(all) {
+            Some(29)
+        } else {
+            bare.then_some(30)
+        }
     }
-    if !optional.inside(all) {
-        29
-    } else if bare {
-        30
-    } else if !index.check(t, &keys[..packs.len()]) {
-        4
-    } else {
-        0
+
+    /// What every call tests first. It makes the keys and the index.
+    fn admit(self, t: &[u32], keys: &mut [u32; 512], index: &mut Index) -> Result<Positions, u32> {
+        if let Some(r) = self.packages_refusal() {
+            return Err(r);
+        }
+        let positions = Positions::new(self.m, self.order).ok_or(34u32)?;
+        let optional = Items::of(self.optional);
+        for (p, s) in self.packs.iter().map(Items::of).enumerate() {
+            keys[p] = positions.set(s.without(optional)).lowest() * 512 + p as u32;
+        }
+        if !index.check(t, &keys[..self.packs.len()]) {
+            return Err(4);
+        }
+        Ok(positions)
     }
 }
 
@@ -200,12 +270,14 @@ impl Memo<'_> {
     }
 }
 
+/// All but the memo's places is in positions of the order: there item stands for position.
 struct Search<'a> {
     packs: &'a [[u64; 3]],
     optional: Items,
     /// The packages by lowest compulsory item: 193 heads, and from 194 on the next one of each package.
     leads: [u16; 706],
-    /// The packages' places in the memo. What a package leaves of a set has its place by one subtraction, so that no step divides.
+    /// The packages' places in the memo, by their items as they are lent. What a package leaves of a set has its place by one subtraction, so that no step
+    /// divides.
     homes: [u64; 512],
     t: &'a mut [u32],
     index: &'a mut Index,
@@ -217,12 +289,12 @@ struct Search<'a> {
 }
 
 impl Search<'_> {
-    fn enlist(&mut self) {
+    fn enlist(&mut self, lent: &[[u64; 3]]) {
         for (p, set) in self.packs.iter().map(Items::of).enumerate() {
             let low = set.without(self.optional).lowest() as usize;
             self.leads[194 + p] = self.leads[low];
             self.leads[low] = p as u16 + 1;
-            self.homes[p] = set.place(self.memo.places as u64);
+            self.homes[p] = Items::of(&lent[p]).place(self.memo.places as u64);
         }
     }
 
@@ -281,17 +353,24 @@ fn rollback(t: &mut [u32], n: u32) {
     t[0] = n;
 }
 
+/// The packages in positions.
+fn permuted(packs: &[[u64; 3]], positions: &Positions) -> [[u64; 3]; 512] {
+    let mut all = [[0; 3]; 512];
+    for (to, pack) in all.iter_mut().zip(packs) {
+        let Items { w0, w1, w2 } = positions.set(Items::of(pack));
+        *to = [w0, w1, w2];
+    }
+    all
+}
+
 /// The answer and the steps, or a refusal.
 #[inline(never)]
 #[no_mangle]
-pub fn hand_cover(m: u32, packs: &[[u64; 3]], optional: &[u64; 3], t: &mut [u32], d: &[u64; 3], limit: u32, work: &mut [u64]) -> Result<(u32, u64), u32> {
+pub fn hand_cover(week: Week, t: &mut [u32], d: &[u64; 3], limit: u32, work: &mut [u64]) -> Result<(u32, u64), u32> {
     let mut keys = [0; 512];
     let mut index = Index([0; 131072]);
-    let optional = Items::of(optional);
-    match admit(m, packs, optional, t, &mut keys, &mut index) {
-        0 => {}
-        r => return Err(r),
-    }
+    let Week { m, packs, optional, .. } = week;
+    let positions = week.admit(t, &mut keys, &mut index)?;
     let d = Items::of(d);
     if !d.inside(Items::below(m)) {
         return Err(7);
@@ -303,9 +382,17 @@ pub fn hand_cover(m: u32, packs: &[[u64; 3]], optional: &[u64; 3], t: &mut [u32]
     let memo = Memo::new(work);
     let at = d.place(memo.places as u64) as usize;
     let (leads, homes, limit) = ([0; 706], [0; 512], limit as u64);
-    let mut s = Search { packs, optional, leads, homes, t, index: &mut index, memo, limit, steps: 0, full: false, over: false };
-    s.enlist();
-    let answer = s.search(at, d);
+    let moved;
+    let placed = if positions.plain {
+        packs
+    } else {
+        moved = permuted(packs, &positions);
+        &moved[..packs.len()]
+    };
+    let optional = positions.set(Items::of(optional));
+    let mut s = Search { packs: placed, optional, leads, homes, t, index: &mut index, memo, limit, steps: 0, full: false, over: false };
+    s.enlist(packs);
+    let answer = s.search(at, positions.set(d));
     let (over, full, steps) = (s.over, s.full, s.steps);
     if over || full {
         rollback(t, n);
@@ -408,13 +495,11 @@ impl Table<'_> {
 /// either, both, only, with, without: 0 to 4.
 #[inline(never)]
 #[no_mangle]
-pub fn hand_combine(op: u8, m: u32, packs: &[[u64; 3]], optional: &[u64; 3], t: &mut [u32], a: u32, b: u32, work: &mut [u64]) -> Result<u32, u32> {
+pub fn hand_combine(op: u8, week: Week, t: &mut [u32], a: u32, b: u32, work: &mut [u64]) -> Result<u32, u32> {
     let mut keys = [0; 512];
     let mut index = Index([0; 131072]);
-    match admit(m, packs, Items::of(optional), t, &mut keys, &mut index) {
-        0 => {}
-        r => return Err(r),
-    }
+    week.admit(t, &mut keys, &mut index)?;
+    let packs = week.packs;
     let n = t[0];
     if a >= n + 2 || op < 3 && b >= n + 2 {
         return Err(5);
@@ -442,14 +527,14 @@ pub fn hand_combine(op: u8, m: u32, packs: &[[u64; 3]], optional: &[u64; 3], t: 
 }
 
 /// What a question does first: the table is checked, and it knows the answer.
-fn opened(m: u32, packs: &[[u64; 3]], optional: &[u64; 3], t: &[u32], a: u32) -> Result<(), u32> {
+fn opened(week: Week, t: &[u32], a: u32) -> Result<(), u32> {
     let mut keys = [0; 512];
     let mut index = Index([0; 131072]);
-    match admit(m, packs, Items::of(optional), t, &mut keys, &mut index) {
-        0 if a >= t[0] + 2 => Err(5),
-        0 => Ok(()),
-        r => Err(r),
+    week.admit(t, &mut keys, &mut index)?;
+    if a >= t[0] + 2 {
+        return Err(5);
     }
+    Ok(())
 }
 
 /// A word for each number up to a: how many timetables, less one, at most the greatest word.
@@ -497,27 +582,27 @@ fn length(t: &[u32], a: usize, k: u64, work: &mut [u64]) -> Result<usize, u32> {
 }
 
 #[inline(never)]
-pub fn hand_check(m: u32, packs: &[[u64; 3]], optional: &[u64; 3], t: &[u32]) -> u32 {
+pub fn hand_check(week: Week, t: &[u32]) -> u32 {
     let mut keys = [0; 512];
     let mut index = Index([0; 131072]);
-    admit(m, packs, Items::of(optional), t, &mut keys, &mut index)
+    week.admit(t, &mut keys, &mut index).err().unwrap_or(0)
 }
 
 #[inline(never)]
-pub fn hand_count(m: u32, packs: &[[u64; 3]], optional: &[u64; 3], t: &[u32], a: u32, work: &mut [u64]) -> Result<u64, u32> {
-    opened(m, packs, optional, t, a)?;
+pub fn hand_count(week: Week, t: &[u32], a: u32, work: &mut [u64]) -> Result<u64, u32> {
+    opened(week, t, a)?;
     counts(t, a as usize, work)
 }
 
 #[inline(never)]
-pub fn hand_measure(m: u32, packs: &[[u64; 3]], optional: &[u64; 3], t: &[u32], a: u32, k: u64, work: &mut [u64]) -> Result<usize, u32> {
-    opened(m, packs, optional, t, a)?;
+pub fn hand_measure(week: Week, t: &[u32], a: u32, k: u64, work: &mut [u64]) -> Result<usize, u32> {
+    opened(week, t, a)?;
     length(t, a as usize, k, work)
 }
 
 #[inline(never)]
-pub fn hand_pick(m: u32, packs: &[[u64; 3]], optional: &[u64; 3], t: &[u32], a: u32, k: u64, work: &mut [u64], page: &mut [u16]) -> Result<usize, u32> {
-    opened(m, packs, optional, t, a)?;
+pub fn hand_pick(week: Week, t: &[u32], a: u32, k: u64, work: &mut [u64], page: &mut [u16]) -> Result<usize, u32> {
+    opened(week, t, a)?;
     let a = a as usize;
     if page.len() < length(t, a, k, work)? {
         return Err(15);

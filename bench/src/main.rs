@@ -1,6 +1,7 @@
 //! The library beside the same algorithm written by hand in Rust and, where it is installed, beside CUDD's ZDDs: instances of document 000's Table 1
 //! and queens compiled, rounds of with, without, either, both and only on what was compiled, and how a call's time grows with the nodes. An earlier archive,
-//! whose calls take no optional items, stands beside it where one is given (see build.rs). CUDD's search takes weeks of at most 64 items.
+//! whose calls take no order, stands beside it where one is given (see build.rs), on the weeks in the plain order. CUDD's search takes these too, of at most 64
+//! items.
 //!
 //! `bench [REPETITIONS]` prints the table. `bench WHO INSTANCE` does one repetition of one, for instruction counts (see bench/instructions).
 
@@ -125,27 +126,28 @@ fn library(who: &Instance) -> Times {
 }
 
 fn by_hand(who: &Instance) -> Times {
-    let (packs, optional, d) = (&who.packs, &who.optional, who.all());
+    let (week, d) = (who.by_hand(), who.all());
     by_calls(
         who,
-        |t, work| hand::hand_cover(who.m, packs, optional, t, &d, u32::MAX, work).unwrap(),
-        |op, t, a, b, work| hand::hand_combine(op as u8, who.m, packs, optional, t, a, b, work).unwrap(),
+        |t, work| hand::hand_cover(week, t, &d, u32::MAX, work).unwrap(),
+        |op, t, a, b, work| hand::hand_combine(op as u8, week, t, a, b, work).unwrap(),
     )
 }
 
 #[cfg(old)]
 fn before(who: &Instance) -> Times {
     assert!(who.plain());
-    let (packs, d) = (who.words(), who.all());
+    let (week, d) = (who.week(), who.all());
     by_calls(
         who,
-        |t, work| answered(old::cover(who.m, packs, t, &d, u32::MAX, work)),
-        |op, t, a, b, work| answered(old::combine(op, who.m, packs, t, a, b, work)).0,
+        |t, work| answered(old::cover(week, t, &d, u32::MAX, work)),
+        |op, t, a, b, work| answered(old::combine(op, week, t, a, b, work)).0,
     )
 }
 
 #[cfg(cudd)]
 fn by_cudd(who: &Instance) -> Times {
+    assert!(who.plain());
     let order = cudd::Order::new(&who.narrow().expect("at most 64 items"), who.optional[0]);
     let manager = cudd::Manager::new(&order);
     let (mut keys, mut values) = (vec![1; who.places], vec![std::ptr::null_mut(); who.places]);
@@ -175,7 +177,7 @@ fn all_of_them() -> Vec<Column> {
         Column { name: "library", run: library, takes: |_| true },
         Column { name: "by hand", run: by_hand, takes: |_| true },
         #[cfg(cudd)]
-        Column { name: "CUDD", run: by_cudd, takes: |who| who.m <= 64 },
+        Column { name: "CUDD", run: by_cudd, takes: |who| who.m <= 64 && who.plain() },
         #[cfg(old)]
         Column { name: "before", run: before, takes: Instance::plain },
     ]
@@ -194,10 +196,11 @@ fn compare(who: &Instance, repetitions: usize) {
     assert!(times.iter().flatten().all(|t| t.1 == steps), "steps differ");
     let lent = compiled(who);
     println!(
-        "{}: {} items{}, {} packages, {steps} steps, {} nodes in a table for {}, memo of {} places",
+        "{}: {} items{}{}, {} packages, {steps} steps, {} nodes in a table for {}, memo of {} places",
         who.name,
         who.m,
-        if who.plain() { String::new() } else { format!(" ({} optional)", who.optional.iter().map(|w| w.count_ones()).sum::<u32>()) },
+        if who.optional_items() == 0 { String::new() } else { format!(" ({} optional)", who.optional_items()) },
+        if who.plain() { "" } else { " in a lent order" },
         who.packs.len(),
         lent.table[0],
         who.nodes,
@@ -230,7 +233,7 @@ fn compiled(who: &Instance) -> Lent {
     let r = ffi::cover(who.week(), &mut lent.table, &who.all(), u32::MAX, &mut lent.work);
     assert_eq!(ffi::count(who.week(), &lent.table, r.answer, &mut lent.work), ffi::Number { refusal: 0, value: who.count });
     let mut hand = Lent::new(who);
-    hand::hand_cover(who.m, &who.packs, &who.optional, &mut hand.table, &who.all(), u32::MAX, &mut hand.work).unwrap();
+    hand::hand_cover(who.by_hand(), &mut hand.table, &who.all(), u32::MAX, &mut hand.work).unwrap();
     assert_eq!(lent.table[0], hand.table[0], "nodes differ");
     lent
 }

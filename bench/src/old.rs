@@ -1,44 +1,60 @@
-//! The entries of an earlier archive that the benchmark calls (see build.rs): they take no optional items.
+//! The entries of an earlier archive that the benchmark calls (see build.rs): they take no order, so the week's must be the plain one.
 
-use crate::ffi::{Number, Report, Timetable};
+use crate::ffi::{Number, Report, Timetable, Week};
 
-type Combine = unsafe extern "C" fn(u32, *const u64, usize, *mut u32, usize, u32, u32, *mut u64, usize) -> Report;
+type Combine = unsafe extern "C" fn(u32, *const u64, usize, *const u64, *mut u32, usize, u32, u32, *mut u64, usize) -> Report;
 
-extern "C" {
-    fn old_mogedorn_check(m: u32, p: *const u64, pn: usize, t: *const u32, tn: usize) -> u32;
-    fn old_mogedorn_count(m: u32, p: *const u64, pn: usize, t: *const u32, tn: usize, a: u32, w: *mut u64, wn: usize) -> Number;
-    fn old_mogedorn_pick(m: u32, p: *const u64, pn: usize, t: *const u32, tn: usize, a: u32, k: u64, w: *mut u64, wn: usize, g: *mut u16, gn: usize) -> Timetable;
-    fn old_mogedorn_measure(m: u32, p: *const u64, pn: usize, t: *const u32, tn: usize, a: u32, k: u64, w: *mut u64, wn: usize) -> Number;
-    fn old_mogedorn_cover(m: u32, p: *const u64, pn: usize, t: *mut u32, tn: usize, d: *const u64, limit: u32, w: *mut u64, wn: usize) -> Report;
-    fn old_mogedorn_either(m: u32, p: *const u64, pn: usize, t: *mut u32, tn: usize, a: u32, b: u32, w: *mut u64, wn: usize) -> Report;
-    fn old_mogedorn_both(m: u32, p: *const u64, pn: usize, t: *mut u32, tn: usize, a: u32, b: u32, w: *mut u64, wn: usize) -> Report;
-    fn old_mogedorn_only(m: u32, p: *const u64, pn: usize, t: *mut u32, tn: usize, a: u32, b: u32, w: *mut u64, wn: usize) -> Report;
-    fn old_mogedorn_with(m: u32, p: *const u64, pn: usize, t: *mut u32, tn: usize, a: u32, k: u32, w: *mut u64, wn: usize) -> Report;
-    fn old_mogedorn_without(m: u32, p: *const u64, pn: usize, t: *mut u32, tn: usize, a: u32, k: u32, w: *mut u64, wn: usize) -> Report;
+/// Entries that take a week: the arguments that it stands for come first, then their own.
+macro_rules! entries {
+    ($($entry:ident($($own:ident: $type:ty),*) -> $result:ty;)*) => {
+        extern "C" {
+            $(fn $entry(m: u32, p: *const u64, pn: usize, o: *const u64, $($own: $type),*) -> $result;)*
+        }
+    };
 }
 
-pub fn cover(m: u32, s: &[u64], t: &mut [u32], d: &[u64; 3], limit: u32, w: &mut [u64]) -> Report {
-    unsafe { old_mogedorn_cover(m, s.as_ptr(), s.len(), t.as_mut_ptr(), t.len(), d.as_ptr(), limit, w.as_mut_ptr(), w.len()) }
+entries! {
+    old_mogedorn_check(t: *const u32, tn: usize) -> u32;
+    old_mogedorn_cover(t: *mut u32, tn: usize, d: *const u64, limit: u32, w: *mut u64, wn: usize) -> Report;
+    old_mogedorn_either(t: *mut u32, tn: usize, a: u32, b: u32, w: *mut u64, wn: usize) -> Report;
+    old_mogedorn_both(t: *mut u32, tn: usize, a: u32, b: u32, w: *mut u64, wn: usize) -> Report;
+    old_mogedorn_only(t: *mut u32, tn: usize, a: u32, b: u32, w: *mut u64, wn: usize) -> Report;
+    old_mogedorn_with(t: *mut u32, tn: usize, a: u32, k: u32, w: *mut u64, wn: usize) -> Report;
+    old_mogedorn_without(t: *mut u32, tn: usize, a: u32, k: u32, w: *mut u64, wn: usize) -> Report;
+    old_mogedorn_count(t: *const u32, tn: usize, a: u32, w: *mut u64, wn: usize) -> Number;
+    old_mogedorn_pick(t: *const u32, tn: usize, a: u32, k: u64, w: *mut u64, wn: usize, g: *mut u16, gn: usize) -> Timetable;
+    old_mogedorn_measure(t: *const u32, tn: usize, a: u32, k: u64, w: *mut u64, wn: usize) -> Number;
+}
+
+/// A call of an entry, with the arguments that the week stands for.
+macro_rules! call {
+    ($entry:expr, $week:ident, $($rest:expr),+) => {
+        unsafe { $entry($week.m, $week.packages.as_ptr(), $week.packages.len(), $week.optional.as_ptr(), $($rest),+) }
+    };
+}
+
+pub fn cover(week: Week, t: &mut [u32], d: &[u64; 3], limit: u32, w: &mut [u64]) -> Report {
+    call!(old_mogedorn_cover, week, t.as_mut_ptr(), t.len(), d.as_ptr(), limit, w.as_mut_ptr(), w.len())
 }
 
 /// either, both, only, with, without: 0 to 4.
-pub fn combine(op: usize, m: u32, s: &[u64], t: &mut [u32], a: u32, b: u32, w: &mut [u64]) -> Report {
+pub fn combine(op: usize, week: Week, t: &mut [u32], a: u32, b: u32, w: &mut [u64]) -> Report {
     let f: Combine = [old_mogedorn_either, old_mogedorn_both, old_mogedorn_only, old_mogedorn_with, old_mogedorn_without][op];
-    unsafe { f(m, s.as_ptr(), s.len(), t.as_mut_ptr(), t.len(), a, b, w.as_mut_ptr(), w.len()) }
+    call!(f, week, t.as_mut_ptr(), t.len(), a, b, w.as_mut_ptr(), w.len())
 }
 
-pub fn check(m: u32, s: &[u64], t: &[u32]) -> u32 {
-    unsafe { old_mogedorn_check(m, s.as_ptr(), s.len(), t.as_ptr(), t.len()) }
+pub fn check(week: Week, t: &[u32]) -> u32 {
+    call!(old_mogedorn_check, week, t.as_ptr(), t.len())
 }
 
-pub fn count(m: u32, s: &[u64], t: &[u32], a: u32, w: &mut [u64]) -> Number {
-    unsafe { old_mogedorn_count(m, s.as_ptr(), s.len(), t.as_ptr(), t.len(), a, w.as_mut_ptr(), w.len()) }
+pub fn count(week: Week, t: &[u32], a: u32, w: &mut [u64]) -> Number {
+    call!(old_mogedorn_count, week, t.as_ptr(), t.len(), a, w.as_mut_ptr(), w.len())
 }
 
-pub fn pick(m: u32, s: &[u64], t: &[u32], a: u32, k: u64, w: &mut [u64], page: &mut [u16]) -> Timetable {
-    unsafe { old_mogedorn_pick(m, s.as_ptr(), s.len(), t.as_ptr(), t.len(), a, k, w.as_mut_ptr(), w.len(), page.as_mut_ptr(), page.len()) }
+pub fn pick(week: Week, t: &[u32], a: u32, k: u64, w: &mut [u64], page: &mut [u16]) -> Timetable {
+    call!(old_mogedorn_pick, week, t.as_ptr(), t.len(), a, k, w.as_mut_ptr(), w.len(), page.as_mut_ptr(), page.len())
 }
 
-pub fn measure(m: u32, s: &[u64], t: &[u32], a: u32, k: u64, w: &mut [u64]) -> Number {
-    unsafe { old_mogedorn_measure(m, s.as_ptr(), s.len(), t.as_ptr(), t.len(), a, k, w.as_mut_ptr(), w.len()) }
+pub fn measure(week: Week, t: &[u32], a: u32, k: u64, w: &mut [u64]) -> Number {
+    call!(old_mogedorn_measure, week, t.as_ptr(), t.len(), a, k, w.as_mut_ptr(), w.len())
 }

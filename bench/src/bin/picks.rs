@@ -1,6 +1,6 @@
 //! 10,000 picks in a row, their k spread over the listing, from the benchmark's answers, and beside them what a pick consists of: the check of the table, the
-//! count, the walk that measures and, in pick alone, the walk that writes. The library, the same calls by hand in Rust and, where one is given and the week has
-//! no optional items, an earlier archive take turns (see build.rs).
+//! count, the walk that measures and, in pick alone, the walk that writes. The library, the same calls by hand in Rust and, where one is given and the week is
+//! in the plain order, an earlier archive take turns (see build.rs).
 
 #[path = "../../../tests/rust/src/ffi.rs"]
 #[allow(dead_code)]
@@ -46,21 +46,21 @@ const LIBRARY: [Call; 4] = [
 ];
 
 const HAND: [Call; 4] = [
-    |d, _| hand::hand_check(d.who.m, &d.who.packs, &d.who.optional, &d.table) as u64,
-    |d, _| hand::hand_count(d.who.m, &d.who.packs, &d.who.optional, &d.table, d.answer, &mut d.work).unwrap(),
-    |d, k| hand::hand_measure(d.who.m, &d.who.packs, &d.who.optional, &d.table, d.answer, k, &mut d.work).unwrap() as u64,
-    |d, k| hand::hand_pick(d.who.m, &d.who.packs, &d.who.optional, &d.table, d.answer, k, &mut d.work, &mut d.page).unwrap() as u64,
+    |d, _| hand::hand_check(d.who.by_hand(), &d.table) as u64,
+    |d, _| hand::hand_count(d.who.by_hand(), &d.table, d.answer, &mut d.work).unwrap(),
+    |d, k| hand::hand_measure(d.who.by_hand(), &d.table, d.answer, k, &mut d.work).unwrap() as u64,
+    |d, k| hand::hand_pick(d.who.by_hand(), &d.table, d.answer, k, &mut d.work, &mut d.page).unwrap() as u64,
 ];
 
 #[cfg(old)]
 const OLD: [Call; 4] = [
-    |d, _| old::check(d.who.m, d.who.words(), &d.table) as u64,
-    |d, _| old::count(d.who.m, d.who.words(), &d.table, d.answer, &mut d.work).value,
-    |d, k| old::measure(d.who.m, d.who.words(), &d.table, d.answer, k, &mut d.work).value,
-    |d, k| old::pick(d.who.m, d.who.words(), &d.table, d.answer, k, &mut d.work, &mut d.page).packages,
+    |d, _| old::check(d.who.week(), &d.table) as u64,
+    |d, _| old::count(d.who.week(), &d.table, d.answer, &mut d.work).value,
+    |d, k| old::measure(d.who.week(), &d.table, d.answer, k, &mut d.work).value,
+    |d, k| old::pick(d.who.week(), &d.table, d.answer, k, &mut d.work, &mut d.page).packages,
 ];
 
-/// Each with its calls, and whether it takes optional items too.
+/// Each with its calls, and whether it takes other orders than the plain one too.
 const THEM: &[(&str, [Call; 4], bool)] = &[
     ("library", LIBRARY, true),
     ("by hand", HAND, true),
