@@ -20,10 +20,11 @@
  * covers an item set D when its packages lie inside D, each compulsory item of D is in just one of them and each optional item of D in at most one. With an
  * empty optional set that is an exact cover.
  *
- * Order. Every call is lent an order of the items, a list of each item below M just once, and what is early in it is tried first: the diagram is small where
- * contested items come early. The lead of a package is its earliest compulsory item in the lent order. Precedence: package p comes before q when p's lead is
- * earlier, or these are equal and p is lower. Which timetables cover a set does not depend on the order, and neither does a set's place in cover's memo; steps,
- * nodes, the order in which packages are written and timetables listed, and every place in the listing do. In the order 0 .. M - 1 earliest is lowest.
+ * Order. Every call is lent an order of the items, a list of each item below M just once, and what is early in it is tried first: the diagram tends to be
+ * small where contested items come early. The lead of a package is its earliest compulsory item in the lent order. Precedence: package p comes before q when
+ * p's lead is earlier, or these are equal and p is lower. Which timetables cover a set does not depend on the order, and neither does a set's place in
+ * cover's memo; steps, nodes, the order in which packages are written and timetables listed, and every place in the listing do. In the order 0 .. M - 1
+ * earliest is lowest.
  *
  * Optional set and order both decide whether a table is sound. Lend one optional set and one order to all calls on a table, as one list of packages: what is
  * promised of a history of calls is promised of such. A table made under another order is refused (4) where its labels no longer ascend in precedence; where
