@@ -280,6 +280,7 @@ trial-search-requires t c κs =
     let u = loop .inv .0 in
     let small = plain-small (items-lt x (known x (s .good .1 .1 .1 .1 .1 .1 .1 .1 .1 .0))) in
     let e : loop .p ≡ k + 1 = omega (arith, wide .ensures, loop-test .taken) in
+    let there : place-without .result < s .args .places = rw (place-without .ensures) (mod-lt _ (q .1 .0 .held .some)) in
     let i = sym (inside .ensures) ∙ not-false (inside .result) (if1 .left) in (
       omega (arith, s .pre .0, rest-less (q .0) (value x) (s .args .at) small (q .1 .1 .1 .0) (loop .p) k e (loop .inv .1 .0) _ _ (items .ensures) (without .ensures) i),
       (
@@ -288,7 +289,7 @@ trial-search-requires t c κs =
           record { sound = u .grown .sound; indexed = u .indexed; held = u .held },
           (
             u .within,
-            rw (place-without .ensures) (mod-lt _ (q .1 .0 .held .some)),
+            omega (arith, there),
           ),
         ),
       ),
