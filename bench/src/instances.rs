@@ -1,5 +1,5 @@
 //! Instances of document 000's Table 1, domino.8.8 once more on items that are spread over three words and once with its cells numbered badly and the order
-//! that mends it, queens that do not attack each other, in two orders, and what is lent for them.
+//! that mends it, bell-09 once more in the reversed order, queens that do not attack each other, in two orders, and what is lent for them.
 
 use crate::ffi::Week;
 use crate::hand;
@@ -96,6 +96,12 @@ fn queens(side: usize, name: &'static str, count: u64, nodes: usize, places: usi
     Instance { name, m: m as u32, packs, optional: set(2 * side..m), order: plain_order(m as u32), count, nodes, places }
 }
 
+/// The week with its items in the reversed order.
+fn reversed(mut week: Instance) -> Instance {
+    week.order.reverse();
+    week
+}
+
 /// The same from the middle lines of the board outwards, rows and columns in turn: of 10 by 10 cells 0.86 of the steps and 1.09 of the nodes.
 fn from_the_middle(side: usize, name: &'static str, count: u64, nodes: usize, places: usize) -> Instance {
     let mut week = queens(side, name, count, nodes, places);
@@ -108,7 +114,8 @@ fn from_the_middle(side: usize, name: &'static str, count: u64, nodes: usize, pl
 
 pub fn instances() -> Vec<Instance> {
     let plain = |name, m, packs, count, nodes, places| Instance { name, m, packs, optional: [0; 3], order: plain_order(m), count, nodes, places };
-    let bell = (1..512).map(|x| [x, 0, 0]).collect();
+    let bell: Vec<[u64; 3]> = (1..512).map(|x| [x, 0, 0]).collect();
+    let bell_again = bell.clone();
     let pairs = (0..1u64 << 18).filter(|x| x.count_ones() == 2).map(|x| [x, 0, 0]).collect();
     vec![
         plain("bell-09", 9, bell, 21147, 8192, 16381),
@@ -118,6 +125,8 @@ pub fn instances() -> Vec<Instance> {
         plain("domino.wide", 190, dominoes(8, |cell| 3 * cell), 12988816, 8192, 16381),
         // the same search, its packages and the set to cover permuted first: what the order costs
         numbered_badly(),
+        // bell-09 in the reversed order: every call takes the keys of 511 packages from positions
+        reversed(plain("bell.order", 9, bell_again, 21147, 8192, 16381)),
         plain("domino.10.10", 100, dominoes(10, |cell| cell), 258584046368, 40960, 65521),
         queens(8, "queens.8", 92, 4096, 16381),
         queens(10, "queens.10", 724, 16384, 65521),
