@@ -11,11 +11,11 @@ use lib.Dec.{eqb, ltb}
 use lib.ListN.{length, getD, replicate}
 use lib.Pow.{pow-pos, pow-add, pow-mono}
 use borrow.Author.Tests.{ltb-true, ltb-false}
-use Rattle.base.proofs.Bools.{same-test, by-test, and-left, and-right, and-both, eqb-same}
-use Rattle.itemset.specs.Items.{holds, insideb, without, union, belowb, size, lowest}
+use Rattle.base.proofs.Bools.{never, same-test, by-test, and-left, and-right, and-both, eqb-same}
+use Rattle.itemset.specs.Items.{holds, insideb, without, union, apartb, belowb, size, lowest}
 use Rattle.itemset.specs.Words.{width, valueOf}
-use Rattle.itemset.proofs.Laws.{holds-none, inside-refl, without-self, union-none, below-lt, lt-below, size-zero}
-use Rattle.itemset.proofs.Words.{holds-low, holds-high, eqb-cat, inside-cat, without-cat, union-cat, size-cat, lowest-low, lowest-high}
+use Rattle.itemset.proofs.Laws.{holds-none, inside-refl, without-self, union-none, holds-apart, below-lt, lt-below, size-zero}
+use Rattle.itemset.proofs.Words.{holds-low, holds-high, eqb-cat, inside-cat, without-cat, union-cat, apart-cat, size-cat, lowest-low, lowest-high}
 
 pub width-is : width ≡ 192
 unfolding width
@@ -86,6 +86,9 @@ inside-words r = every-words insideb (inside-refl 0) (λ p q a b. inside-cat 64 
 
 pub same-words : {vs ws : List ℕ} → Pairs vs ws → eqb (valueOf vs) (valueOf ws) ≡ every eqb vs ws
 same-words r = every-words eqb (eqb-same 0) (λ p q a b. eqb-cat 64 p q a b) r
+
+pub apart-words : {vs ws : List ℕ} → Pairs vs ws → apartb (valueOf vs) (valueOf ws) ≡ every apartb vs ws
+apart-words r = every-words apartb (holds-apart 0 0 (λ i s t. never s (holds-none i))) (λ p q a b. apart-cat 64 p q a b) r
 
 -- ---- the difference and the union, word by word
 

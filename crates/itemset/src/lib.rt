@@ -4,7 +4,7 @@ ghost use Prim.Native.Nat.{_+_, _*_, _^_, _%_, _-_, _<_, _≤_, min};
 ghost use lib.Dec.{eqb};
 ghost use lib.ListN.{length, getD, take, drop};
 ghost use lib.Seq.{sets};
-ghost use Rattle.itemset.specs.Items.{holds, insideb, belowb};
+ghost use Rattle.itemset.specs.Items.{holds, insideb, apartb, belowb};
 ghost use Rattle.itemset.specs.Items as I;
 ghost use Rattle.itemset.specs.Words.{width, value, valueOf, wordsOf};
 
@@ -41,6 +41,13 @@ pub fn inside(p: Items, a: Items) -> bool
     ensures { λ r. ⌜ r ≡ insideb (value p) (value a) ⌝ }
 {
     (a.w0 & p.w0 == p.w0) & ((a.w1 & p.w1 == p.w1) & (a.w2 & p.w2 == p.w2))
+}
+
+// Whether x and y have no item in common.
+pub fn apart(x: Items, y: Items) -> bool
+    ensures { λ r. ⌜ r ≡ apartb (value x) (value y) ⌝ }
+{
+    (x.w0 & y.w0 == 0) & ((x.w1 & y.w1 == 0) & (x.w2 & y.w2 == 0))
 }
 
 // The items of a that are not in p.
