@@ -20,3 +20,4 @@ pub mod Restrict
 pub mod Parts
 pub mod Got
 pub mod Examples
+pub mod Support

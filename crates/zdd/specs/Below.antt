@@ -1,7 +1,8 @@
 -- The numbers below a number of a table, and those of them that an earlier table did not have. Assumes nothing.
+use mathlib.Core.Path.{_≡_}
 use mathlib.Core.Bool.{Bool, _||_}
-use mathlib.Core.List.{List, [], _∷_}
-use Prim.Native.Nat.{ℕ, zero, suc, _+_, _-_, _<_}
+use mathlib.Core.List.{List, [], _∷_, map}
+use Prim.Native.Nat.{ℕ, zero, suc, _+_, _-_, _≤_, _<_}
 use lib.Dec.{eqb}
 use lib.ListN.{length, getD}
 use Rattle.zdd.specs.Table.{Node, blank, filter}
@@ -38,3 +39,15 @@ newNumbers n ns = numbersFrom (n + 2) (length ns - n)
 unfoldable pub newBelow : ℕ → List Node → ℕ → List ℕ
 unfolding belowTest newNumbers filter
 newBelow n ns a = filter (belowTest ns a) (newNumbers n ns)
+
+-- p is the label of a node below a, or of a's own [document 02, No. 5: a package on a node below an answer]
+pub record Labels (ns : List Node) (a p : ℕ) : Type 0 where
+  pub number : ℕ
+  pub branch : 2 ≤ number
+  pub below : Below ns a number
+  pub label : getD ns (number - 2) blank .label ≡ p
+
+-- these labels, by the test
+unfoldable pub labelsBelow : List Node → ℕ → List ℕ
+unfolding newBelow
+labelsBelow ns a = map (λ (k : ℕ). getD ns (k - 2) blank .label) (newBelow 0 ns a)

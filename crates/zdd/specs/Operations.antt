@@ -1,7 +1,9 @@
 -- The operations on families: each is a filter of all sets, by membership in the operands' families. K has the labels' keys. Assumes nothing.
-use mathlib.Core.Bool.{Bool, not, _&&_, _||_}
-use mathlib.Core.List.{List}
+use mathlib.Core.Path.{_≡_}
+use mathlib.Core.Bool.{Bool, true, false, not, _&&_, _||_}
+use mathlib.Core.List.{List, [], _∷_, _++_}
 use Prim.Native.Nat.{ℕ}
+use Rattle.base.specs.Lists.{any}
 use Rattle.zdd.specs.Table.{Family, sets, elem, has, filter}
 
 -- the sets that pass `op` of membership in F and in G
@@ -30,3 +32,29 @@ including K p F = filter (λ t. elem t F && has p t) (sets K)
 -- those of F that do not [document 01: without p]
 unfoldable pub excluding : List ℕ → ℕ → Family → Family
 excluding K p F = filter (λ t. elem t F && not (has p t)) (sets K)
+
+-- ---- join
+
+-- every label of s is in t
+unfoldable pub within : List ℕ → List ℕ → Bool
+within [] t = true
+within (p ∷ s) t = has p t && within s t
+
+-- s is the union of u and v: it has the labels of both, and no others
+unfoldable pub isUnion : List ℕ → List ℕ → List ℕ → Bool
+unfolding within
+isUnion u v s = within u s && (within v s && within s (u ++ v))
+
+-- of all sets, one that passes X and one that passes Y have the union s
+unfoldable pub unites : List ℕ → (List ℕ → Bool) → (List ℕ → Bool) → List ℕ → Bool
+unfolding any isUnion
+unites K X Y s = any (λ u. X u && any (λ v. Y v && isUnion u v s) (sets K)) (sets K)
+
+-- every union of a set of F and one of G [document 02, No. 5: join]: the join of two families (Knuth, The Art of Computer Programming, 7.1.4)
+unfoldable pub join : List ℕ → Family → Family → Family
+unfolding unites
+join K F G = filter (unites K (λ u. elem u F) (λ v. elem v G)) (sets K)
+
+-- no label is in a set of F and in one of G
+pub record Apart (F G : Family) : Type 0 where
+  pub clash : (u v : List ℕ) → elem u F ≡ true → elem v G ≡ true → (p : ℕ) → has p u ≡ true → has p v ≡ true → ⊥
