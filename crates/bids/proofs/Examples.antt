@@ -4,6 +4,7 @@ use mathlib.Core.Path.{_≡_, refl}
 use mathlib.Core.List.{List, [], _∷_, _++_, map}
 use Prim.Native.Nat.{ℕ}
 use lib.ListN.{take}
+use Rattle.base.specs.Lists.{any}
 use Rattle.itemset.specs.Items.{belowb}
 use Rattle.itemset.specs.Words.{width, wordsIn, spread}
 use Rattle.statement.specs.Refusals.{firstOf}
@@ -62,7 +63,7 @@ files =
     []
 
 refusals : map refusal files ≡ (0 ∷ 20 ∷ 21 ∷ 22 ∷ 24 ∷ 20 ∷ 20 ∷ 23 ∷ 25 ∷ 26 ∷ 26 ∷ 27 ∷ 0 ∷ 0 ∷ 0 ∷ [])
-unfolding width belowb firstOf engine.oversize engine.anyPackage engine.stray word16At word32At word64At fnvFrom fnv first some listed
+unfolding width belowb firstOf engine.oversize any engine.stray word16At word32At word64At fnvFrom fnv first some listed
     markb sameSchool samePackage schoolIn packageIn schoolOf slotsOf costOf itemsOf packagesOf costsOf
     cut unmarked otherVersion oversize wrongLength wrongCheck schoolTwice strayb stray packageTwice unfit refusal
 refusals = refl

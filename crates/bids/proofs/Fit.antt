@@ -12,6 +12,7 @@ use lib.Dec.{ltb}
 use lib.Pow.{pow-pos, pow-add, pow-lt, pow-mono}
 use lib.ListN.{length, getD, List·getD-append}
 use lib.Seq.{getD-at}
+use Rattle.base.specs.Lists.{any}
 use Rattle.itemset.specs.Items.{belowb}
 use Rattle.itemset.specs.Words.{width}
 use Rattle.itemset.proofs.Laws.{below-lt}
@@ -41,7 +42,7 @@ getD-listed f (suc n) k p = go (ℕ-discrete k n) (λ q. getD-listed f n k q)
 
 -- the engine's refusal 2, package by package
 all-fit : (m : ℕ) (xs : List ℕ) → ((k : ℕ) → k < length xs → (0 < getD xs k 0) × (getD xs k 0 < 2 ^ m)) → engine.stray m xs ≡ false
-unfolding engine.anyPackage engine.stray belowb
+unfolding any engine.stray belowb
 all-fit m [] f = refl
 all-fit m (x ∷ xs) f =
     let h = f 0 (omega arith) in

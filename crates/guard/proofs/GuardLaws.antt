@@ -11,6 +11,7 @@ use lib.Dec.{eqb, ltb}
 use lib.ListN.{length, getD, set, take, drop, replicate, length-set, length-replicate, getD-replicate}
 use lib.Seq.{drop-cons, drop-length, take-all, length-take-le, getD-take, getD-set-same, getD-set-other}
 use borrow.Author.Tests.{eqb-true, eqb-false, eq-eqb, ne-eqb, lt-ltb, le-ltb, not-false}
+use Rattle.base.specs.Lists.{any}
 use Rattle.base.proofs.Bools.{by-test, is-false, and-both}
 use Rattle.itemset.specs.Words.{width}
 use Rattle.zdd.specs.Table.{soundb}
@@ -21,7 +22,7 @@ use Rattle.exact_cover.proofs.Orders.{times-here, times-other, times-none, time
 use Rattle.exact_cover.proofs.Order.{keys-apart}
 use Rattle.table.specs.State.{Checked}
 use Rattle.table.proofs.IndexLaws.{fresh}
-use Rattle.statement.specs.Refusals.{firstOf, oversize, anyPackage, stray, disordered, unsound, packageTests, tableTests, checkRefusal}
+use Rattle.statement.specs.Refusals.{firstOf, oversize, stray, disordered, unsound, packageTests, tableTests, checkRefusal}
 use Rattle.statement.proofs.FirstOf.{pass, hit, none, front, behind}
 use Rattle.statement.proofs.Admission.{fit-passes, fit-of, fit-refused, table-passes}
 use Rattle.guard.specs.Admitted.{optionalTests, Blank, Tested, Admitted}
@@ -31,31 +32,31 @@ use Rattle.guard.specs.Admitted.{optionalTests, Blank, Tested, Admitted}
 -- of the packages before k none passes the test f
 pub record Passed (f : ℕ → Bool) (xs : List ℕ) (k : ℕ) : Type 0 where
   pub within : k ≤ length xs
-  pub rest : anyPackage f xs ≡ anyPackage f (drop k xs)
+  pub rest : any f xs ≡ any f (drop k xs)
 
 pub passed-start : (f : ℕ → Bool) (xs : List ℕ) → Passed f xs 0
 passed-start f xs = record { within = omega arith; rest = refl }
 
 -- x is package k: it is looked at
 module _ {f : ℕ → Bool} {xs : List ℕ} {x : ℕ} (k : ℕ) (p : Passed f xs k) (l : k < length xs) (r : x ≡ getD xs k 0) where
-  here : anyPackage f xs ≡ f x || anyPackage f (drop (suc k) xs)
-  unfolding anyPackage
-  here = p .rest ∙ rw r (ap (anyPackage f) (drop-cons xs k 0 l))
+  here : any f xs ≡ f x || any f (drop (suc k) xs)
+  unfolding any
+  here = p .rest ∙ rw r (ap (any f) (drop-cons xs k 0 l))
 
-  pub passed-found : f x ≡ true → anyPackage f xs ≡ true
+  pub passed-found : f x ≡ true → any f xs ≡ true
   passed-found e = here ∙ rw e
 
   pub passed-more : f x ≡ false → Passed f xs (k + 1)
   passed-more e = record {
     within = omega arith;
-    rest = here ∙ rw e (ap (λ (j : ℕ). anyPackage f (drop j xs)) (sym (add-one k)));
+    rest = here ∙ rw e (ap (λ (j : ℕ). any f (drop j xs)) (sym (add-one k)));
   }
 
-pub passed-all : {f : ℕ → Bool} {xs : List ℕ} (k : ℕ) → Passed f xs k → length xs ≤ k → anyPackage f xs ≡ false
-unfolding anyPackage
+pub passed-all : {f : ℕ → Bool} {xs : List ℕ} (k : ℕ) → Passed f xs k → length xs ≤ k → any f xs ≡ false
+unfolding any
 passed-all {f} {xs} k p l =
     let e : k ≡ length xs = omega (arith, p .within) in
-    p .rest ∙ ap (λ (j : ℕ). anyPackage f (drop j xs)) e ∙ ap (anyPackage f) (drop-length xs)
+    p .rest ∙ ap (λ (j : ℕ). any f (drop j xs)) e ∙ ap (any f) (drop-length xs)
 
 -- ---- refusal 1
 

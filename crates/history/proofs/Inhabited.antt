@@ -8,6 +8,7 @@ use Prim.Native.Nat.{ℕ, zero, suc, _<_}
 use native.Mathlib.Nat.{not-suc-le-zero}
 use native.Mathlib.Omega.{arith}
 use lib.ListN.{length, getD, take}
+use Rattle.base.specs.Lists.{any}
 use Rattle.itemset.specs.Words.{width, valueOf}
 use Rattle.itemset.specs.declared.Items.{Items}
 use Rattle.itemset.specs.Items.{holds, insideb, without, belowb, size}
@@ -21,7 +22,7 @@ use Rattle.statement.specs.declared.Report.{Report}
 use Rattle.statement.specs.declared.Outcome.the-variants.{Answer, Refused}
 use Rattle.statement.specs.declared.Picked.the-variants.{Packages}
 use Rattle.statement.specs.declared.Measured.the-variants.{Packages as MeasuredPackages}
-use Rattle.statement.specs.Refusals.{firstOf, oversize, anyPackage, stray, strayOptional, nothingCompulsory, disordered, unsound, unknownAnswer, unknownItem, shortWork}
+use Rattle.statement.specs.Refusals.{firstOf, oversize, stray, strayOptional, nothingCompulsory, disordered, unsound, unknownAnswer, unknownItem, shortWork}
 use Rattle.statement.specs.Refusals.{spent, full, uncountable, pastEnd, shortPage, pickRefusal, measureRefusal}
 use Rattle.statement.specs.Calls.{callRefusal, coverRefusal}
 use Rattle.statement.specs.declared.Call.the-variants.{Cover, Only, With, Without}
@@ -49,7 +50,7 @@ report a s c = record { outcome = Answer a; steps = s; made = c }
 first-cover : CoverPost figure1 6 (emptyTable 6) 63 6 256 (report 5 6 4) covered
 unfolding holds insideb without belowb size countFrom earliest times eachOnce lead done nodesOf capacity families family order allSets sets filter soundb eqSet elem starting
     others weight branchesTo branches eqFamily amongb fresh missing newBelow keysFrom keysOf holders allInside takes once covers covering fits down candidates each
-    visit steps firstOf oversize anyPackage stray strayOptional nothingCompulsory disordered unsound unknownItem shortWork spent full callRefusal width valueOf
+    visit steps firstOf oversize any stray strayOptional nothingCompulsory disordered unsound unknownItem shortWork spent full callRefusal width valueOf
 first-cover = record {
   declined = λ l. absurd (not-suc-le-zero l);
   answered = λ e. record { number = 5; outcome = refl; known = omega arith; holds = refl; steps = refl; long = refl; sound = refl; old = refl; grown = refl; made = refl };
@@ -58,7 +59,7 @@ first-cover = record {
 -- B is 5
 second-cover : CoverPost figure1 6 covered 63 5 256 (record { outcome = Refused 9; steps = 0; made = 0 }) covered
 unfolding holds insideb without belowb size countFrom earliest times eachOnce lead done nodesOf capacity order allSets sets filter soundb eqSet keysFrom keysOf fits down
-    candidates each visit steps firstOf oversize anyPackage stray strayOptional nothingCompulsory disordered unsound unknownItem shortWork spent callRefusal width valueOf
+    candidates each visit steps firstOf oversize any stray strayOptional nothingCompulsory disordered unsound unknownItem shortWork spent callRefusal width valueOf
 second-cover = record {
   declined = λ l. record { outcome = refl; steps = refl; made = refl; table = refl };
   answered = λ (e : coverRefusal figure1 6 covered 63 5 256 ≡ 0). absurd (omega arith);
@@ -66,7 +67,7 @@ second-cover = record {
 
 with-0 : WithPost figure1 6 covered 5 0 2 (report 6 0 1) final
 unfolding holds insideb without belowb size countFrom earliest times eachOnce lead done nodesOf capacity families family order allSets sets filter soundb eqSet elem has starting
-    others weight branchesTo branches eqFamily amongb fresh missing newBelow keysFrom keysOf firstOf oversize anyPackage stray strayOptional nothingCompulsory disordered unsound unknownAnswer
+    others weight branchesTo branches eqFamily amongb fresh missing newBelow keysFrom keysOf firstOf oversize any stray strayOptional nothingCompulsory disordered unsound unknownAnswer
     unknownPackage shortWork full including callRefusal width valueOf
 with-0 = record {
   declined = λ l. absurd (not-suc-le-zero l);
@@ -76,7 +77,7 @@ with-0 = record {
 -- {1, 4, 2} is number 4 already
 only-other : OnlyPost figure1 6 final 5 6 2 (report 4 0 0) final
 unfolding holds insideb without belowb size countFrom earliest times eachOnce lead done nodesOf capacity families family order allSets sets filter soundb eqSet elem has combine
-    starting others weight branchesTo branches eqFamily amongb fresh missing newBelow keysFrom keysOf firstOf oversize anyPackage stray strayOptional nothingCompulsory disordered unsound unknownAnswer
+    starting others weight branchesTo branches eqFamily amongb fresh missing newBelow keysFrom keysOf firstOf oversize any stray strayOptional nothingCompulsory disordered unsound unknownAnswer
     shortWork full callRefusal width valueOf
 only-other = record {
   declined = λ l. absurd (not-suc-le-zero l);
@@ -86,7 +87,7 @@ only-other = record {
 -- and so it is made another way
 without-0 : WithoutPost figure1 6 final 5 0 2 (report 4 0 0) final
 unfolding holds insideb without belowb size countFrom earliest times eachOnce lead done nodesOf capacity families family order allSets sets filter soundb eqSet elem has starting
-    others weight branchesTo branches eqFamily amongb fresh missing newBelow keysFrom keysOf firstOf oversize anyPackage stray strayOptional nothingCompulsory disordered unsound unknownAnswer
+    others weight branchesTo branches eqFamily amongb fresh missing newBelow keysFrom keysOf firstOf oversize any stray strayOptional nothingCompulsory disordered unsound unknownAnswer
     unknownPackage shortWork full excluding callRefusal width valueOf
 without-0 = record {
   declined = λ l. absurd (not-suc-le-zero l);
@@ -97,7 +98,7 @@ without-0 = record {
 third-cover : CoverPost figure1 6 final 63 6 256 (report 5 6 0) final
 unfolding holds insideb without belowb size countFrom earliest times eachOnce lead done nodesOf capacity families family order allSets sets filter soundb eqSet elem starting
     others weight branchesTo branches eqFamily amongb fresh missing newBelow keysFrom keysOf holders allInside takes once covers covering fits down candidates each
-    visit steps firstOf oversize anyPackage stray strayOptional nothingCompulsory disordered unsound unknownItem shortWork spent full callRefusal width valueOf
+    visit steps firstOf oversize any stray strayOptional nothingCompulsory disordered unsound unknownItem shortWork spent full callRefusal width valueOf
 third-cover = record {
   declined = λ l. absurd (not-suc-le-zero l);
   answered = λ e. record { number = 5; outcome = refl; known = omega arith; holds = refl; steps = refl; long = refl; sound = refl; old = refl; grown = refl; made = refl };
@@ -175,7 +176,7 @@ two-sets e = let z : _≡_ {A = ℕ} 5 4 = demanded .numbers (posting 0) (postin
 -- the second timetable of 5, on a page of four
 picked : PickPost figure1 6 final 5 1 6 (7 ∷ 7 ∷ 7 ∷ 7 ∷ []) (Packages 3) (1 ∷ 4 ∷ 2 ∷ 7 ∷ [])
 unfolding holds insideb without belowb countFrom earliest times eachOnce lead done nodesOf capacity families family soundb keysFrom keysOf firstOf oversize
-    anyPackage stray strayOptional nothingCompulsory disordered unsound
+    any stray strayOptional nothingCompulsory disordered unsound
     unknownAnswer shortWork uncountable pastEnd shortPage pickRefusal width valueOf
 picked = record { result = refl; pages = refl }
 
@@ -189,7 +190,7 @@ second-of-five =
 -- measured, with no page
 measured : MeasurePost figure1 6 final 5 1 6 (MeasuredPackages 3)
 unfolding holds insideb without belowb countFrom earliest times eachOnce lead done nodesOf capacity families family soundb keysFrom keysOf firstOf oversize
-    anyPackage stray strayOptional nothingCompulsory disordered unsound
+    any stray strayOptional nothingCompulsory disordered unsound
     unknownAnswer shortWork uncountable pastEnd measureRefusal width valueOf
 measured = record { result = refl }
 
@@ -234,7 +235,7 @@ spare-sound = (refl, refl, refl)
 no-spare : CoverPost figure1 6 final 63 6 256 (report 5 6 1) spare → ⊥
 unfolding holds insideb without belowb size countFrom earliest times eachOnce lead done nodesOf capacity families family order allSets sets filter soundb eqSet elem starting
     others weight branchesTo branches eqFamily amongb fresh missing newBelow keysFrom keysOf holders allInside takes once covers covering fits down candidates
-    each visit steps firstOf oversize anyPackage stray strayOptional nothingCompulsory disordered unsound unknownItem shortWork spent full callRefusal width valueOf
+    each visit steps firstOf oversize any stray strayOptional nothingCompulsory disordered unsound unknownItem shortWork spent full callRefusal width valueOf
 no-spare C =
     let A = C .answered refl in
     let five : A .number ≡ 5 = gives-one (gives 5) (A .number) 5 (A .outcome) refl in
@@ -250,7 +251,7 @@ publicTable = 4 ∷ 3 ∷ 0 ∷ 1 ∷ 1 ∷ 0 ∷ 2 ∷ 2 ∷ 2 ∷ 1 ∷ 0 ∷ 
 public-cover : CoverPost publicSlot 3 (emptyTable 4) 7 6 256 (report 5 6 4) publicTable
 unfolding holds insideb without belowb size countFrom earliest times eachOnce lead done nodesOf capacity families family order allSets sets filter soundb eqSet elem starting
     others weight branchesTo branches eqFamily amongb fresh missing newBelow keysFrom keysOf holders allInside takes once covers covering fits down candidates each
-    visit steps firstOf oversize anyPackage stray strayOptional nothingCompulsory disordered unsound unknownItem shortWork spent full callRefusal width valueOf
+    visit steps firstOf oversize any stray strayOptional nothingCompulsory disordered unsound unknownItem shortWork spent full callRefusal width valueOf
 public-cover = record {
   declined = λ l. absurd (not-suc-le-zero l);
   answered = λ e. record { number = 5; outcome = refl; known = omega arith; holds = refl; steps = refl; long = refl; sound = refl; old = refl; grown = refl; made = refl };
@@ -260,7 +261,7 @@ public-cover = record {
 optional-cover : CoverPost publicSlot 3 publicTable 4 1 4 (report 1 1 0) publicTable
 unfolding holds insideb without belowb size countFrom earliest times eachOnce lead done nodesOf capacity families family order allSets sets filter soundb eqSet elem starting
     others weight branchesTo branches eqFamily amongb fresh missing newBelow keysFrom keysOf holders allInside takes once covers covering fits down candidates each
-    visit steps firstOf oversize anyPackage stray strayOptional nothingCompulsory disordered unsound unknownItem shortWork spent full callRefusal width valueOf
+    visit steps firstOf oversize any stray strayOptional nothingCompulsory disordered unsound unknownItem shortWork spent full callRefusal width valueOf
 optional-cover = record {
   declined = λ l. absurd (not-suc-le-zero l);
   answered = λ e. record { number = 1; outcome = refl; known = omega arith; holds = refl; steps = refl; long = refl; sound = refl; old = refl; grown = refl; made = refl };
@@ -294,7 +295,7 @@ nothing-due = public-demanded .numbers (public-posting 0) (public-posting 3) (pu
 
 -- the second timetable of 5 leaves the optional item to nobody
 public-picked : PickPost publicSlot 3 publicTable 5 1 6 (7 ∷ 7 ∷ []) (Packages 2) (0 ∷ 3 ∷ [])
-unfolding holds insideb without belowb countFrom earliest times eachOnce lead done nodesOf capacity families family soundb keysFrom keysOf firstOf oversize anyPackage stray strayOptional
+unfolding holds insideb without belowb countFrom earliest times eachOnce lead done nodesOf capacity families family soundb keysFrom keysOf firstOf oversize any stray strayOptional
     nothingCompulsory disordered unsound unknownAnswer shortWork uncountable pastEnd shortPage pickRefusal width valueOf
 public-picked = record { result = refl; pages = refl }
 
@@ -317,7 +318,7 @@ reversedTable = 4 ∷ 1 ∷ 0 ∷ 1 ∷ 4 ∷ 0 ∷ 2 ∷ 0 ∷ 3 ∷ 1 ∷ 2 �
 reversed-cover : CoverPost (figure1In reversed) 6 (emptyTable 4) 63 6 256 (report 5 6 4) reversedTable
 unfolding holds insideb without belowb size countFrom earliest times eachOnce lead done nodesOf capacity families family order allSets sets filter soundb eqSet elem starting
     others weight branchesTo branches eqFamily amongb fresh missing newBelow keysFrom keysOf holders allInside takes once covers covering fits down candidates each
-    visit steps firstOf oversize anyPackage stray strayOptional nothingCompulsory disordered unsound unknownItem shortWork spent full callRefusal width valueOf
+    visit steps firstOf oversize any stray strayOptional nothingCompulsory disordered unsound unknownItem shortWork spent full callRefusal width valueOf
 reversed-cover = record {
   declined = λ l. absurd (not-suc-le-zero l);
   answered = λ e. record { number = 5; outcome = refl; known = omega arith; holds = refl; steps = refl; long = refl; sound = refl; old = refl; grown = refl; made = refl };
@@ -340,7 +341,7 @@ reversed-needed = no-spare-node (figure1In reversed) reversed-calls reversedTabl
 
 -- the second timetable, written by the order
 reversed-picked : PickPost (figure1In reversed) 6 reversedTable 5 1 6 (7 ∷ 7 ∷ 7 ∷ []) (Packages 3) (2 ∷ 4 ∷ 1 ∷ [])
-unfolding holds insideb without belowb countFrom earliest times eachOnce lead done nodesOf capacity families family soundb keysFrom keysOf firstOf oversize anyPackage stray
+unfolding holds insideb without belowb countFrom earliest times eachOnce lead done nodesOf capacity families family soundb keysFrom keysOf firstOf oversize any stray
     strayOptional nothingCompulsory disordered unsound unknownAnswer shortWork uncountable pastEnd shortPage pickRefusal width valueOf
 reversed-picked = record { result = refl; pages = refl }
 

@@ -5,6 +5,7 @@ use mathlib.Core.Path.{_≡_, refl, ap}
 use mathlib.Core.List.{[], _∷_}
 use Prim.Native.Nat.{ℕ}
 use native.Mathlib.Omega.{arith}
+use Rattle.base.specs.Lists.{any}
 use Rattle.itemset.specs.Items.{holds, insideb, without, belowb, size, lowest}
 use Rattle.itemset.specs.Words.{width}
 use Rattle.zdd.specs.Table.{nodesOf, capacity, families, family, order, allSets, sets, filter, soundb, eqSet, elem}
@@ -15,7 +16,7 @@ use Rattle.exact_cover.specs.Steps.{each, visit, steps}
 use Rattle.exact_cover.proofs.NoneOptional.{noneOptional, keysFrom01, keys01, once01, covers01, covering01, fits01, candidates01, visit01, steps01}
 use Rattle.exact_cover.proofs.NoneOptional.{covering-as-before, steps-as-before}
 use Rattle.query.specs.Questions.{unknownPackage, anyUnknown, ascending}
-use Rattle.statement.specs.Refusals.{firstOf, packageTests, oversize, anyPackage, stray, strayOptional, nothingCompulsory, disordered, unsound, unknownItem}
+use Rattle.statement.specs.Refusals.{firstOf, packageTests, oversize, stray, strayOptional, nothingCompulsory, disordered, unsound, unknownItem}
 use Rattle.statement.specs.Refusals.{unpriced, unknownAnswer, notTimetable, shortWork, spent, full, uncountable, absent, checkRefusal, placeRefusal, cheapestRefusal}
 use Rattle.statement.specs.Examples.{allItems, noPackages, figure1, emptyTable, PaperExamples, WideExamples, OptionalExamples, OrderExamples}
 use Rattle.statement.proofs.Admission.{fit-of, rows}
@@ -29,7 +30,7 @@ searchable Q m e = rows (fit-of {Q = Q} {m = m} [] e .0)
 pub paper-examples : PaperExamples
 unfolding holds insideb without belowb size lowest done countFrom times eachOnce nodesOf capacity families order allSets sets filter soundb eqSet
     starting others weight branchesTo branches eqFamily amongb fresh missing keysFrom01 keys01 holders allInside once01 width covers01 covering01 fits01 down
-    candidates01 each visit01 steps01 firstOf oversize anyPackage stray strayOptional nothingCompulsory disordered unknownItem shortWork full
+    candidates01 each visit01 steps01 firstOf oversize any stray strayOptional nothingCompulsory disordered unknownItem shortWork full
 paper-examples = record {
   p1 = covering-as-before 0 [] (searchable (noPackages 0) 0 refl) (allItems 0);
   p2 = covering-as-before 1 [] (searchable (noPackages 1) 1 refl) (allItems 1);
@@ -47,7 +48,7 @@ paper-examples = record {
 pub wide-examples : WideExamples
 unfolding holds insideb without belowb size lead earliest done countFrom times eachOnce nodesOf capacity families order allSets sets filter soundb eqSet
     starting others weight branchesTo branches eqFamily amongb fresh missing keysFrom keysOf holders allInside takes once width covers covering fits down
-    candidates each visit steps firstOf oversize anyPackage stray strayOptional nothingCompulsory disordered unsound unknownItem shortWork spent full
+    candidates each visit steps firstOf oversize any stray strayOptional nothingCompulsory disordered unsound unknownItem shortWork spent full
 wide-examples = record {
   lists = refl;
   steps3 = refl;
@@ -69,7 +70,7 @@ wide-examples = record {
 pub optional-examples : OptionalExamples
 unfolding holds insideb without belowb size lead earliest done countFrom times eachOnce nodesOf capacity families order allSets sets filter soundb eqSet
     starting others weight branchesTo branches eqFamily amongb fresh missing keysFrom keysOf holders allInside takes once width covers covering fits down
-    candidates each visit steps firstOf oversize anyPackage stray strayOptional nothingCompulsory disordered unsound unknownItem shortWork spent full checkRefusal cheapestRefusal
+    candidates each visit steps firstOf oversize any stray strayOptional nothingCompulsory disordered unsound unknownItem shortWork spent full checkRefusal cheapestRefusal
 optional-examples = record {
   lists = refl;
   steps6 = refl;
@@ -90,7 +91,7 @@ optional-examples = record {
 pub order-examples : OrderExamples
 unfolding holds insideb without belowb size lead earliest done countFrom times eachOnce nodesOf capacity families family order allSets sets filter soundb eqSet elem
     keysFrom keysOf holders allInside takes once width covers covering fits down candidates each visit steps unknownPackage anyUnknown ascending
-    firstOf oversize anyPackage stray strayOptional nothingCompulsory disordered unpriced unsound unknownAnswer notTimetable shortWork uncountable absent
+    firstOf oversize any stray strayOptional nothingCompulsory disordered unpriced unsound unknownAnswer notTimetable shortWork uncountable absent
     checkRefusal placeRefusal cheapestRefusal
 order-examples = record {
   lists = refl;

@@ -2,6 +2,7 @@
 pub mod FirstOf
 pub mod Admission
 pub mod TestLaws
+pub mod Overlaps
 pub mod Kept
 pub mod Made
 pub mod Determined

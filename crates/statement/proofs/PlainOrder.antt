@@ -13,7 +13,7 @@ use Rattle.itemset.specs.Items.{belowb}
 use Rattle.itemset.specs.Words.{value}
 use Rattle.itemset.proofs.Laws.{below-lt}
 use Rattle.zdd.specs.Table.{Family, soundb}
-use Rattle.zdd.specs.Operations.{union, inter, differ, including, excluding}
+use Rattle.zdd.specs.Operations.{union, inter, differ, including, excluding, join}
 use Rattle.exact_cover.specs.Problem.{Problem, eachOnce, upTo}
 use Rattle.exact_cover.specs.Cover.{keysOf, covering}
 use Rattle.exact_cover.specs.Steps.{steps}
@@ -21,11 +21,11 @@ use Rattle.exact_cover.proofs.Orders.{length-count, plain-once}
 use Rattle.exact_cover.proofs.PlainOrder.{plain, keysLow, coveringLow, stepsLow, keys-low, covering-low, steps-low}
 use Rattle.query.specs.Questions.{familyAt, nth, cheapest, anyUnknown, ascending}
 use Rattle.statement.specs.declared.Call.{Call}
-use Rattle.statement.specs.declared.Call.the-variants.{Cover, Either, Both, Only, With, Without}
+use Rattle.statement.specs.declared.Call.the-variants.{Cover, Either, Both, Only, With, Without, Join}
 use Rattle.statement.specs.Refusals.{firstOf, oversize, stray, strayOptional, nothingCompulsory, disordered, packageTests, tableTests, Fit, unsound}
 use Rattle.statement.specs.Refusals.{unpriced, unknownAnswer, notTimetable, unknownItem, shortWork, places, spent, full, uncountable, pastEnd, nothing, absent}
 use Rattle.statement.specs.Refusals.{shortPage, checkRefusal, countRefusal, pickRefusal, measureRefusal, placeRefusal, cheapestRefusal}
-use Rattle.statement.specs.Calls.{familyOf, pairTests, partTests, callRefusal, coverRefusal}
+use Rattle.statement.specs.Calls.{familyOf, pairTests, partTests, joinTests, callRefusal, coverRefusal}
 use Rattle.statement.proofs.FirstOf.{pass, exchanged}
 use Rattle.statement.proofs.Admission.{rows}
 
@@ -60,6 +60,7 @@ module _ (B : Definitions) (t : List ℕ) where
   familyBy (Only a b) = differ (B .keys) (familyAt t a) (familyAt t b)
   familyBy (With a p) = including (B .keys) p (familyAt t a)
   familyBy (Without a p) = excluding (B .keys) p (familyAt t a)
+  familyBy (Join a b) = join (B .keys) (familyAt t a) (familyAt t b)
 
   abbrev pub coverTestsBy : (m d limit words : ℕ) → List (Bool × ℕ)
   coverTestsBy m d limit words =
@@ -69,23 +70,24 @@ module _ (B : Definitions) (t : List ℕ) where
       (full t (B .covered d), 10) ∷
       []
 
-  abbrev pub callTestsBy : (packages : List ℕ) (m : ℕ) → Call → ℕ → List (Bool × ℕ)
-  callTestsBy packages m (Cover d limit) words = coverTestsBy m (value d) limit words
-  callTestsBy packages m (Either a b) words = pairTests t a b (familyBy (Either a b)) words
-  callTestsBy packages m (Both a b) words = pairTests t a b (familyBy (Both a b)) words
-  callTestsBy packages m (Only a b) words = pairTests t a b (familyBy (Only a b)) words
-  callTestsBy packages m (With a p) words = partTests packages t a p (familyBy (With a p)) words
-  callTestsBy packages m (Without a p) words = partTests packages t a p (familyBy (Without a p)) words
+  abbrev pub callTestsBy : (Q : Problem) (m : ℕ) → Call → ℕ → List (Bool × ℕ)
+  callTestsBy Q m (Cover d limit) words = coverTestsBy m (value d) limit words
+  callTestsBy Q m (Either a b) words = pairTests t a b (familyBy (Either a b)) words
+  callTestsBy Q m (Both a b) words = pairTests t a b (familyBy (Both a b)) words
+  callTestsBy Q m (Only a b) words = pairTests t a b (familyBy (Only a b)) words
+  callTestsBy Q m (With a p) words = partTests (Q .packages) t a p (familyBy (With a p)) words
+  callTestsBy Q m (Without a p) words = partTests (Q .packages) t a p (familyBy (Without a p)) words
+  callTestsBy Q m (Join a b) words = joinTests Q t a b (familyBy (Join a b)) words
 
 -- every refusal of the problem Q with m items by definitions B, with `front` for the tests of the packages: the tests behind 4 know the packages only by
--- their number and by B
+-- their number, by B and, in 35, by their items
 pub record RefusedBy (Q : Problem) (m : ℕ) (front : List (Bool × ℕ) → List (Bool × ℕ)) (B : Definitions) : Type 0 where
   pub check : (t : List ℕ) → checkRefusal Q m t ≡ firstOf (front ((unsoundBy B t, 4) ∷ []))
   -- the calls that make an answer, and, where the packages pass, their families
   pub family : Fit Q m → (t : List ℕ) (c : Call) → familyOf Q t c ≡ familyBy B t c
   pub cover : (t : List ℕ) (d limit words : ℕ)
       → coverRefusal Q m t d limit words ≡ firstOf (front ((unsoundBy B t, 4) ∷ coverTestsBy B t m d limit words))
-  pub call : (t : List ℕ) (c : Call) (words : ℕ) → callRefusal Q m t c words ≡ firstOf (front ((unsoundBy B t, 4) ∷ callTestsBy B t (Q .packages) m c words))
+  pub call : (t : List ℕ) (c : Call) (words : ℕ) → callRefusal Q m t c words ≡ firstOf (front ((unsoundBy B t, 4) ∷ callTestsBy B t Q m c words))
   -- the questions
   pub count : (t : List ℕ) (a words : ℕ)
       → countRefusal Q m t a words
@@ -133,6 +135,7 @@ module _ (Q : Problem) (m : ℕ) (front : List (Bool × ℕ) → List (Bool × �
   families f t (Only a b) = ap (λ (K : List ℕ). differ K (familyAt t a) (familyAt t b)) (g f .same-keys)
   families f t (With a p) = ap (λ (K : List ℕ). including K p (familyAt t a)) (g f .same-keys)
   families f t (Without a p) = ap (λ (K : List ℕ). excluding K p (familyAt t a)) (g f .same-keys)
+  families f t (Join a b) = ap (λ (K : List ℕ). join K (familyAt t a) (familyAt t b)) (g f .same-keys)
 
   -- 9 is reached with items below M alone
   covers : (t : List ℕ) (d limit words : ℕ) → coverRefusal Q m t d limit words ≡ firstOf (front ((unsoundBy B t, 4) ∷ coverTestsBy B t m d limit words))
@@ -142,7 +145,7 @@ module _ (Q : Problem) (m : ℕ) (front : List (Bool × ℕ) → List (Bool × �
       ap₂ (λ (s : ℕ) (F : Family). firstOf ((shortWork 4 words, 8) ∷ (ltb limit s, 9) ∷ (full t F, 10) ∷ []))
       (g f .same-steps (places words) d (below-lt d m (not-false (belowb d m) n))) (g f .same-covers d)))
 
-  calls : (t : List ℕ) (c : Call) (words : ℕ) → callRefusal Q m t c words ≡ firstOf (front ((unsoundBy B t, 4) ∷ callTestsBy B t (Q .packages) m c words))
+  calls : (t : List ℕ) (c : Call) (words : ℕ) → callRefusal Q m t c words ≡ firstOf (front ((unsoundBy B t, 4) ∷ callTestsBy B t Q m c words))
   unfolding callRefusal
   calls t (Cover d limit) words = covers t (value d) limit words
   calls t (Either a b) words = tabled t _ _ (λ f. ap (λ (F : Family). firstOf (pairTests t a b F words)) (families f t (Either a b)))
@@ -150,6 +153,7 @@ module _ (Q : Problem) (m : ℕ) (front : List (Bool × ℕ) → List (Bool × �
   calls t (Only a b) words = tabled t _ _ (λ f. ap (λ (F : Family). firstOf (pairTests t a b F words)) (families f t (Only a b)))
   calls t (With a p) words = tabled t _ _ (λ f. ap (λ (F : Family). firstOf (partTests (Q .packages) t a p F words)) (families f t (With a p)))
   calls t (Without a p) words = tabled t _ _ (λ f. ap (λ (F : Family). firstOf (partTests (Q .packages) t a p F words)) (families f t (Without a p)))
+  calls t (Join a b) words = tabled t _ _ (λ f. ap (λ (F : Family). firstOf (joinTests Q t a b F words)) (families f t (Join a b)))
 
   pub refused-by : RefusedBy Q m front B
   unfolding checkRefusal countRefusal pickRefusal measureRefusal placeRefusal notTimetable cheapestRefusal

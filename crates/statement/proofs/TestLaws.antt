@@ -8,6 +8,7 @@ use native.Mathlib.Omega.{arith}
 use lib.Dec.{ltb}
 use lib.ListN.{length, getD, drop}
 use borrow.Author.Tests.{ltb-false, lt-ltb, le-ltb, le-leb, lt-leb, eq-eqb, ne-eqb}
+use Rattle.base.specs.Lists.{any}
 use Rattle.base.proofs.Bools.{or-neither}
 use Rattle.itemset.specs.Words.{width}
 use Rattle.zdd.specs.Table.{Family, count}
@@ -15,7 +16,7 @@ use Rattle.exact_cover.specs.Problem.{Problem}
 use Rattle.query.specs.Questions.{unknownPackage}
 use Rattle.statement.specs.Replies.{refused, gives, reply}
 use Rattle.statement.specs.Postconditions.{written}
-use Rattle.statement.specs.Refusals.{oversize, anyPackage, unpriced, unknownAnswer, shortWork, uncountable, pastEnd, nothing, shortPage}
+use Rattle.statement.specs.Refusals.{oversize, unpriced, unknownAnswer, shortWork, uncountable, pastEnd, nothing, shortPage}
 
 -- ---- replies
 
@@ -58,17 +59,17 @@ within-limits m packages e =
 
 module _ (f : ℕ → Bool) where
   -- where none does, package p does not
-  pub package-passes : (xs : List ℕ) → anyPackage f xs ≡ false → (p : ℕ) → p < length xs → f (getD xs p 0) ≡ false
-  unfolding anyPackage
+  pub package-passes : (xs : List ℕ) → any f xs ≡ false → (p : ℕ) → p < length xs → f (getD xs p 0) ≡ false
+  unfolding any
   package-passes [] e p l = absurd (not-suc-le-zero l)
-  package-passes (x ∷ xs) e zero l = or-neither (f x) (anyPackage f xs) e .0
-  package-passes (x ∷ xs) e (suc p) l = package-passes xs (or-neither (f x) (anyPackage f xs) e .1) p (le-of-suc-le-suc l)
+  package-passes (x ∷ xs) e zero l = or-neither (f x) (any f xs) e .0
+  package-passes (x ∷ xs) e (suc p) l = package-passes xs (or-neither (f x) (any f xs) e .1) p (le-of-suc-le-suc l)
 
   -- nor does any pass a test that asks more
-  pub none-stricter : (g : ℕ → Bool) → ((x : ℕ) → f x ≡ false → g x ≡ false) → (xs : List ℕ) → anyPackage f xs ≡ false → anyPackage g xs ≡ false
-  unfolding anyPackage
+  pub none-stricter : (g : ℕ → Bool) → ((x : ℕ) → f x ≡ false → g x ≡ false) → (xs : List ℕ) → any f xs ≡ false → any g xs ≡ false
+  unfolding any
   none-stricter g h [] e = refl
-  none-stricter g h (x ∷ xs) e = let b = or-neither (f x) (anyPackage f xs) e in ap₂ _||_ (h x (b .0)) (none-stricter g h xs (b .1))
+  none-stricter g h (x ∷ xs) e = let b = or-neither (f x) (any f xs) e in ap₂ _||_ (h x (b .0)) (none-stricter g h xs (b .1))
 
 -- ---- 3
 

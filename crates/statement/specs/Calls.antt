@@ -2,17 +2,17 @@
 -- Q is the problem, m is M, t has the table's words, and `words` is the number of working words. Assumes nothing.
 use mathlib.Core.Bool.{Bool, _||_}
 use mathlib.Core.List.{List, [], _∷_}
-use Prim.Native.Nat.{ℕ}
+use Prim.Native.Nat.{ℕ, _+_, max}
 use Rattle.itemset.specs.Words.{value}
 use Rattle.zdd.specs.Table.{Family}
-use Rattle.zdd.specs.Operations.{union, inter, differ, including, excluding}
+use Rattle.zdd.specs.Operations.{union, inter, differ, including, excluding, join}
 use Rattle.exact_cover.specs.Problem.{Problem}
 use Rattle.exact_cover.specs.Cover.{keysOf, covering}
 use Rattle.exact_cover.specs.Steps.{steps}
 use Rattle.query.specs.Questions.{familyAt, unknownPackage}
 use Rattle.statement.specs.declared.Call.{Call}
-use Rattle.statement.specs.declared.Call.the-variants.{Cover, Either, Both, Only, With, Without}
-use Rattle.statement.specs.Refusals.{firstOf, tableTests, unknownAnswer, unknownItem, shortWork, places, spent, full}
+use Rattle.statement.specs.declared.Call.the-variants.{Cover, Either, Both, Only, With, Without, Join}
+use Rattle.statement.specs.Refusals.{firstOf, tableTests, unknownAnswer, unknownItem, overlap, shortWork, places, spent, full}
 
 -- the answers that it reads
 abbrev pub operands : Call → List ℕ
@@ -22,6 +22,7 @@ operands (Both a b) = a ∷ b ∷ []
 operands (Only a b) = a ∷ b ∷ []
 operands (With a p) = a ∷ []
 operands (Without a p) = a ∷ []
+operands (Join a b) = a ∷ b ∷ []
 
 -- the family that it makes
 abbrev pub familyOf : (Q : Problem) (t : List ℕ) → Call → Family
@@ -31,6 +32,7 @@ familyOf Q t (Both a b) = inter (keysOf Q) (familyAt t a) (familyAt t b)
 familyOf Q t (Only a b) = differ (keysOf Q) (familyAt t a) (familyAt t b)
 familyOf Q t (With a p) = including (keysOf Q) p (familyAt t a)
 familyOf Q t (Without a p) = excluding (keysOf Q) p (familyAt t a)
+familyOf Q t (Join a b) = join (keysOf Q) (familyAt t a) (familyAt t b)
 
 -- its steps
 abbrev pub stepsOf : Problem → Call → ℕ → ℕ
@@ -40,6 +42,7 @@ stepsOf Q (Both a b) words = 0
 stepsOf Q (Only a b) words = 0
 stepsOf Q (With a p) words = 0
 stepsOf Q (Without a p) words = 0
+stepsOf Q (Join a b) words = 0
 
 -- the tests of a call on two answers that makes F: 5 is said of either
 abbrev pub pairTests : (t : List ℕ) (a b : ℕ) (F : Family) (words : ℕ) → List (Bool × ℕ)
@@ -55,6 +58,15 @@ partTests packages t a p F words =
     (unknownAnswer t a, 5) ∷
     (unknownPackage packages p, 6) ∷
     (shortWork 2 words, 8) ∷
+    (full t F, 10) ∷
+    []
+
+-- of join: 35 stands behind 5, and the least working words are one more than the larger answer, and at least 2 [document 02, No. 5]
+abbrev pub joinTests : (Q : Problem) (t : List ℕ) (a b : ℕ) (F : Family) (words : ℕ) → List (Bool × ℕ)
+joinTests Q t a b F words =
+    (unknownAnswer t a || unknownAnswer t b, 5) ∷
+    (overlap Q t a b, 35) ∷
+    (shortWork (max (max a b) 1 + 1) words, 8) ∷
     (full t F, 10) ∷
     []
 
@@ -75,6 +87,7 @@ callTests Q m t (Both a b) words = pairTests t a b (familyOf Q t (Both a b)) wor
 callTests Q m t (Only a b) words = pairTests t a b (familyOf Q t (Only a b)) words
 callTests Q m t (With a p) words = partTests (Q .packages) t a p (familyOf Q t (With a p)) words
 callTests Q m t (Without a p) words = partTests (Q .packages) t a p (familyOf Q t (Without a p)) words
+callTests Q m t (Join a b) words = joinTests Q t a b (familyOf Q t (Join a b)) words
 
 unfoldable pub callRefusal : (Q : Problem) (m : ℕ) (t : List ℕ) → Call → ℕ → ℕ
 callRefusal Q m t c words = firstOf (tableTests Q m t (callTests Q m t c words))

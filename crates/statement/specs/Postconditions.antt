@@ -12,7 +12,7 @@ use Rattle.exact_cover.specs.Problem.{Problem}
 use Rattle.exact_cover.specs.Cover.{keysOf, covering}
 use Rattle.exact_cover.specs.Steps.{steps}
 use Rattle.statement.specs.declared.Call.{Call}
-use Rattle.statement.specs.declared.Call.the-variants.{Either, Both, Only, With, Without}
+use Rattle.statement.specs.declared.Call.the-variants.{Either, Both, Only, With, Without, Join}
 use Rattle.statement.specs.declared.Report.{Report}
 use Rattle.statement.specs.declared.Soundness.{Soundness}
 use Rattle.statement.specs.declared.Counted.{Counted}
@@ -25,7 +25,7 @@ use Rattle.query.specs.Questions.{familyAt, nth, position, cost, cheapest}
 use Rattle.statement.specs.Calls.{familyOf, stepsOf, callRefusal, coverRefusal}
 use Rattle.statement.specs.Refusals.{places, checkRefusal, countRefusal, pickRefusal, measureRefusal, placeRefusal, cheapestRefusal}
 
--- ---- the calls that make an answer: cover, either, both, only, with, without
+-- ---- the calls that make an answer: cover, either, both, only, with, without, join
 
 -- the call is refused with the number n: 0 steps, no node made, and the table is as before
 pub record Declined (n : ℕ) (t : List ℕ) (r : Report) (t′ : List ℕ) : Type 0 where
@@ -83,6 +83,10 @@ WithPost Q m t a p words = AnswerPost Q m t (With a p) words
 -- without p: those that do not
 abbrev pub WithoutPost : (Q : Problem) (m : ℕ) (t : List ℕ) (a p words : ℕ) → Report → List ℕ → Type 0
 WithoutPost Q m t a p words = AnswerPost Q m t (Without a p) words
+
+-- join: every union of a timetable of the first and one of the second
+abbrev pub JoinPost : (Q : Problem) (m : ℕ) (t : List ℕ) (a b words : ℕ) → Report → List ℕ → Type 0
+JoinPost Q m t a b words = AnswerPost Q m t (Join a b) words
 
 -- ---- the questions. They are lent the table for reading only
 

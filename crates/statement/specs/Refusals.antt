@@ -7,11 +7,13 @@ use mathlib.Core.List.{List, [], _∷_}
 use Prim.Native.Nat.{ℕ, _+_, _/_}
 use lib.Dec.{eqb, leb, ltb}
 use lib.ListN.{length}
-use Rattle.itemset.specs.Items.{belowb}
+use Rattle.base.specs.Lists.{any}
+use Rattle.itemset.specs.Items.{belowb, apartb}
 use Rattle.itemset.specs.Words.{width}
-use Rattle.zdd.specs.Table.{Family, count, elem, soundb}
+use Rattle.zdd.specs.Table.{Family, count, nodesOf, elem, soundb}
+use Rattle.zdd.specs.Below.{labelsBelow}
 use Rattle.zdd.specs.Branches.{noRoom}
-use Rattle.exact_cover.specs.Problem.{Problem, eachOnce, done}
+use Rattle.exact_cover.specs.Problem.{Problem, row, eachOnce, done}
 use Rattle.exact_cover.specs.Cover.{keysOf}
 use Rattle.exact_cover.specs.Steps.{steps}
 use Rattle.query.specs.Questions.{familyAt, nth, cheapest, anyUnknown, ascending}
@@ -26,17 +28,12 @@ firstOf (t ∷ ts) = elim (t .0) [ true ↦ t .1 | false ↦ firstOf ts ]
 unfoldable pub oversize : ℕ → List ℕ → Bool
 oversize m packages = ltb width m || ltb 512 (length packages)
 
--- some package passes the test f
-unfoldable pub anyPackage : (ℕ → Bool) → List ℕ → Bool
-anyPackage f [] = false
-anyPackage f (x ∷ xs) = f x || anyPackage f xs
-
 -- 2 stray: an empty package, or an item of M or above in one
 abbrev pub strayPackage : ℕ → ℕ → Bool
 strayPackage m x = eqb x 0 || not (belowb x m)
 
 unfoldable pub stray : ℕ → List ℕ → Bool
-stray m packages = anyPackage (strayPackage m) packages
+stray m packages = any (strayPackage m) packages
 
 -- 29: an optional item of M or above [document 02, No. 1]
 unfoldable pub strayOptional : ℕ → Problem → Bool
@@ -44,7 +41,7 @@ strayOptional m Q = not (belowb (Q .optional) m)
 
 -- 30: a package without a compulsory item
 unfoldable pub nothingCompulsory : Problem → Bool
-nothingCompulsory Q = anyPackage (done Q) (Q .packages)
+nothingCompulsory Q = any (done Q) (Q .packages)
 
 -- 34: the order is not each item just once: it is not M long, or some item below M is not in it just once [document 02, No. 4]
 unfoldable pub disordered : ℕ → List ℕ → Bool
@@ -70,6 +67,11 @@ notTimetable Q s = anyUnknown (Q .packages) s || not (ascending (keysOf Q) s)
 -- 7 unknown item: D has an item of M or above
 unfoldable pub unknownItem : ℕ → ℕ → Bool
 unknownItem m d = not (belowb d m)
+
+-- 35 overlap: some package on a node below the answer a, its own node included, shares an item with one below b; optional items are items too. Below 0 and 1
+-- there is no node [document 02, No. 5]
+unfoldable pub overlap : Problem → List ℕ → ℕ → ℕ → Bool
+overlap Q t a b = any (λ p. any (λ q. not (apartb (row Q p) (row Q q))) (labelsBelow (nodesOf t) b)) (labelsBelow (nodesOf t) a)
 
 -- 8 short work: fewer working words than the call's least
 unfoldable pub shortWork : ℕ → ℕ → Bool

@@ -14,6 +14,7 @@ pub enum Call {
     Only { a: u32, b: u32 },
     With { a: u32, p: u32 },
     Without { a: u32, p: u32 },
+    Join { a: u32, b: u32 },
 }
 
 // How a call that makes an answer ended: the answer's number, or the number of a refusal.
