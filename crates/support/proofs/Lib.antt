@@ -1,0 +1,2 @@
+-- Laws of support.
+pub mod Marking

@@ -1,0 +1,2 @@
+-- What the contracts of support cite.
+pub mod Support
