@@ -98,7 +98,7 @@ module _ {K : List ℕ} {ns : List Node} (n : Nodes K ns) where
 
 -- ---- lists
 
-in-filter : {A : Type 0} (P : A → Bool) (l : List A) {a : A} → a ∈ filter P l → (a ∈ l) × (P a ≡ true)
+pub in-filter : {A : Type 0} (P : A → Bool) (l : List A) {a : A} → a ∈ filter P l → (a ∈ l) × (P a ≡ true)
 unfolding filter
 in-filter P [] m = absurd (List·Memᴰ·not-nil m)
 in-filter {A} P (x ∷ l) {a} m = go (P x) refl (in-filter P l) m
@@ -107,7 +107,7 @@ in-filter {A} P (x ∷ l) {a} m = go (P x) refl (in-filter P l) m
     go true e ih m = ⊎-elim (λ q. (List·Memᴰ·head q, ap P q ∙ e)) (λ k. let r = ih k in (List·Memᴰ·tail (r .0), r .1)) (List·Memᴰ·cases-cons m)
     go false e ih m = let r = ih m in (List·Memᴰ·tail (r .0), r .1)
 
-filter-in : {A : Type 0} (P : A → Bool) (l : List A) {a : A} → a ∈ l → P a ≡ true → a ∈ filter P l
+pub filter-in : {A : Type 0} (P : A → Bool) (l : List A) {a : A} → a ∈ l → P a ≡ true → a ∈ filter P l
 unfolding filter
 filter-in P [] m e = absurd (List·Memᴰ·not-nil m)
 filter-in {A} P (x ∷ l) {a} m e = go (P x) refl (λ k. filter-in P l k e) (List·Memᴰ·cases-cons m)
@@ -148,7 +148,7 @@ filter-all {A} P (x ∷ l) e {a} m = go (P x) refl e (λ q k. filter-all P l q k
     go true q e ih (inr k) = ih (omega arith) k
     go false q e ih c = absurd (omega (arith, filter-short P l))
 
-distinct-map : {A B : Type 0} (f : A → B) (l : List A) → Distinct l → ((a b : A) → a ∈ l → b ∈ l → f a ≡ f b → a ≡ b) → Distinct (map f l)
+pub distinct-map : {A B : Type 0} (f : A → B) (l : List A) → Distinct l → ((a b : A) → a ∈ l → b ∈ l → f a ≡ f b → a ≡ b) → Distinct (map f l)
 distinct-map f [] d h = tt
 distinct-map f (x ∷ l) d h = (
   λ m. let r = Memᴰ·of-map f l m in d .0 (Memᴰ·cast (h x (r .0) (List·Memᴰ·head refl) (List·Memᴰ·tail (r .1)) (sym (r .2))) (r .1)),

@@ -1,5 +1,6 @@
 -- THEOREM: in a sound table two numbers with one family are one number. Assumes nothing.
 use mathlib.Core.Path.{_≡_, refl, sym, ap, ap₂, _∙_, subst}
+use mathlib.Core.Bool.{true}
 use mathlib.Core.List.{List, [], _∷_, cons≢nil, head-eq-of-cons-eq, tail-eq-of-cons-eq}
 use Prim.Native.Nat.{ℕ, zero, suc, _<_}
 use native.Mathlib.Omega.{arith}
@@ -59,6 +60,15 @@ module _ {K : List ℕ} {ns : List Node} (n : Nodes K ns) (i : ℕ) (w : i < len
 
   pub family-parts : family ns (suc (suc i)) ≡ fork (getD ns i blank .label) (family ns (getD ns i blank .hi)) (family ns (getD ns i blank .lo))
   family-parts = family-node ns i w (n .each i w .lo-below) (n .each i w .hi-below)
+
+  -- a set that begins with the label
+  pub label-set : (t : List ℕ) × (elem (getD ns i blank .label ∷ t) (family ns (suc (suc i))) ≡ true)
+  label-set = go (family ns (getD ns i blank .hi)) hi-family-some family-parts
+    where
+      go : (F1 : Family) → (F1 ≡ [] → ⊥) → family ns (suc (suc i)) ≡ fork (getD ns i blank .label) F1 (family ns (getD ns i blank .lo))
+          → (t : List ℕ) × (elem (getD ns i blank .label ∷ t) (family ns (suc (suc i))) ≡ true)
+      go [] a e = absurd (a refl)
+      go (t ∷ F1) a e = (t, ap (elem (getD ns i blank .label ∷ t)) e ∙ elem-head _ _)
 
 module _ {K : List ℕ} {ns : List Node} (n : Nodes K ns) where
   -- what two nodes with one family have in common, their children's families told apart

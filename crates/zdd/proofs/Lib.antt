@@ -18,6 +18,9 @@ pub mod Room
 pub mod Split
 pub mod Restrict
 pub mod Parts
+pub mod Unions
+pub mod Join
+pub mod JoinParts
 pub mod Got
 pub mod Examples
 pub mod Support

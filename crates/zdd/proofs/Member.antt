@@ -1,15 +1,15 @@
 -- Membership of a set in a family, and families whose sets begin late. Assumes nothing.
 use mathlib.Core.Path.{_≡_, refl, sym, ap, ap₂, _∙_, subst}
 use mathlib.Core.Bool.{Bool, true, false, _&&_, _||_, and-false, or-assoc, and-or-distrib-left}
-use mathlib.Core.List.{List, [], _∷_, _++_, map, List·Memᴰ·head, List·Memᴰ·tail}
+use mathlib.Core.List.{List, [], _∷_, _++_, map, List·Memᴰ·head, List·Memᴰ·tail, List·Memᴰ·cases-cons, List·Memᴰ·not-nil}
 use mathlib.Core.Logic.{_⊎_, inl, inr, ⊎-elim}
 use Prim.Native.Nat.{ℕ, suc, _≤_, _<_}
 use native.Mathlib.Omega.{arith}
 use lib.Dec.{eqb}
 use lib.ListN.{length, getD}
-use borrow.Author.Tests.{eqb-true}
-use Rattle.base.proofs.Bools.{never, is-false, and-left, and-right, and-both, or-cases, or-neither, or-left, eqb-same}
-use Rattle.zdd.specs.Table.{Node, blank, Family, fork, family, key, Over, Nodes, eqSet, elem, _∈_}
+use borrow.Author.Tests.{eqb-true, eq-eqb}
+use Rattle.base.proofs.Bools.{never, is-false, and-left, and-right, and-both, or-cases, or-neither, or-left, or-right, eqb-same}
+use Rattle.zdd.specs.Table.{Node, blank, Family, fork, family, key, Over, Nodes, eqSet, elem, has, _∈_}
 use Rattle.zdd.proofs.Grow.{family-ind, downward}
 use Rattle.zdd.specs.Work.{From}
 
@@ -33,6 +33,24 @@ elem-in t [] e = absurd (never e refl)
 elem-in t (u ∷ F) e =
     ⊎-elim (λ (x : eqSet t u ≡ true). List·Memᴰ·head (eqSet-eq t u x)) (λ (x : elem t F ≡ true). List·Memᴰ·tail (elem-in t F x)) (or-cases (eqSet t u) (elem t F) e)
 
+pub in-elem : (t : List ℕ) (F : Family) → t ∈ F → elem t F ≡ true
+unfolding elem
+in-elem t [] m = absurd (List·Memᴰ·not-nil m)
+in-elem t (u ∷ F) m =
+    ⊎-elim (λ e. or-left (eqSet t u) (elem t F) (ap (eqSet t) (sym e) ∙ eqSet-same t)) (λ n. or-right (eqSet t u) (elem t F) (in-elem t F n)) (List·Memᴰ·cases-cons m)
+
+-- the same for the labels of a list
+pub has-in : (x : ℕ) (l : List ℕ) → has x l ≡ true → x ∈ l
+unfolding has
+has-in x [] e = absurd (never e refl)
+has-in x (y ∷ l) e = ⊎-elim (λ (q : eqb x y ≡ true). List·Memᴰ·head (eqb-true x y q)) (λ (k : has x l ≡ true). List·Memᴰ·tail (has-in x l k)) (or-cases (eqb x y) (has x l) e)
+
+pub in-has : (x : ℕ) (l : List ℕ) → x ∈ l → has x l ≡ true
+unfolding has
+in-has x [] m = absurd (List·Memᴰ·not-nil m)
+in-has x (y ∷ l) m =
+    ⊎-elim (λ e. or-left (eqb x y) (has x l) (eq-eqb x y e)) (λ n. or-right (eqb x y) (has x l) (in-has x l n)) (List·Memᴰ·cases-cons m)
+
 -- the first set of a family is in it
 pub elem-head : (t : List ℕ) (F : Family) → elem t (t ∷ F) ≡ true
 unfolding elem
@@ -55,6 +73,13 @@ elem-cons-map p q t [] = sym (and-false (eqb q p))
 elem-cons-map p q t (u ∷ F) =
     ap (λ (b : Bool). (eqb q p && eqSet t u) || b) (elem-cons-map p q t F) ∙ sym (and-or-distrib-left (eqb q p) (eqSet t u) (elem t F))
 
+-- what has p in front
+pub front : (p : ℕ) (F : Family) (s : List ℕ) → elem s (map (λ (t : List ℕ). p ∷ t) F) ≡ true → (t : List ℕ) × (s ≡ p ∷ t) × (elem t F ≡ true)
+front p F [] e = absurd (never e (elem-nil-map p F))
+front p F (q ∷ t) e =
+    let b : (eqb q p && elem t F) ≡ true = sym (elem-cons-map p q t F) ∙ e in
+    (t, ap (λ (x : ℕ). x ∷ t) (eqb-true q p (and-left (eqb q p) (elem t F) b)), and-right (eqb q p) (elem t F) b)
+
 pub elem-fork-nil : (p : ℕ) (F1 F0 : Family) → elem [] (fork p F1 F0) ≡ elem [] F0
 elem-fork-nil p F1 F0 =
     elem-append [] (map (λ (t : List ℕ). p ∷ t) F1) F0 ∙ ap (λ (b : Bool). b || elem [] F0) (elem-nil-map p F1)
@@ -71,6 +96,18 @@ fork-cases p q t F1 F0 e = go (or-cases (eqb q p && elem t F1) (elem (q ∷ t) F
     go : ((eqb q p && elem t F1) ≡ true) ⊎ (elem (q ∷ t) F0 ≡ true) → ((q ≡ p) × (elem t F1 ≡ true)) ⊎ (elem (q ∷ t) F0 ≡ true)
     go (inl a) = inl (eqb-true q p (and-left (eqb q p) (elem t F1) a), and-right (eqb q p) (elem t F1) a)
     go (inr b) = inr b
+
+-- a set of a fork is one of the first family with p in front, or one of the second
+pub fork-of : (p : ℕ) (s : List ℕ) (F1 F0 : Family) → elem s (fork p F1 F0) ≡ true → ((t : List ℕ) × (s ≡ p ∷ t) × (elem t F1 ≡ true)) ⊎ (elem s F0 ≡ true)
+fork-of p s F1 F0 e =
+    let with-p : Family = map (λ (t : List ℕ). p ∷ t) F1 in
+    ⊎-elim (λ a. inl (front p F1 s a)) (λ b. inr b) (or-cases (elem s with-p) (elem s F0) (sym (elem-append s with-p F0) ∙ e))
+
+pub fork-hi : (p : ℕ) (t : List ℕ) (F1 F0 : Family) → elem t F1 ≡ true → elem (p ∷ t) (fork p F1 F0) ≡ true
+fork-hi p t F1 F0 e = elem-fork-cons p p t F1 F0 ∙ or-left (eqb p p && elem t F1) (elem (p ∷ t) F0) (and-both (eqb p p) (elem t F1) (eqb-same p) e)
+
+pub fork-lo : (p : ℕ) (t : List ℕ) (F1 F0 : Family) → elem t F0 ≡ true → elem t (fork p F1 F0) ≡ true
+fork-lo p t F1 F0 e = elem-append t (map (λ (u : List ℕ). p ∷ u) F1) F0 ∙ or-right (elem t (map (λ (u : List ℕ). p ∷ u) F1)) (elem t F0) e
 
 -- ---- where the sets of a family begin
 

@@ -1,18 +1,18 @@
 -- THEOREM: `sets` is in listing order: of two sets, the first label in the order of the keys that only one of them has is in the one listed first.
 -- So are the families of a sound table, and what a test keeps. Assumes nothing.
 use mathlib.Core.Path.{_≡_, refl, sym, ap, ap₂, _∙_, subst}
-use mathlib.Core.Bool.{Bool, true, false, _&&_, _||_}
-use mathlib.Core.List.{List, [], _∷_, _++_, map, Sublistᴰ, Sublistᴰ·slnil, Sublistᴰ·cons, Sublistᴰ·cons-cons}
+use mathlib.Core.Bool.{Bool, true, false, _||_}
+use mathlib.Core.List.{List, [], _∷_, _++_, map, Sublistᴰ, Sublistᴰ·slnil, Sublistᴰ·cons, Sublistᴰ·cons-cons, List·Memᴰ·cases-cons, List·Memᴰ·not-nil}
 use mathlib.Core.Logic.{_⊎_, inl, inr}
 use Prim.Native.Nat.{ℕ, zero, suc, _<_}
 use native.Mathlib.Nat.{not-suc-le-zero, le-of-suc-le-suc}
 use native.Mathlib.Omega.{arith}
 use lib.Dec.{eqb}
 use lib.ListN.{length, getD}
-use borrow.Author.Tests.{eqb-true, ne-eqb}
-use Rattle.base.proofs.Bools.{never, is-false, and-left, and-right, or-cases, or-left, or-right, eqb-same}
-use Rattle.zdd.specs.Table.{Family, key, eqSet, elem, allSets, sets, order, Keys, has}
-use Rattle.zdd.proofs.Member.{eqSet-same, elem-append, elem-nil-map, elem-cons-map}
+use borrow.Author.Tests.{ne-eqb}
+use Rattle.base.proofs.Bools.{never, is-false, or-cases, or-left, or-right, eqb-same}
+use Rattle.zdd.specs.Table.{Family, key, eqSet, elem, allSets, sets, order, Keys, has, _∈_}
+use Rattle.zdd.proofs.Member.{eqSet-same, elem-in, in-elem, elem-append, front}
 use Rattle.zdd.proofs.Sorting.{Sorted, order-sorted}
 use Rattle.zdd.proofs.Listing.{all-labels, Listed, listed-part, part-elem}
 use Rattle.zdd.specs.ListingOrder.{Earlier, Descends}
@@ -48,13 +48,6 @@ descends-append K (s ∷ F) G d e h = (
     go : (t : List ℕ) → (elem t F ≡ true) ⊎ (elem t G ≡ true) → Earlier K s t
     go t (inl a) = d .0 t a
     go t (inr b) = h s t (or-left (eqSet s s) (elem s F) (eqSet-same s)) b
-
--- what has p in front
-front : (p : ℕ) (F : Family) (s : List ℕ) → elem s (map (λ (t : List ℕ). p ∷ t) F) ≡ true → (t : List ℕ) × (s ≡ p ∷ t) × (elem t F ≡ true)
-front p F [] e = absurd (never e (elem-nil-map p F))
-front p F (q ∷ t) e =
-    let b : (eqb q p && elem t F) ≡ true = sym (elem-cons-map p q t F) ∙ e in
-    (t, ap (λ (x : ℕ). x ∷ t) (eqb-true q p (and-left (eqb q p) (elem t F) b)), and-right (eqb q p) (elem t F) b)
 
 module _ (K : List ℕ) (p : ℕ) (ps : List ℕ) (later : (r : ℕ) → has r ps ≡ true → key K p < key K r) where
   -- a label up to p is in no set of ps
@@ -117,3 +110,23 @@ sets-ordered K k = descends-at K (sets K) (sets-descend K k)
 -- THEOREM: a listed family is in listing order
 pub listed-ordered : (K : List ℕ) → Keys K → (F : Family) → Listed K F → (i j : ℕ) → i < j → j < length F → Earlier K (getD F i []) (getD F j [])
 listed-ordered K k F s = descends-at K F (descends-part K (listed-part K F s) (sets-descend K k))
+
+-- ---- a set is told by its labels
+
+-- of two sets with the same labels neither is listed before the other
+not-earlier : (K s u : List ℕ) → ((p : ℕ) → has p s ≡ has p u) → Earlier K s u → ⊥
+not-earlier K s u f e = never (sym (f (e .first)) ∙ e .here) (e .not-there)
+
+descends-ext : (K : List ℕ) (F : Family) → Descends K F → (s u : List ℕ) → s ∈ F → u ∈ F → ((p : ℕ) → has p s ≡ has p u) → s ≡ u
+descends-ext K [] d s u a b f = absurd (List·Memᴰ·not-nil a)
+descends-ext K (t ∷ F) d s u a b f = go (List·Memᴰ·cases-cons a) (List·Memᴰ·cases-cons b) (λ i j. descends-ext K F (d .1) s u i j f)
+  where
+    go : (s ≡ t) ⊎ (s ∈ F) → (u ≡ t) ⊎ (u ∈ F) → (s ∈ F → u ∈ F → s ≡ u) → s ≡ u
+    go (inl x) (inl y) ih = x ∙ sym y
+    go (inl x) (inr j) ih = absurd (not-earlier K s u f (subst (λ (w : List ℕ). Earlier K w u) (sym x) (d .0 u (in-elem u F j))))
+    go (inr i) (inl y) ih = absurd (not-earlier K u s (λ p. sym (f p)) (subst (λ (w : List ℕ). Earlier K w s) (sym y) (d .0 s (in-elem s F i))))
+    go (inr i) (inr j) ih = ih i j
+
+-- THEOREM: two sets with the same labels are one
+pub sets-ext : (K : List ℕ) → Keys K → (s u : List ℕ) → elem s (sets K) ≡ true → elem u (sets K) ≡ true → ((p : ℕ) → has p s ≡ has p u) → s ≡ u
+sets-ext K k s u a b = descends-ext K (sets K) (sets-descend K k) s u (elem-in s (sets K) a) (elem-in u (sets K) b)

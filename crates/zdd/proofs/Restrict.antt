@@ -77,7 +77,7 @@ unfolding keep
 keep-none P K F h =
     filter-same (λ t. elem t F && P t) (λ t. false) (sets K) (λ t m. both-same (elem t F) (P t) false (h t) ∙ and-false (elem t F)) ∙ filter-none (sets K)
 
--- ---- a set of a listed family that begins after p does not hold p
+-- ---- the labels of sets that begin late
 
 all-later : (K ps : List ℕ) → Sorted K ps → (q : ℕ) (u : List ℕ) (r : ℕ) → elem (q ∷ u) (allSets ps) ≡ true → has r u ≡ true → key K q < key K r
 unfolding allSets elem
@@ -89,21 +89,27 @@ all-later K (p ∷ ps) s q u r e h = go (fork-cases p q u (allSets ps) (allSets 
     go (inl a) f = let l : key K p < key K r = s .0 r (all-labels ps u r (a .1) h) in subst (λ (x : ℕ). key K x < key K r) (sym (a .0)) l
     go (inr a) f = f a h
 
+-- in a set each label comes after the first
 sets-later : (K : List ℕ) → Keys K → (q : ℕ) (u : List ℕ) (r : ℕ) → elem (q ∷ u) (sets K) ≡ true → has r u ≡ true → key K q < key K r
 unfolding sets
 sets-later K k = all-later K (order K) (order-sorted K k)
 
-pub late : (K : List ℕ) → Keys K → (p : ℕ) (F : Family) → Listed K F → From K (suc (key K p)) F → (t : List ℕ) → elem t F ≡ true → has p t ≡ false
+-- where the sets of a listed family begin at b or later, so do all their labels
+pub labels-from : (K : List ℕ) → Keys K → (b : ℕ) (F : Family) → Listed K F → From K b F → (t : List ℕ) → elem t F ≡ true → (r : ℕ) → has r t ≡ true → b ≤ key K r
 unfolding has
-late K k p F l f [] e = refl
-late K k p F l f (q ∷ u) e = is-false (eqb p q || has p u) (λ h. go (or-cases (eqb p q) (has p u) h))
+labels-from K k b F l f [] e r h = absurd (never h refl)
+labels-from K k b F l f (q ∷ u) e r h = go (or-cases (eqb r q) (has r u) h)
   where
-    first : suc (key K p) ≤ key K q
-    first = from-at K (suc (key K p)) F f q u e
+    first : b ≤ key K q
+    first = from-at K b F f q u e
 
-    go : (eqb p q ≡ true) ⊎ (has p u ≡ true) → ⊥
-    go (inl x) = let z : key K p ≡ key K q = ap (key K) (eqb-true p q x) in let y : suc (key K p) ≤ key K q = first in omega arith
-    go (inr x) = let z : key K q < key K p = sets-later K k q u p (listed-elem K F l (q ∷ u) e) x in let y : suc (key K p) ≤ key K q = first in omega arith
+    go : (eqb r q ≡ true) ⊎ (has r u ≡ true) → b ≤ key K r
+    go (inl x) = let z : key K r ≡ key K q = ap (key K) (eqb-true r q x) in omega (arith, first)
+    go (inr x) = omega (arith, first, sets-later K k q u r (listed-elem K F l (q ∷ u) e) x)
+
+-- so none that begins after p holds p
+pub late : (K : List ℕ) → Keys K → (p : ℕ) (F : Family) → Listed K F → From K (suc (key K p)) F → (t : List ℕ) → elem t F ≡ true → has p t ≡ false
+late K k p F l f t e = is-false (has p t) (λ h. let z : suc (key K p) ≤ key K p = labels-from K k (suc (key K p)) F l f t e p h in omega arith)
 
 -- ---- the two restrictions
 
