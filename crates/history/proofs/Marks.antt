@@ -1,16 +1,15 @@
 -- The marks of the numbers given: laws over plain lists. Assumes nothing.
 use mathlib.Core.Path.{_≡_, refl, sym, ap, _∙_}
-use mathlib.Core.Logic.{⊎-elim}
 use mathlib.Core.Bool.{Bool, true, false, _&&_, _||_}
-use mathlib.Core.List.{List, [], _∷_, List·Memᴰ·head, List·Memᴰ·tail}
+use mathlib.Core.List.{List, [], _∷_}
 use Prim.Native.Nat.{ℕ, _<_}
 use native.Mathlib.Omega.{arith}
 use lib.Dec.{eqb, ltb}
 use lib.ListN.{length, getD, set, replicate, length-replicate, getD-replicate, List·getD-eq-default}
 use lib.Seq.{getD-set-same, getD-set-other}
 use borrow.Author.Tests.{ltb-true, ltb-false, eqb-true, eqb-false}
-use Rattle.base.proofs.Bools.{never, by-test, or-cases}
-use Rattle.zdd.specs.Table.{count, has, _∈_}
+use Rattle.base.proofs.Bools.{by-test}
+use Rattle.zdd.specs.Table.{count, has}
 use Rattle.statement.specs.Replies.{Reply, refused, gives}
 use Rattle.history.specs.Histories.{Calls, give, given}
 use Rattle.history.proofs.Requests.{stop, goes}
@@ -62,9 +61,3 @@ marked-passes g t h l m x = ap (λ (b : Bool). beyond (count t) x || b) told ∙
     told = by-test (ltb x 65536)
         (λ e. sym (goes _ e refl) ∙ marks-bit)
         (λ e. sym (stop _ e) ∙ sym (ap (λ (n : ℕ). eqb n 1) (List·getD-eq-default g 0 {n = x} (omega (arith, ltb-false x 65536 e)))) ∙ marks-bit)
-
--- the test tells members
-pub has-in : (x : ℕ) (l : List ℕ) → has x l ≡ true → x ∈ l
-unfolding has
-has-in x [] e = absurd (never e refl)
-has-in x (y ∷ l) e = ⊎-elim (λ (q : eqb x y ≡ true). List·Memᴰ·head (eqb-true x y q)) (λ (k : has x l ≡ true). List·Memᴰ·tail (has-in x l k)) (or-cases (eqb x y) (has x l) e)

@@ -13,6 +13,7 @@ use borrow.Author.Count.{below-more}
 use borrow.Author.Tests.{leb-true}
 use Rattle.base.proofs.Bools.{or-cases}
 use Rattle.zdd.specs.Table.{count, has, _∈_}
+use Rattle.zdd.proofs.Member.{has-in}
 use Rattle.statement.specs.declared.Report.{Report}
 use Rattle.statement.specs.Replies.{Reply, refused, gives, outcomeReply}
 use Rattle.exact_cover.specs.Problem.{Problem}
@@ -25,7 +26,7 @@ use Rattle.history.proofs.Demand.{demand3}
 use Rattle.history.proofs.Spare.{no-spare-node}
 use Rattle.history.proofs.Requests.{every-at, every-same, Runs, may-run, runs-same}
 use Rattle.history.proofs.Reports.{calls-none, calls-same, calls-next}
-use Rattle.history.proofs.Marks.{Marks, marks-none, marks-more, marks-give, marked-passes, has-in}
+use Rattle.history.proofs.Marks.{Marks, marks-none, marks-more, marks-give, marked-passes}
 
 -- call j can be run on each table that the calls h leave
 abbrev pub Runnable : (Q : Problem) (script : List ℕ) (places room j : ℕ) → Calls → Type 0
