@@ -1,10 +1,16 @@
 -- Laws of tests of lists. Assumes nothing.
-use mathlib.Core.Path.{_≡_, refl, sym, ap, _∙_}
+use mathlib.Core.Path.{_≡_, refl, sym, ap, ap₂, _∙_}
 use mathlib.Core.Logic.{_⊎_, inl, inr}
 use mathlib.Core.Bool.{Bool, true, _||_}
 use mathlib.Core.List.{List, [], _∷_, List·Memᴰ, List·Memᴰ·head, List·Memᴰ·tail, List·Memᴰ·cases-cons, List·Memᴰ·not-nil}
 use Rattle.base.specs.Lists.{any}
 use Rattle.base.proofs.Bools.{never, or-cases, or-left, or-right}
+
+-- tests that agree on the elements of l
+pub any-same : {A : Type 0} (P Q : A → Bool) (l : List A) → ((a : A) → List·Memᴰ a l → P a ≡ Q a) → any P l ≡ any Q l
+unfolding any
+any-same P Q [] h = refl
+any-same P Q (x ∷ l) h = ap₂ _||_ (h x (List·Memᴰ·head refl)) (any-same P Q l (λ a m. h a (List·Memᴰ·tail m)))
 
 -- where some element passes, here is one
 pub any-found : {A : Type 0} (P : A → Bool) (l : List A) → any P l ≡ true → (x : A) × List·Memᴰ x l × (P x ≡ true)

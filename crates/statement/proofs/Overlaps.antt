@@ -1,19 +1,19 @@
 -- THEOREM `overlap-means` [document 02, No. 5]: on a sound table 35 is said exactly where some package on a node below one answer, its own node included,
 -- shares an item with one below the other. It is the same for (b, a) as for (a, b), and no answer overlaps 0 or 1. Assumes nothing.
-use mathlib.Core.Path.{_≡_, ap, _∙_}
+use mathlib.Core.Path.{_≡_, ap}
 use mathlib.Core.Logic.{_↔_}
-use mathlib.Core.Bool.{true, false, not}
+use mathlib.Core.Bool.{true, not}
 use mathlib.Core.List.{List}
 use Prim.Native.Nat.{ℕ, suc, _+_, _<_}
 use native.Mathlib.Omega.{arith}
 use lib.ListN.{length}
 use borrow.Author.Tests.{not-true}
-use Rattle.base.proofs.Bools.{never, is-false, same-test}
+use Rattle.base.proofs.Bools.{is-false, same-test}
 use Rattle.base.proofs.Lists.{any-found, any-there}
 use Rattle.itemset.specs.Items.{holds, apartb}
 use Rattle.itemset.proofs.Laws.{apart-holds, common-item}
 use Rattle.zdd.specs.Table.{Node, count, nodesOf, Nodes}
-use Rattle.zdd.specs.Below.{Below, itself, by-lo, by-hi, Labels, labelsBelow}
+use Rattle.zdd.specs.Below.{Labels, labelsBelow}
 use Rattle.zdd.proofs.Words.{length-nodes}
 use Rattle.zdd.proofs.Support.{labels-means}
 use Rattle.exact_cover.specs.Problem.{Problem, row}

@@ -1,9 +1,9 @@
 -- The pass of `support`, from a number down to 2: what is marked is below it, and what is below a marked number that was met is marked. Assumes nothing.
-use mathlib.Core.Path.{_≡_, refl, sym, ap, _∙_, subst, subst⁻¹}
+use mathlib.Core.Path.{_≡_, sym, ap, _∙_, subst, subst⁻¹}
 use mathlib.Core.Logic.{_⊎_, inl, inr, ⊎-elim}
-use mathlib.Core.Bool.{true, false, not, _||_}
+use mathlib.Core.Bool.{true, not, _||_}
 use mathlib.Core.List.{List}
-use Prim.Native.Nat.{ℕ, zero, suc, _+_, _-_, _*_, _≤_, _<_}
+use Prim.Native.Nat.{ℕ, suc, _+_, _-_, _*_, _≤_, _<_}
 use native.Mathlib.Nat.{le-refl}
 use native.Mathlib.Omega.{arith}
 use native.Mathlib.Decide.{ℕ-discrete}
@@ -14,7 +14,7 @@ use Rattle.base.proofs.Bools.{never, is-false, or-cases, or-left, or-right, sam
 use Rattle.itemset.specs.Items.{holds, union, apartb}
 use Rattle.itemset.proofs.Laws.{holds-none, holds-union, apart-holds, common-item}
 use Rattle.zdd.specs.Table.{Node, blank, nodesOf, count, Fine, Nodes, Sound}
-use Rattle.zdd.specs.Below.{Below, itself, by-lo, by-hi, Labels}
+use Rattle.zdd.specs.Below.{Below, itself, by-lo, by-hi}
 use Rattle.zdd.proofs.Words.{length-nodes, at-word, node-at}
 use Rattle.zdd.proofs.TableLaws.{fine-at}
 use Rattle.zdd.proofs.Below.{below-known}

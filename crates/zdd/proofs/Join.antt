@@ -11,6 +11,7 @@ use native.Mathlib.Nat.{le-antisymm, suc-mul}
 use native.Mathlib.Omega.{arith}
 use lib.ListN.{length, length-append, length-map}
 use Rattle.base.proofs.Bools.{never, is-false, same-test, and-left, and-right, and-both, or-cases, or-left}
+use Rattle.base.proofs.Lists.{any-same, any-found, any-there}
 use Rattle.zdd.specs.Table.{Family, sets, elem, has, Keys, _∈_}
 use Rattle.zdd.specs.Operations.{isUnion, unites, join, Apart}
 use Rattle.zdd.proofs.Member.{elem-in, in-elem, elem-head}
@@ -18,7 +19,7 @@ use Rattle.zdd.proofs.Listing.{Listed, Once, elem-filter, listed-nil, l
 use Rattle.zdd.proofs.Ordered.{sets-ext}
 use Rattle.zdd.proofs.Counting.{Distinct, distinct-append, pigeonhole}
 use Rattle.zdd.proofs.Below.{distinct-map}
-use Rattle.zdd.proofs.Unions.{any-same, any-of, any-test, union-labels, labels-union, merge, merge-set, merge-union, union-merge}
+use Rattle.zdd.proofs.Unions.{union-labels, labels-union, merge, merge-set, merge-union, union-merge}
 
 -- a set that passes X, one that passes Y, and s, their union
 pub record United (K : List ℕ) (X Y : List ℕ → Bool) (s : List ℕ) : Type 0 where
@@ -49,8 +50,8 @@ pub unites-means : (K : List ℕ) (X Y : List ℕ → Bool) (s : List ℕ) → (
 unfolding unites
 unites-means K X Y s = (
   λ e.
-      let a = any-of _ (sets K) e in
-      let b = any-of _ (sets K) (and-right (X (a .0)) _ (a .2)) in
+      let a = any-found _ (sets K) e in
+      let b = any-found _ (sets K) (and-right (X (a .0)) _ (a .2)) in
       record {
         first = a .0;
         second = b .0;
@@ -60,9 +61,9 @@ unites-means K X Y s = (
         second-in = and-left (Y (b .0)) _ (b .2);
         union = and-right (Y (b .0)) _ (b .2);
       },
-  λ r. any-test _ (sets K) (r .first) (elem-in (r .first) (sets K) (r .first-set))
+  λ r. any-there _ (sets K) (r .first) (elem-in (r .first) (sets K) (r .first-set))
       (and-both (X (r .first)) _ (r .first-in)
-      (any-test _ (sets K) (r .second) (elem-in (r .second) (sets K) (r .second-set)) (and-both (Y (r .second)) _ (r .second-in) (r .union)))),
+      (any-there _ (sets K) (r .second) (elem-in (r .second) (sets K) (r .second-set)) (and-both (Y (r .second)) _ (r .second-in) (r .union)))),
 )
 
 -- the unions depend on which sets pass, and on nothing else

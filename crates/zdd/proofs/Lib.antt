@@ -13,6 +13,7 @@ pub mod Ordered
 pub mod Counting
 pub mod Under
 pub mod Below
+pub mod Support
 pub mod Nowaste
 pub mod Room
 pub mod Split
@@ -23,4 +24,3 @@ pub mod Join
 pub mod JoinParts
 pub mod Got
 pub mod Examples
-pub mod Support

@@ -1,42 +1,19 @@
 -- Unions of sets. THEOREM `union-labels`, `labels-union`: s is the union of u and v exactly where its labels are those of u and those of v. Two sets have
 -- just one union among all sets, `merge`. Assumes nothing.
-use mathlib.Core.Path.{_≡_, refl, sym, ap, ap₂, _∙_}
-use mathlib.Core.Logic.{_⊎_, inl, inr, ⊎-elim}
+use mathlib.Core.Path.{_≡_, refl, sym, ap, _∙_}
+use mathlib.Core.Logic.{_⊎_, ⊎-elim}
 use mathlib.Core.Bool.{Bool, true, false, cond, _&&_, _||_, or-assoc}
-use mathlib.Core.List.{List, [], _∷_, _++_, List·Memᴰ·head, List·Memᴰ·tail, List·Memᴰ·cases-cons, List·Memᴰ·not-nil}
+use mathlib.Core.List.{List, [], _∷_, _++_}
 use Prim.Native.Nat.{ℕ}
 use lib.Dec.{eqb}
 use borrow.Author.Tests.{eqb-true}
 use Rattle.base.proofs.Bools.{never, same-test, drop-test, and-left, and-right, and-both, or-cases, or-left, or-right}
-use Rattle.zdd.specs.Table.{sets, allSets, order, elem, filter, has, Keys, _∈_}
-use Rattle.zdd.specs.Operations.{any, within, isUnion}
+use Rattle.zdd.specs.Table.{sets, allSets, order, elem, filter, has, Keys}
+use Rattle.zdd.specs.Operations.{within, isUnion}
 use Rattle.zdd.proofs.Member.{has-in, in-has, fork-hi, fork-lo}
 use Rattle.zdd.proofs.Listing.{has-first, all-labels}
 use Rattle.zdd.proofs.Ordered.{sets-ext}
 use Rattle.zdd.proofs.Below.{in-filter, filter-in}
-
--- ---- `any`
-
--- tests that agree on the elements of l
-pub any-same : {A : Type 0} (P Q : A → Bool) (l : List A) → ((a : A) → a ∈ l → P a ≡ Q a) → any P l ≡ any Q l
-unfolding any
-any-same P Q [] h = refl
-any-same P Q (x ∷ l) h = ap₂ _||_ (h x (List·Memᴰ·head refl)) (any-same P Q l (λ a m. h a (List·Memᴰ·tail m)))
-
-pub any-of : {A : Type 0} (P : A → Bool) (l : List A) → any P l ≡ true → (a : A) × (a ∈ l) × (P a ≡ true)
-unfolding any
-any-of P [] e = absurd (never e refl)
-any-of {A} P (x ∷ l) e = go (or-cases (P x) (any P l) e) (any-of P l)
-  where
-    go : (P x ≡ true) ⊎ (any P l ≡ true) → (any P l ≡ true → (a : A) × (a ∈ l) × (P a ≡ true)) → (a : A) × (a ∈ x ∷ l) × (P a ≡ true)
-    go (inl q) f = (x, List·Memᴰ·head refl, q)
-    go (inr q) f = let r = f q in (r .0, List·Memᴰ·tail (r .1), r .2)
-
-pub any-test : {A : Type 0} (P : A → Bool) (l : List A) (a : A) → a ∈ l → P a ≡ true → any P l ≡ true
-unfolding any
-any-test P [] a m p = absurd (List·Memᴰ·not-nil m)
-any-test P (x ∷ l) a m p =
-    ⊎-elim (λ e. or-left (P x) (any P l) (ap P (sym e) ∙ p)) (λ n. or-right (P x) (any P l) (any-test P l a n p)) (List·Memᴰ·cases-cons m)
 
 -- ---- the labels of a union
 
