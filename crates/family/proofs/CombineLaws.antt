@@ -1,44 +1,36 @@
--- Union, intersection and difference: the end cases, the parts of two numbers, the recursion, and what is remembered. Assumes nothing.
+-- Union, intersection, difference and join: the end cases, what is remembered, and the recursion. Assumes nothing.
 use mathlib.Core.Path.{_≡_, refl, sym, ap, ap₂, subst, subst⁻¹, _∙_}
 use mathlib.Core.Logic.{_⊎_, inl, inr}
-use mathlib.Core.Bool.{Bool, false, and-comm, or-comm}
-use mathlib.Core.List.{List, []}
+use mathlib.Core.Bool.{Bool, _&&_, _||_, and-comm, or-comm}
+use mathlib.Core.List.{List, [], _∷_}
 use Prim.Native.Nat.{ℕ, zero, suc, _+_, _-_, _*_, _/_, _%_, _<_, _≤_}
 use native.Mathlib.Omega.{arith}
-use native.Mathlib.Decide.{decLt}
 use lib.ListN.{length, getD}
-use Rattle.zdd.specs.Table.{Node, blank, Family, elem, sets, count, nodesOf, family, key, Fine, Sound, Keys}
-use Rattle.zdd.proofs.Grow.{family-zero}
-use Rattle.zdd.proofs.Words.{length-nodes, at-word}
-use Rattle.zdd.proofs.TableLaws.{over-of-key}
+use Rattle.zdd.specs.Table.{Node, Family, elem, sets, count, nodesOf, family}
+use Rattle.zdd.proofs.Grow.{family-zero, family-one}
+use Rattle.zdd.proofs.Words.{length-nodes}
 use Rattle.zdd.proofs.Listing.{Listed, family-listed, filter-same}
 use Rattle.zdd.specs.Work.{Split}
-use Rattle.zdd.specs.Operations.{combine}
+use Rattle.zdd.specs.Operations.{combine, join, Apart}
 use Rattle.zdd.proofs.Operations.{union-nil, nil-union, union-self, inter-nil, nil-inter, inter-self, differ-nil, nil-differ, differ-self}
-use Rattle.zdd.proofs.Parts.{split-same, split-left, split-right}
+use Rattle.zdd.proofs.Join.{join-nil, nil-join, join-one, one-join}
+use Rattle.zdd.proofs.JoinParts.{labels-apart}
 use Rattle.family.specs.Gives.{Operable, Gives, Noded, Answers}
-use Rattle.family.specs.Memo.{opOf, combined, Ordered, Two, Pair, Ended, Ends, Top, Cut}
+use Rattle.family.specs.Memo.{combined, Combinable, Ordered, Two, Pair, Ended, Ends, Cut}
 use Rattle.family.specs.Memo.{mixed, Packed, placeOf, entryAt, tagged, Hit, Recalled, Remembered, Noted}
 use Rattle.family.proofs.MemoryLaws.{mixed-small, mixed-once, place-once, empty}
 use Rattle.family.proofs.GivesLaws.{gives-there, gives-answers, gives-keeps, gives-more, gives-eq, step-none-hi, step-none-lo, step-child, step-node}
-use Rattle.family.proofs.RestrictLaws.{two-more, word-node, word-label, word-fine}
-
-pub off : (op : ℕ) → opOf op false false ≡ false
-off zero = refl
-off (suc zero) = refl
-off (suc (suc n)) = refl
 
 -- ---- the order of the two
 
-op-turns : (op : ℕ) → op < 2 → (a b : Bool) → opOf op a b ≡ opOf op b a
-op-turns zero h = or-comm
-op-turns (suc zero) h = and-comm
-op-turns (suc (suc n)) h = absurd (omega arith)
+combine-turns : (o : Bool → Bool → Bool) → ((a b : Bool) → o a b ≡ o b a) → (K : List ℕ) (F G : Family) → combine o K F G ≡ combine o K G F
+unfolding combine
+combine-turns o c K F G = filter-same (λ t. o (elem t F) (elem t G)) (λ t. o (elem t G) (elem t F)) (sets K) (λ t m. c (elem t F) (elem t G))
 
 turned : (op : ℕ) → op < 2 → (K : List ℕ) (F G : Family) → combined op K F G ≡ combined op K G F
-unfolding combine
-turned op h K F G =
-    filter-same (λ t. opOf op (elem t F) (elem t G)) (λ t. opOf op (elem t G) (elem t F)) (sets K) (λ t m. op-turns op h (elem t F) (elem t G))
+turned zero h = combine-turns _||_ or-comm
+turned (suc zero) h = combine-turns _&&_ and-comm
+turned (suc (suc n)) h = absurd (omega arith)
 
 pub packed-straight : (op f g : ℕ) {k : ℕ} → k ≡ mixed (f * 65536 + g) → Packed op f g k
 packed-straight op f g e = record { first = f; second = g; is = e; order = inl (refl, refl) }
@@ -76,6 +68,9 @@ module _ {K : List ℕ} {ns : List Node} {f g : ℕ} (q : Pair K ns f g) where
   nil : (k : ℕ) → k ≡ 0 → family ns k ≡ []
   nil k e = ap (family ns) e ∙ family-zero ns
 
+  one : (k : ℕ) → k ≡ 1 → family ns k ≡ [] ∷ []
+  one k e = ap (family ns) e ∙ family-one ns
+
   none : {F : Family} → F ≡ [] → Answers ns 0 F
   none e = record { known = omega arith; holds = family-zero ns ∙ sym e }
 
@@ -95,27 +90,53 @@ module _ {K : List ℕ} {ns : List Node} {f g : ℕ} (q : Pair K ns f g) where
   end-left : (op : ℕ) → f ≡ 0 → 0 < op → Answers ns 0 (combined op K (family ns f) (family ns g))
   end-left zero z e = absurd (omega arith)
   end-left (suc zero) z e = none (left-nil 1 z (nil-inter K (q .keys) (family ns g) lg))
-  end-left (suc (suc n)) z e = none (left-nil 2 z (nil-differ K (q .keys) (family ns g) lg))
+  end-left (suc (suc zero)) z e = none (left-nil 2 z (nil-differ K (q .keys) (family ns g) lg))
+  end-left (suc (suc (suc n))) z e = none (left-nil 3 z (nil-join K (q .keys) (family ns g)))
 
   end-right-inter : (op : ℕ) → g ≡ 0 → op ≡ 1 → Answers ns 0 (combined op K (family ns f) (family ns g))
   end-right-inter zero z e = absurd (omega arith)
   end-right-inter (suc zero) z e = none (right-nil 1 z (inter-nil K (q .keys) (family ns f) lf))
   end-right-inter (suc (suc n)) z e = absurd (omega arith)
 
-  end-right : (op : ℕ) → g ≡ 0 → (op ≡ 1 → ⊥) → Answers ns f (combined op K (family ns f) (family ns g))
-  end-right zero z e = record { known = q .left; holds = sym (right-nil 0 z (union-nil K (q .keys) (family ns f) lf)) }
-  end-right (suc zero) z e = absurd (e refl)
-  end-right (suc (suc n)) z e = record { known = q .left; holds = sym (right-nil 2 z (differ-nil K (q .keys) (family ns f) lf)) }
+  end-right : (op : ℕ) → g ≡ 0 → op < 3 → (op ≡ 1 → ⊥) → Answers ns f (combined op K (family ns f) (family ns g))
+  end-right zero z l e = record { known = q .left; holds = sym (right-nil 0 z (union-nil K (q .keys) (family ns f) lf)) }
+  end-right (suc zero) z l e = absurd (e refl)
+  end-right (suc (suc zero)) z l e = record { known = q .left; holds = sym (right-nil 2 z (differ-nil K (q .keys) (family ns f) lf)) }
+  end-right (suc (suc (suc n))) z l e = absurd (omega arith)
 
   end-both : (op : ℕ) → f ≡ g → op < 2 → Answers ns f (combined op K (family ns f) (family ns g))
   end-both zero z e = record { known = q .left; holds = sym (both 0 z (union-self K (q .keys) (family ns f) lf)) }
   end-both (suc zero) z e = record { known = q .left; holds = sym (both 1 z (inter-self K (q .keys) (family ns f) lf)) }
   end-both (suc (suc n)) z e = absurd (omega arith)
 
-  end-both-differ : (op : ℕ) → f ≡ g → 2 ≤ op → Answers ns 0 (combined op K (family ns f) (family ns g))
+  end-both-differ : (op : ℕ) → f ≡ g → op ≡ 2 → Answers ns 0 (combined op K (family ns f) (family ns g))
   end-both-differ zero z e = absurd (omega arith)
   end-both-differ (suc zero) z e = absurd (omega arith)
-  end-both-differ (suc (suc n)) z e = none (both 2 z (differ-self K (q .keys) (family ns f) lf))
+  end-both-differ (suc (suc zero)) z e = none (both 2 z (differ-self K (q .keys) (family ns f) lf))
+  end-both-differ (suc (suc (suc n))) z e = absurd (omega arith)
+
+  -- a join with 0, and one with 1
+  end-right-join : g ≡ 0 → Answers ns 0 (join K (family ns f) (family ns g))
+  end-right-join z = none (right-nil 3 z (join-nil K (q .keys) (family ns f)))
+
+  end-left-one : f ≡ 1 → Answers ns g (join K (family ns f) (family ns g))
+  end-left-one z = record { known = q .right; holds = sym (ap (λ (H : Family). join K H (family ns g)) (one f z) ∙ one-join K (q .keys) (family ns g) lg) }
+
+  end-right-one : g ≡ 1 → Answers ns f (join K (family ns f) (family ns g))
+  end-right-one z = record { known = q .left; holds = sym (ap (join K (family ns f)) (one g z) ∙ join-one K (q .keys) (family ns f) lf) }
+
+  -- two nodes that have no label in common are two
+  apart-two : 2 ≤ f → 2 ≤ g → Apart (family ns f) (family ns g) → Two f g
+  apart-two l m x = record {
+    some = omega arith;
+    other = omega arith;
+    differ = λ e. same f l (q .left) (subst⁻¹ (λ (k : ℕ). Apart (family ns f) (family ns k)) e x);
+  }
+    where
+      same : (k : ℕ) → 2 ≤ k → k < suc (suc (length ns)) → Apart (family ns k) (family ns k) → ⊥
+      same zero l h x = omega arith
+      same (suc zero) l h x = omega arith
+      same (suc (suc i)) l h x = labels-apart (q .nodes) i i (omega arith) (omega arith) x refl
 
   answered : (op r : ℕ) → Answers ns r (combined op K (family ns f) (family ns g)) → Ended op K ns f g r
   answered op r a =
@@ -124,25 +145,48 @@ module _ {K : List ℕ} {ns : List Node} {f g : ℕ} (q : Pair K ns f g) where
 
 module _ (op f g : ℕ) where
   pub ends-left-union : f ≡ 0 → op ≡ 0 → Ends op f g g
-  ends-left-union z e K ns q = answered q op g (end-left-union q op z e)
+  ends-left-union z e K ns q c = answered q op g (end-left-union q op z e)
 
   pub ends-left : f ≡ 0 → 0 < op → Ends op f g 0
-  ends-left z e K ns q = answered q op 0 (end-left q op z e)
+  ends-left z e K ns q c = answered q op 0 (end-left q op z e)
 
   pub ends-right-inter : g ≡ 0 → op ≡ 1 → Ends op f g 0
-  ends-right-inter z e K ns q = answered q op 0 (end-right-inter q op z e)
+  ends-right-inter z e K ns q c = answered q op 0 (end-right-inter q op z e)
 
-  pub ends-right : g ≡ 0 → (op ≡ 1 → ⊥) → Ends op f g f
-  ends-right z e K ns q = answered q op f (end-right q op z e)
+  pub ends-right : g ≡ 0 → op < 3 → (op ≡ 1 → ⊥) → Ends op f g f
+  ends-right z l e K ns q c = answered q op f (end-right q op z l e)
 
   pub ends-both : f ≡ g → op < 2 → Ends op f g f
-  ends-both z e K ns q = answered q op f (end-both q op z e)
+  ends-both z e K ns q c = answered q op f (end-both q op z e)
 
-  pub ends-both-differ : f ≡ g → 2 ≤ op → Ends op f g 0
-  ends-both-differ z e K ns q = answered q op 0 (end-both-differ q op z e)
+  pub ends-both-differ : f ≡ g → op ≡ 2 → Ends op f g 0
+  ends-both-differ z e K ns q c = answered q op 0 (end-both-differ q op z e)
+
+  open-ended : {K : List ℕ} {ns : List Node} → Two f g → Ended op K ns f g 65537
+  open-ended w = record { small = omega arith; answer = λ h. absurd (omega arith); two = λ e. w }
 
   pub ends-open : Two f g → Ends op f g 65537
-  ends-open w K ns q = record { small = omega arith; answer = λ h. absurd (omega arith); two = λ e. w }
+  ends-open w K ns q c = open-ended w
+
+module _ (f g : ℕ) where
+  pub joins-right : g ≡ 0 → Ends 3 f g 0
+  joins-right z K ns q c = answered q 3 0 (end-right-join q z)
+
+  pub joins-left-one : f ≡ 1 → Ends 3 f g g
+  joins-left-one z K ns q c = answered q 3 g (end-left-one q z)
+
+  pub joins-right-one : g ≡ 1 → Ends 3 f g f
+  joins-right-one z K ns q c = answered q 3 f (end-right-one q z)
+
+  pub joins-open : 2 ≤ f → 2 ≤ g → Ends 3 f g 65537
+  joins-open l m K ns q c = open-ended 3 f g (apart-two q l m (c (omega arith)))
+
+-- from 3 on an operation is the join
+pub ends-join : (op f g r : ℕ) → 2 < op → Ends 3 f g r → Ends op f g r
+ends-join zero f g r h s = absurd (omega arith)
+ends-join (suc zero) f g r h s = absurd (omega arith)
+ends-join (suc (suc zero)) f g r h s = absurd (omega arith)
+ends-join (suc (suc (suc n))) f g r h s = λ K ns q c. let x = s K ns q (λ l. c h) in record { small = x .small; answer = x .answer; two = x .two }
 
 -- ---- what is remembered of two numbers
 
@@ -157,138 +201,6 @@ recalled-answers {op} {K} {ns} {memo} {f} {g} {at} {k} {r} q m p e s h =
       tag = ap (λ (i : ℕ). entryAt memo i / 65536) (sym z) ∙ s .tag h ∙ ap (λ (j : ℕ). j % 65536) (p .is);
       some = subst (λ (i : ℕ). 0 < entryAt memo i % 65536) z (s .some h);
     }) .1 .1))
-
--- ---- the parts of two numbers
-
-module _ {K : List ℕ} {ns : List Node} where
-  pub top-most : {f r : ℕ} → Top K ns f r → r ≤ 4294967296
-  top-most {f} {r} p = go (decLt f 2)
-    where
-      go : Dec (f < 2) → r ≤ 4294967296
-      go (yes h) = omega (arith, p .end h)
-      go (no h) = omega (arith, p .key-of (omega arith) .1)
-
-  pub top-node : {f r : ℕ} → Top K ns f r → r < 4294967296 → 2 ≤ f
-  top-node {f} {r} p l = go (decLt f 2)
-    where
-      go : Dec (f < 2) → 2 ≤ f
-      go (yes h) = absurd (omega (arith, p .end h))
-      go (no h) = omega arith
-
-pub top-end : (K : List ℕ) (ns : List Node) (f : ℕ) → f < 2 → Top K ns f 4294967296
-top-end K ns f h = record { end = λ z. refl; key-of = λ z. absurd (omega arith) }
-
-pub top-of : {K t : List ℕ} → Sound K t → (f a : ℕ) → 2 ≤ f → f < count t + 2 → a ≡ 3 * f - 5
-    → (r : ℕ) → r ≡ getD K (getD t a 0) 0 → r < 4294967296 → Top K (nodesOf t) f r
-top-of {K} {t} s f a l w e r q z = record {
-  end = λ h. absurd (omega arith);
-  key-of = λ h. (q ∙ ap (λ (x : ℕ). getD K x 0) (sym (word-label s f a l w e)), z);
-}
-
-module _ {K t : List ℕ} (s : Sound K t) (k : Keys K) (f g : ℕ) (wf : f < count t + 2) (wg : g < count t + 2) {a b : ℕ} (ta : Top K (nodesOf t) f a) (tb : Top K (nodesOf t) g b) where
-  abbrev at : ℕ → Family
-  at j = family (nodesOf t) j
-
-  -- the node of a number
-  abbrev nodeOf : ℕ → Node
-  nodeOf j = getD (nodesOf t) (j - 2) blank
-
-  -- the combination of x and y is split by p
-  abbrev Splits : (Bool → Bool → Bool) → ℕ → ℕ → ℕ → Family → Family → Family → Family → Type 0
-  Splits op x y p F1 G1 F0 G0 = Split K (combine op K (at x) (at y)) p (combine op K F1 G1) (combine op K F0 G0)
-
-  lenf : f < suc (suc (length (nodesOf t)))
-  lenf = omega (arith, length-nodes t)
-
-  leng : g < suc (suc (length (nodesOf t)))
-  leng = omega (arith, length-nodes t)
-
-  pub left-node : a < b → 2 ≤ f
-  left-node h = top-node ta (omega (arith, top-most tb))
-
-  pub right-node : b < a → 2 ≤ g
-  right-node h = top-node tb (omega (arith, top-most ta))
-
-  -- f's label is the earlier one
-  pub cut-left : (v : ℕ) → v ≡ 3 * f - 5 → a < b → Cut K (nodesOf t) f g (getD t v 0) (getD t (v + 2) 0) 0 (getD t (v + 1) 0) g
-  cut-left v e h =
-      let l : 2 ≤ f = left-node h in
-      let x : Fine K (nodesOf t) (f - 2) (at-word t v) = word-fine s f v l wf e in
-      record {
-        label-known = x .label-known;
-        f1-known = omega (arith, x .hi-below, lenf);
-        g1-known = omega arith;
-        f0-known = omega (arith, x .lo-below, lenf);
-        g0-known = leng;
-        falls1 = omega (arith, x .hi-below);
-        falls0 = omega (arith, x .lo-below);
-        split = λ op o.
-            subst (λ (y : Node). Splits op f g (y .label) (at (y .hi)) (at 0) (at (y .lo)) (at g)) (word-node s f v l wf e)
-            (subst⁻¹ (λ (F : Family). Splits op f g (nodeOf f .label) (at (nodeOf f .hi)) F (at (nodeOf f .lo)) (at g)) (family-zero (nodesOf t))
-            (subst (λ (j : ℕ). Splits op j g (nodeOf f .label) (at (nodeOf f .hi)) [] (at (nodeOf f .lo)) (at g)) (two-more f l)
-            (split-left k (s .nodes) op o (f - 2) g (omega (arith, lenf)) leng
-            (over-of-key K (nodesOf t) (suc (key K (nodeOf f .label))) g (λ z. omega (arith, ta .key-of l .0, tb .key-of z .0))))));
-      }
-
-  -- g's is
-  pub cut-right : (w : ℕ) → w ≡ 3 * g - 5 → b < a → Cut K (nodesOf t) f g (getD t w 0) 0 (getD t (w + 2) 0) f (getD t (w + 1) 0)
-  cut-right w e h =
-      let l : 2 ≤ g = right-node h in
-      let x : Fine K (nodesOf t) (g - 2) (at-word t w) = word-fine s g w l wg e in
-      record {
-        label-known = x .label-known;
-        f1-known = omega arith;
-        g1-known = omega (arith, x .hi-below, leng);
-        f0-known = lenf;
-        g0-known = omega (arith, x .lo-below, leng);
-        falls1 = omega (arith, x .hi-below);
-        falls0 = omega (arith, x .lo-below);
-        split = λ op o.
-            subst (λ (y : Node). Splits op f g (y .label) (at 0) (at (y .hi)) (at f) (at (y .lo))) (word-node s g w l wg e)
-            (subst⁻¹ (λ (F : Family). Splits op f g (nodeOf g .label) F (at (nodeOf g .hi)) (at f) (at (nodeOf g .lo))) (family-zero (nodesOf t))
-            (subst (λ (j : ℕ). Splits op f j (nodeOf g .label) [] (at (nodeOf g .hi)) (at f) (at (nodeOf g .lo))) (two-more g l)
-            (split-right k (s .nodes) op o f (g - 2) lenf (omega (arith, leng))
-            (over-of-key K (nodesOf t) (suc (key K (nodeOf g .label))) f (λ z. omega (arith, tb .key-of l .0, ta .key-of z .0))))));
-      }
-
-  -- they have one label
-  pub same-left : Two f g → a ≡ b → 2 ≤ f
-  same-left w e = go (decLt f 2) (decLt g 2)
-    where
-      go : Dec (f < 2) → Dec (g < 2) → 2 ≤ f
-      go (no h) y = omega arith
-      go (yes h) (no z) = absurd (omega (arith, ta .end h, tb .key-of (omega arith) .1))
-      go (yes h) (yes z) = let x : f ≡ g = omega (arith, w .some, w .other) in absurd (w .differ x)
-
-  pub same-right : Two f g → a ≡ b → 2 ≤ g
-  same-right w e = top-node tb (omega (arith, ta .key-of (same-left w e) .1))
-
-  pub cut-same : (v w : ℕ) → v ≡ 3 * f - 5 → w ≡ 3 * g - 5 → Two f g → a ≡ b
-      → Cut K (nodesOf t) f g (getD t v 0) (getD t (v + 2) 0) (getD t (w + 2) 0) (getD t (v + 1) 0) (getD t (w + 1) 0)
-  cut-same v w ev ew d e =
-      let lf : 2 ≤ f = same-left d e in
-      let lg : 2 ≤ g = same-right d e in
-      let x : Fine K (nodesOf t) (f - 2) (at-word t v) = word-fine s f v lf wf ev in
-      let y : Fine K (nodesOf t) (g - 2) (at-word t w) = word-fine s g w lg wg ew in
-      let i : f - 2 < length (nodesOf t) = omega (arith, lenf) in
-      let j : g - 2 < length (nodesOf t) = omega (arith, leng) in
-      record {
-        label-known = x .label-known;
-        f1-known = omega (arith, x .hi-below, lenf);
-        g1-known = omega (arith, y .hi-below, leng);
-        f0-known = omega (arith, x .lo-below, lenf);
-        g0-known = omega (arith, y .lo-below, leng);
-        falls1 = omega (arith, x .hi-below, y .hi-below);
-        falls0 = omega (arith, x .lo-below, y .lo-below);
-        split = λ op o.
-            subst (λ (z : Node). Splits op f g (z .label) (at (z .hi)) (at (getD t (w + 2) 0)) (at (z .lo)) (at (getD t (w + 1) 0))) (word-node s f v lf wf ev)
-            (subst (λ (z : Node). Splits op f g (nodeOf f .label) (at (nodeOf f .hi)) (at (z .hi)) (at (nodeOf f .lo)) (at (z .lo))) (word-node s g w lg wg ew)
-            (subst (λ (m : ℕ). Splits op f m (nodeOf f .label) (at (nodeOf f .hi)) (at (nodeOf g .hi)) (at (nodeOf f .lo)) (at (nodeOf g .lo))) (two-more g lg)
-            (subst (λ (m : ℕ). Splits op m (suc (suc (g - 2))) (nodeOf f .label) (at (nodeOf f .hi)) (at (nodeOf g .hi)) (at (nodeOf f .lo)) (at (nodeOf g .lo))) (two-more f lf)
-            (split-same k (s .nodes) op o (f - 2) (g - 2) i j
-            (k .apart (nodeOf f .label) (nodeOf g .label) (s .nodes .each (f - 2) i .label-known) (s .nodes .each (g - 2) j .label-known)
-            (sym (ta .key-of lf .0) ∙ e ∙ tb .key-of lg .0))))));
-      }
 
 -- ---- what is remembered
 
@@ -378,14 +290,14 @@ module _ {op : ℕ} {K t index memo : List ℕ} {f g r : ℕ} (y : Operable K t 
   there : r < 65536 → Answers (nodesOf t) r (joint op K t f g) → Gives K t t index r (joint op K t f g) × (r < 65536 → Remembered op K (nodesOf t) memo)
   there l a = (gives-there (y .sound) (y .indexed) l a, λ h. m)
 
-  pub ended-gives : Ends op f g r → (r ≡ 65537 → ⊥) → Gives K t t index r (joint op K t f g) × (r < 65536 → Remembered op K (nodesOf t) memo)
-  ended-gives s d =
-      let x = s K (nodesOf t) (pair-of y w) in
+  pub ended-gives : Combinable op (nodesOf t) f g → Ends op f g r → (r ≡ 65537 → ⊥) → Gives K t t index r (joint op K t f g) × (r < 65536 → Remembered op K (nodesOf t) memo)
+  ended-gives c s d =
+      let x = s K (nodesOf t) (pair-of y w) c in
       let z : r < 65537 = omega (arith, x .small) in
       there (x .answer z .0) (x .answer z .1)
 
-  pub ends-two : Ends op f g r → r ≡ 65537 → Two f g
-  ends-two s e = s K (nodesOf t) (pair-of y w) .two e
+  pub ends-two : Combinable op (nodesOf t) f g → Ends op f g r → r ≡ 65537 → Two f g
+  ends-two c s e = s K (nodesOf t) (pair-of y w) c .two e
 
   pub recalled-gives : {at k : ℕ} → Packed op f g k → at ≡ placeOf (length memo) k → Recalled memo at k r → (r ≡ 65537 → ⊥)
       → Gives K t t index r (joint op K t f g) × (r < 65536 → Remembered op K (nodesOf t) memo)
@@ -394,13 +306,13 @@ module _ {op : ℕ} {K t index memo : List ℕ} {f g r : ℕ} (y : Operable K t 
       let a = recalled-answers (pair-of y w) m p e s z in
       there (omega (arith, a .known, y .sound .few, length-nodes t)) a
 
-pub hi-known : {K t index : List ℕ} {f g p f1 g1 f0 g0 : ℕ} → Operable K t index → Cut K (nodesOf t) f g p f1 g1 f0 g0 → (f1 < count t + 2) × (g1 < count t + 2)
-hi-known {K} {t} y c = (omega (arith, c .f1-known, length-nodes t), omega (arith, c .g1-known, length-nodes t))
+pub hi-known : {op : ℕ} {K t index : List ℕ} {f g p f1 g1 f0 g0 : ℕ} → Operable K t index → Cut op K (nodesOf t) f g p f1 g1 f0 g0 → (f1 < count t + 2) × (g1 < count t + 2)
+hi-known {op} {K} {t} y c = (omega (arith, c .f1-known, length-nodes t), omega (arith, c .g1-known, length-nodes t))
 
-module _ (op : ℕ) {K t index : List ℕ} {f g : ℕ} (y : Operable K t index) (w : (f < count t + 2) × (g < count t + 2)) {p f1 g1 f0 g0 : ℕ} (c : Cut K (nodesOf t) f g p f1 g1 f0 g0)
+module _ (op : ℕ) {K t index : List ℕ} {f g : ℕ} (y : Operable K t index) (w : (f < count t + 2) × (g < count t + 2)) {p f1 g1 f0 g0 : ℕ} (c : Cut op K (nodesOf t) f g p f1 g1 f0 g0)
     {t1 index1 : List ℕ} {h : ℕ} (q1 : Gives K t t1 index1 h (joint op K t f1 g1)) where
   split-o : Split K (joint op K t f g) p (joint op K t f1 g1) (joint op K t f0 g0)
-  split-o = c .split (opOf op) (off op)
+  split-o = c .split
 
   pub hi-none : {memo1 : List ℕ} → h ≡ 65536 → Gives K t t1 index1 65536 (joint op K t f g) × (65536 < 65536 → Remembered op K (nodesOf t1) memo1)
   hi-none e = (step-none-hi split-o q1 e, λ z. absurd (omega arith))
@@ -411,6 +323,9 @@ module _ (op : ℕ) {K t index : List ℕ} {f g : ℕ} (y : Operable K t index) 
   module _ (w1 : h < 65536) where
     pub lo-known : (f0 < count t1 + 2) × (g0 < count t1 + 2)
     lo-known = (omega (arith, c .f0-known, gives-more q1 w1, length-nodes t1), omega (arith, c .g0-known, gives-more q1 w1, length-nodes t1))
+
+    pub lo-may : Combinable op (nodesOf t1) f0 g0
+    lo-may h = rw (gives-keeps q1 w1 f0 (c .f0-known), gives-keeps q1 w1 g0 (c .g0-known)) (c .lo-combinable h)
 
     module _ {t0 index0 : List ℕ} {l : ℕ} (q0 : Gives K t1 t0 index0 l (joint op K t1 f0 g0)) where
       p0 : Gives K t1 t0 index0 l (joint op K t f0 g0)

@@ -1,13 +1,13 @@
 -- The operations, and what their memories hold. Assumes nothing.
 use mathlib.Core.Path.{_≡_}
-use mathlib.Core.Bool.{Bool, true, false, _&&_, _||_}
+use mathlib.Core.Bool.{Bool, true, false}
 use mathlib.Core.List.{List}
 use mathlib.Core.Logic.{_⊎_}
 use Prim.Native.Nat.{ℕ, zero, suc, _+_, _-_, _*_, _/_, _%_, _<_, _≤_}
 use lib.Dec.{eqb}
 use lib.ListN.{length, getD}
 use Rattle.zdd.specs.Table.{Node, blank, Family, family, Nodes, Keys}
-use Rattle.zdd.specs.Operations.{combine, minus, including, excluding}
+use Rattle.zdd.specs.Operations.{union, inter, differ, including, excluding, join, Apart}
 use Rattle.zdd.specs.Work.{Split}
 use Rattle.family.specs.Gives.{Answers}
 
@@ -35,15 +35,25 @@ pub record Soon (b : Bool) (K : List ℕ) (p : ℕ) (ns : List Node) (f r : ℕ)
   pub branch : r ≡ 65537 → 2 ≤ f
   pub own : r ≡ 65537 → getD ns (f - 2) blank .label ≡ p → b ≡ true
 
--- ---- union, intersection, difference
+-- ---- union, intersection, difference, join
 
-abbrev pub opOf : ℕ → Bool → Bool → Bool
-opOf zero = _||_
-opOf (suc zero) = _&&_
-opOf (suc (suc n)) = minus
-
+-- union (op 0), intersection (1), difference (2), join (3)
 abbrev pub combined : ℕ → List ℕ → Family → Family → Family
-combined op K F G = combine (opOf op) K F G
+combined zero K F G = union K F G
+combined (suc zero) K F G = inter K F G
+combined (suc (suc zero)) K F G = differ K F G
+combined (suc (suc (suc n))) K F G = join K F G
+
+-- f and g can be combined: a join is of families that have no label in common
+abbrev pub Combinable : (op : ℕ) (ns : List Node) (f g : ℕ) → Type 0
+Combinable op ns f g = 2 < op → Apart (family ns f) (family ns g)
+
+-- what goes with the other's sets at a label that number k lacks: in a join k's sets, each with each, and else none, since no set of k has the label
+abbrev pub besideOf : ℕ → ℕ → ℕ
+besideOf zero k = 0
+besideOf (suc zero) k = 0
+besideOf (suc (suc zero)) k = 0
+besideOf (suc (suc (suc n))) k = k
 
 -- x and y are f and g, or, where the order does not matter, g and f
 abbrev pub Ordered : (op f g x y : ℕ) → Type 0
@@ -133,7 +143,7 @@ pub record Ended (op : ℕ) (K : List ℕ) (ns : List Node) (f g r : ℕ) : Type
 
 -- what ended ensures, whatever the keys and the nodes
 abbrev pub Ends : ℕ → ℕ → ℕ → ℕ → Type 0
-Ends op f g r = (K : List ℕ) (ns : List Node) → Pair K ns f g → Ended op K ns f g r
+Ends op f g r = (K : List ℕ) (ns : List Node) → Pair K ns f g → Combinable op ns f g → Ended op K ns f g r
 
 -- the key of a number's label, or 2 ^ 32 for 0 and 1
 pub record Top (K : List ℕ) (ns : List Node) (f r : ℕ) : Type 0 where
@@ -141,7 +151,7 @@ pub record Top (K : List ℕ) (ns : List Node) (f r : ℕ) : Type 0 where
   pub key-of : 2 ≤ f → (r ≡ getD K (getD ns (f - 2) blank .label) 0) × (r < 4294967296)
 
 -- the parts of f and g at the first label of the two
-pub record Cut (K : List ℕ) (ns : List Node) (f g label f1 g1 f0 g0 : ℕ) : Type 0 where
+pub record Cut (op : ℕ) (K : List ℕ) (ns : List Node) (f g label f1 g1 f0 g0 : ℕ) : Type 0 where
   pub label-known : label < length K
   pub f1-known : f1 < suc (suc (length ns))
   pub g1-known : g1 < suc (suc (length ns))
@@ -149,5 +159,6 @@ pub record Cut (K : List ℕ) (ns : List Node) (f g label f1 g1 f0 g0 : ℕ) : T
   pub g0-known : g0 < suc (suc (length ns))
   pub falls1 : f1 + g1 < f + g
   pub falls0 : f0 + g0 < f + g
-  pub split : (op : Bool → Bool → Bool) → op false false ≡ false
-      → Split K (combine op K (family ns f) (family ns g)) label (combine op K (family ns f1) (family ns g1)) (combine op K (family ns f0) (family ns g0))
+  pub hi-combinable : Combinable op ns f1 g1
+  pub lo-combinable : Combinable op ns f0 g0
+  pub split : Split K (combined op K (family ns f) (family ns g)) label (combined op K (family ns f1) (family ns g1)) (combined op K (family ns f0) (family ns g0))

@@ -1,11 +1,11 @@
-// Union, intersection, difference, and the sets with and without a label, on a sound table.
+// Union, intersection, difference, join, and the sets with and without a label, on a sound table.
 ghost use mathlib.Core.Path.{_≡_};
 ghost use Prim.Native.Nat.{ℕ, suc, _+_, _-_, _*_, _/_, _%_, _<_, _≤_};
 ghost use lib.ListN.{length, getD, set};
 ghost use Rattle.zdd.specs.Table.{node, blank, count, nodesOf, family, Sound, Keys};
 ghost use Rattle.table.specs.State.{Indexed};
 ghost use Rattle.family.specs.Gives.{Operable, Gives, Produced, Noded, Answers};
-ghost use Rattle.family.specs.Memo.{odd, restricted, Kept, Soon, combined, Ends, Two, Top, Cut};
+ghost use Rattle.family.specs.Memo.{odd, restricted, Kept, Soon, combined, Combinable, besideOf, Ends, Two, Top, Cut};
 ghost use Rattle.family.specs.Memo.{mixed, Packed, placeOf, chosen, entryAt, replaced, Recalled, Remembered, Noted};
 
 // The number of the node with these three words, found or made: lo where hi is 0; 65536 where there is no room.
@@ -181,10 +181,32 @@ fn remember(memo: &mut [u64], at: usize, pair: u64, r: u32)
     memo[w] = replace(memo[w], at, e);
 }
 
+// The number of f's and g's join where one of them is 0 or 1; 65537 where it is to be looked for.
+fn ended_join(f: u32, g: u32) -> u32
+    ensures { λ r. ⌜ Ends 3 f g r ⌝ }
+{
+    if f == 0 {
+        return 0;
+    }
+    if g == 0 {
+        return 0;
+    }
+    if f == 1 {
+        return g;
+    }
+    if g == 1 {
+        return f;
+    }
+    65537
+}
+
 // The number of f's and g's combination where it is plain; 65537 where it is to be looked for.
 fn ended(op: u8, f: u32, g: u32) -> u32
     ensures { λ r. ⌜ Ends op f g r ⌝ }
 {
+    if op > 2 {
+        return ended_join(f, g);
+    }
     if f == 0 {
         if op == 0 {
             return g;
@@ -242,13 +264,24 @@ struct Parts {
     g0: u32,
 }
 
+// What a number that lacks a label is combined as, with the other's sets that have the label: itself in a join, and else 0, no set.
+fn beside(op: u8, k: u32) -> u32
+    ensures { λ r. ⌜ r ≡ besideOf op k ⌝ }
+{
+    if op > 2 {
+        return k;
+    }
+    0
+}
+
 // f and g by the earlier of their first labels: what they have with it, and what without.
-fn cut(t: &[u32], keys: &[u32], f: u32, g: u32) -> Parts
+fn cut(t: &[u32], keys: &[u32], op: u8, f: u32, g: u32) -> Parts
     requires { ⌜ Sound (now keys) (now t) ⌝ }
     requires { ⌜ Keys (now keys) ⌝ }
     requires { ⌜ (f < count (now t) + 2) × (g < count (now t) + 2) ⌝ }
     requires { ⌜ Two f g ⌝ }
-    ensures { λ r. ⌜ Cut (now (keys .entry)) (nodesOf (now (t .entry))) f g (r .label) (r .f1) (r .g1) (r .f0) (r .g0) ⌝ }
+    requires { ⌜ Combinable op (nodesOf (now t)) f g ⌝ }
+    ensures { λ r. ⌜ Cut op (now (keys .entry)) (nodesOf (now (t .entry))) f g (r .label) (r .f1) (r .g1) (r .f0) (r .g0) ⌝ }
 {
     let a = top(t, keys, f);
     let b = top(t, keys, g);
@@ -259,7 +292,7 @@ fn cut(t: &[u32], keys: &[u32], f: u32, g: u32) -> Parts
         return Parts {
             label: t[v],
             f1: t[v + 2],
-            g1: 0,
+            g1: beside(op, g),
             f0: t[v + 1],
             g0: g,
         };
@@ -268,7 +301,7 @@ fn cut(t: &[u32], keys: &[u32], f: u32, g: u32) -> Parts
         let w = 3 * j - 5;
         return Parts {
             label: t[w],
-            f1: 0,
+            f1: beside(op, f),
             g1: t[w + 2],
             f0: f,
             g0: t[w + 1],
@@ -285,7 +318,7 @@ fn cut(t: &[u32], keys: &[u32], f: u32, g: u32) -> Parts
     }
 }
 
-// The number of f's and g's union (op 0), intersection (1) or difference (2); 65536 where there is no room.
+// The number of f's and g's union (op 0), intersection (1), difference (2) or join (3); 65536 where there is no room.
 fn combine(
     t: &mut [u32],
     keys: &[u32],
@@ -298,6 +331,7 @@ fn combine(
     requires { ⌜ Operable (now keys) (now t) (now index) ⌝ }
     requires { ⌜ Remembered op (now keys) (nodesOf (now t)) (now memo) ⌝ }
     requires { ⌜ (f < count (now t) + 2) × (g < count (now t) + 2) ⌝ }
+    requires { ⌜ Combinable op (nodesOf (now t)) f g ⌝ }
     ensures { λ r. ⌜ Gives (now (keys .entry)) (now (t .entry)) (now (t .exit)) (now (index .exit)) r
         (combined op (now (keys .entry)) (family (nodesOf (now (t .entry))) f) (family (nodesOf (now (t .entry))) g)) ⌝ }
     ensures { λ r. ⌜ (r < 65536 → Remembered op (now (keys .entry)) (nodesOf (now (t .exit))) (now (memo .exit))) ⌝ }
@@ -312,7 +346,7 @@ fn combine(
     if known != 65537 {
         return known;
     }
-    let c = cut(t, keys, f, g);
+    let c = cut(t, keys, op, f, g);
     let h = combine(t, keys, index, memo, op, c.f1, c.g1);
     if h == 65536 {
         return 65536;
@@ -389,6 +423,7 @@ fn afresh(
     requires { ⌜ Operable (now keys) (now t) (now index) ⌝ }
     requires { ⌜ (32768 ≤ length (now memo)) × (length (now memo) ≤ 2147483648) ⌝ }
     requires { ⌜ (f < count (now t) + 2) × (g < count (now t) + 2) ⌝ }
+    requires { ⌜ Combinable op (nodesOf (now t)) f g ⌝ }
     ensures { λ r. ⌜ Gives (now (keys .entry)) (now (t .entry)) (now (t .exit)) (now (index .exit)) r
         (combined op (now (keys .entry)) (family (nodesOf (now (t .entry))) f) (family (nodesOf (now (t .entry))) g)) ⌝ }
 {
@@ -408,6 +443,7 @@ fn remembering(
 ) -> u32
     requires { ⌜ Operable (now keys) (now t) (now index) ⌝ }
     requires { ⌜ (f < count (now t) + 2) × (g < count (now t) + 2) ⌝ }
+    requires { ⌜ Combinable op (nodesOf (now t)) f g ⌝ }
     ensures { λ r. ⌜ Gives (now (keys .entry)) (now (t .entry)) (now (t .exit)) (now (index .exit)) r
         (combined op (now (keys .entry)) (family (nodesOf (now (t .entry))) f) (family (nodesOf (now (t .entry))) g)) ⌝ }
 {
@@ -419,7 +455,7 @@ fn remembering(
     afresh(t, keys, index, &mut work[..size], op, f, g)
 }
 
-// The number of f's and g's union (op 0), intersection (1) or difference (2). Where there is no room it is 65536, and the table is as before.
+// The number of f's and g's union (op 0), intersection (1), difference (2) or join (3). Where there is no room it is 65536, and the table is as before.
 pub fn combination(
     t: &mut [u32],
     keys: &[u32],
@@ -431,6 +467,7 @@ pub fn combination(
 ) -> u32
     requires { ⌜ Operable (now keys) (now t) (now index) ⌝ }
     requires { ⌜ (f < count (now t) + 2) × (g < count (now t) + 2) ⌝ }
+    requires { ⌜ Combinable op (nodesOf (now t)) f g ⌝ }
     ensures { λ r. ⌜ Produced (now (keys .entry)) (now (t .entry)) (now (t .exit)) (now (index .exit)) r
         (combined op (now (keys .entry)) (family (nodesOf (now (t .entry))) f) (family (nodesOf (now (t .entry))) g)) ⌝ }
 {

@@ -4,7 +4,7 @@ use lib.ListN.{length}
 use Prim.Native.Nat.{_+_}
 use mathlib.Core.Path.{sym, ap, _∙_}
 use native.Mathlib.Omega.{arith}
-use Rattle.family.proofs.CombineLaws.{packed-small, ended-gives, ends-two, recalled-gives, hi-known, hi-none, hi-ready, lo-known, lo-none, last-none, last-noted}
+use Rattle.family.proofs.CombineLaws.{packed-small, ended-gives, ends-two, recalled-gives, hi-known, hi-none, hi-ready, lo-known, lo-may, lo-none, last-none, last-noted}
 use borrow.Author.Needs.{needs}
 use Prim.Native.Nat.{ℕ, _<_}
 use borrow.Fn.Kinds.{In}
@@ -55,12 +55,12 @@ combine-claims t = (
 combine-returns : (t : ℕ) → combine-lts.Need-returns (combine-claims t) (combine-at t) combine.Post
 combine-returns t c =
     let pre = c .before .before .before .before .before .pre in
-    ended-gives (pre .1 .0) (pre .1 .1 .0) (pre .1 .1 .1) (c .before .ended .ensures) (c .if1 .taken)
+    ended-gives (pre .1 .0) (pre .1 .1 .0) (pre .1 .1 .1 .0) (pre .1 .1 .1 .1) (c .before .ended .ensures) (c .if1 .taken)
 
 combine-pack-requires : (t : ℕ) → combine-lts.Need-pack-requires (combine-claims t) (combine-at t) combine.Post
 combine-pack-requires t c κs =
     let pre = c .before .before .before .before .before .pre in
-    (omega (arith, pre .1 .1 .1 .0, pre .1 .0 .sound .few), omega (arith, pre .1 .1 .1 .1, pre .1 .0 .sound .few))
+    (omega (arith, pre .1 .1 .1 .0 .0, pre .1 .0 .sound .few), omega (arith, pre .1 .1 .1 .0 .1, pre .1 .0 .sound .few))
 
 combine-place-requires : (t : ℕ) → combine-lts.Need-place-requires (combine-claims t) (combine-at t) combine.Post
 combine-place-requires t c κs =
@@ -78,28 +78,29 @@ combine-returns-2 : (t : ℕ) → combine-lts.Need-returns-2 (combine-claims t) 
 combine-returns-2 t c =
     let place′ = c .before .before .before .place in let pack′ = c .before .before .before .before .pack in
     let here = c .before .before .before .before .before .before .before .before .before .before in let pre = here .pre in
-    recalled-gives (pre .1 .0) (pre .1 .1 .0) (pre .1 .1 .1) (pack′ .ensures) (place′ .ensures) (c .before .recall .ensures) (c .if2 .taken)
+    recalled-gives (pre .1 .0) (pre .1 .1 .0) (pre .1 .1 .1 .0) (pack′ .ensures) (place′ .ensures) (c .before .recall .ensures) (c .if2 .taken)
 
 combine-cut-requires : (t : ℕ) → combine-lts.Need-cut-requires (combine-claims t) (combine-at t) combine.Post
 combine-cut-requires t c κs =
     let if1 = c .before .before .before .before .before .before .if1 in
     let ended = c .before .before .before .before .before .before .before .ended in
     let here = c .before .before .before .before .before .before .before .before .before .before .before in let pre = here .pre in
-    (pre .1 .0 .sound, (pre .1 .0 .keys, (pre .1 .1 .1, ends-two (pre .1 .0) (pre .1 .1 .0) (pre .1 .1 .1) (ended .ensures) (if1 .left))))
+    let two = ends-two (pre .1 .0) (pre .1 .1 .0) (pre .1 .1 .1 .0) (pre .1 .1 .1 .1) (ended .ensures) (if1 .left) in
+    (pre .1 .0 .sound, (pre .1 .0 .keys, (pre .1 .1 .1 .0, (two, pre .1 .1 .1 .1))))
 
 combine-combine-requires : (t : ℕ) → combine-lts.Need-combine-requires (combine-claims t) (combine-at t) combine.Post
 combine-combine-requires t c κs =
     let cut′ = c .before .before .before .cut in
     let here = c .before .before .before .before .before .before .before .before .before .before .before .before .before .before .before in
     let pre = here .pre in
-    (omega (arith, pre .0, cut′ .ensures .falls1), (pre .1 .0, (pre .1 .1 .0, hi-known (pre .1 .0) (cut′ .ensures))))
+    (omega (arith, pre .0, cut′ .ensures .falls1), (pre .1 .0, (pre .1 .1 .0, (hi-known (pre .1 .0) (cut′ .ensures), cut′ .ensures .hi-combinable))))
 
 combine-returns-3 : (t : ℕ) → combine-lts.Need-returns-3 (combine-claims t) (combine-at t) combine.Post
 combine-returns-3 t c =
     let combine′ = c .before .before .before .before .before .combine in
     let here = c .before .before .before .before .before .before .before .before .before in
     let back = here .before .before .before .before .before .before .before .before .before .before .before .before in let pre = back .pre in
-    hi-none (back .args .op) (pre .1 .0) (pre .1 .1 .1) (here .cut .ensures) (combine′ .ensures .0) (c .if3 .taken)
+    hi-none (back .args .op) (pre .1 .0) (pre .1 .1 .1 .0) (here .cut .ensures) (combine′ .ensures .0) (c .if3 .taken)
 
 combine-combine-requires-2 : (t : ℕ) → combine-lts.Need-combine-requires-2 (combine-claims t) (combine-at t) combine.Post
 combine-combine-requires-2 t c κs =
@@ -110,8 +111,14 @@ combine-combine-requires-2 t c κs =
     let w1 : combine′ .result < 65536 = omega (arith, combine′ .ensures .0 .small, if3 .left) in (
       omega (arith, pre .0, cut′ .ensures .falls0),
       (
-        hi-ready (args .op) (pre .1 .0) (pre .1 .1 .1) (cut′ .ensures) (combine′ .ensures .0),
-        (combine′ .ensures .1 w1, lo-known (args .op) (pre .1 .0) (pre .1 .1 .1) (cut′ .ensures) (combine′ .ensures .0) w1),
+        hi-ready (args .op) (pre .1 .0) (pre .1 .1 .1 .0) (cut′ .ensures) (combine′ .ensures .0),
+        (
+          combine′ .ensures .1 w1,
+          (
+            lo-known (args .op) (pre .1 .0) (pre .1 .1 .1 .0) (cut′ .ensures) (combine′ .ensures .0) w1,
+            lo-may (args .op) (pre .1 .0) (pre .1 .1 .1 .0) (cut′ .ensures) (combine′ .ensures .0) w1,
+          ),
+        ),
       ),
     )
 
@@ -122,7 +129,8 @@ combine-returns-4 t c =
     let combine′ = here .before .before .before .before .before .combine in
     let back = here .before .before .before .before .before .before .before .before .before in
     let far = back .before .before .before .before .before .before .before .before .before .before .before .before in let pre = far .pre in
-    lo-none (far .args .op) (pre .1 .0) (pre .1 .1 .1) (back .cut .ensures) (combine′ .ensures .0) (omega (arith, combine′ .ensures .0 .small, here .if3 .left)) (combine2 .ensures .0) (c .if4 .taken)
+    lo-none (far .args .op) (pre .1 .0) (pre .1 .1 .1 .0) (back .cut .ensures) (combine′ .ensures .0) (omega (arith, combine′ .ensures .0 .small, here .if3 .left)) (combine2 .ensures .0)
+    (c .if4 .taken)
 
 combine-make-requires : (t : ℕ) → combine-lts.Need-make-requires (combine-claims t) (combine-at t) combine.Post
 combine-make-requires t c κs =
@@ -137,7 +145,7 @@ combine-returns-5 t c =
     let combine′ = back .combine in let cut′ = back .before .before .before .before .cut in
     let far = back .before .before .before .before .before .before .before .before .before .before .before .before .before .before .before .before in
     let pre = far .pre in
-    last-none (far .args .op) (pre .1 .0) (pre .1 .1 .1) (cut′ .ensures) (combine′ .ensures .0) (omega (arith, combine′ .ensures .0 .small, if3 .left)) (combine2 .ensures .0)
+    last-none (far .args .op) (pre .1 .0) (pre .1 .1 .1 .0) (cut′ .ensures) (combine′ .ensures .0) (omega (arith, combine′ .ensures .0 .small, if3 .left)) (combine2 .ensures .0)
     (omega (arith, combine2 .ensures .0 .small, if4 .left)) (make .ensures) (c .if5 .taken)
 
 combine-remember-requires : (t : ℕ) → combine-lts.Need-remember-requires (combine-claims t) (combine-at t) combine.Post
@@ -170,7 +178,7 @@ combine-returns-6 t c =
     let far = back .before .before .before .before .before .before .before .before .before in
     let place′ = far .before .before .before .before .before .place in let pack′ = far .before .before .before .before .before .before .pack in
     let farther = far .before .before .before .before .before .before .before .before .before .before .before .before in let pre = farther .pre in
-    last-noted (farther .args .op) (pre .1 .0) (pre .1 .1 .1) (far .cut .ensures) (combine′ .ensures .0) (omega (arith, combine′ .ensures .0 .small, back .if3 .left)) (combine2 .ensures .0)
+    last-noted (farther .args .op) (pre .1 .0) (pre .1 .1 .1 .0) (far .cut .ensures) (combine′ .ensures .0) (omega (arith, combine′ .ensures .0 .small, back .if3 .left)) (combine2 .ensures .0)
     (omega (arith, combine2 .ensures .0 .small, if4 .left)) (make .ensures) (place′ .result) (pack′ .ensures)
     (place′ .ensures ∙ ap (λ (n : ℕ). placeOf n (pack′ .result)) (sym (here .before .before .memo2 .given ∙ back .before .before .memo .given)))
     (combine2 .ensures .1 (omega (arith, combine2 .ensures .0 .small, if4 .left))) (c .before .before .remember .ensures)

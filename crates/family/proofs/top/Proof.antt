@@ -1,6 +1,6 @@
 use Prim.Native.Nat.{_*_, _-_}
 use native.Mathlib.Omega.{arith}
-use Rattle.family.proofs.CombineLaws.{top-end, top-of}
+use Rattle.family.proofs.CutLaws.{top-end, top-of}
 use Rattle.family.proofs.RestrictLaws.{label-known}
 use borrow.Author.Needs.{needs}
 use Rattle.family.proofs.top.Statement.{statement}
