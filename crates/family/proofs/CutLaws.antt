@@ -46,7 +46,7 @@ module _ {K : List ℕ} (k : Keys K) {ns : List Node} (n : Nodes K ns) where
   abbrev nodeAt : ℕ → Node
   nodeAt i = getD ns i blank
 
-  -- a node, and a number that begins after its label
+  -- a node, and a number that begins after its label: the operations that are tests of membership, and then all
   left-tested : (o : Bool → Bool → Bool) → o false false ≡ false
       → (i g : ℕ) → i < length ns → g < suc (suc (length ns)) → Over K ns (suc (key K (nodeAt i .label))) g
       → Split K (combine o K (family ns (suc (suc i))) (family ns g)) (nodeAt i .label)
@@ -78,7 +78,7 @@ module _ {K : List ℕ} (k : Keys K) {ns : List Node} (n : Nodes K ns) where
         split = left-split op i g w b v;
       }
 
-  -- a number that begins after a node's label, and the node
+  -- a number that begins after a node's label, and the node: the same
   right-tested : (o : Bool → Bool → Bool) → o false false ≡ false
       → (f j : ℕ) → f < suc (suc (length ns)) → j < length ns → Over K ns (suc (key K (nodeAt j .label))) f
       → Split K (combine o K (family ns f) (family ns (suc (suc j)))) (nodeAt j .label)

@@ -7,13 +7,13 @@ returns : tie.Need-returns
 returns c = ends-left _ _ _ (c .if1 .taken) (omega arith)
 
 returns-2 : tie.Need-returns-2
-returns-2 c = joins-right _ _ (c .if2 .taken)
+returns-2 c = let args = c .before .before .args in joins-right (args .f) (args .g) (c .if2 .taken)
 
 returns-3 : tie.Need-returns-3
-returns-3 c = joins-left-one _ _ (c .if3 .taken)
+returns-3 c = let args = c .before .before .before .args in joins-left-one (args .f) (args .g) (c .if3 .taken)
 
 returns-4 : tie.Need-returns-4
-returns-4 c = joins-right-one _ _ (c .if4 .taken)
+returns-4 c = let args = c .before .before .before .before .args in joins-right-one (args .f) (args .g) (c .if4 .taken)
 
 returns-5 : tie.Need-returns-5
 returns-5 c =
