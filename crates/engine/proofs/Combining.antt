@@ -2,7 +2,7 @@
 use mathlib.Core.Path.{_≡_, refl, sym, ap, _∙_, subst, subst⁻¹}
 use mathlib.Core.Logic.{_⊎_, inl, inr}
 use mathlib.Core.Bool.{Bool, true, false, _||_}
-use mathlib.Core.List.{List, [], _∷_}
+use mathlib.Core.List.{List, [], _∷_, _++_}
 use Prim.Native.Nat.{ℕ, zero, suc, _+_, _≤_, _<_}
 use native.Mathlib.Nat.{eq-or-lt-of-le}
 use native.Mathlib.Omega.{arith}
@@ -17,19 +17,21 @@ use Rattle.exact_cover.specs.Cover.{keysOf}
 use Rattle.exact_cover.proofs.Order.{length-keys}
 use Rattle.family.specs.Gives.{Operable, Produced}
 use Rattle.statement.specs.declared.Report.{Report}
-use Rattle.statement.specs.Refusals.{firstOf, unknownAnswer, full, Fit}
+use Rattle.statement.specs.Refusals.{firstOf, unknownAnswer, overlap, shortWork, full, Fit}
 use Rattle.statement.specs.declared.Call.{Call}
-use Rattle.statement.specs.declared.Call.the-variants.{Either, Both, Only, With, Without}
-use Rattle.family.specs.Memo.{combined, restricted}
+use Rattle.statement.specs.declared.Call.the-variants.{Either, Both, Only, With, Without, Join}
+use Rattle.family.specs.Memo.{combined, Combinable, restricted}
 use Rattle.query.specs.Questions.{familyAt}
-use Rattle.statement.specs.Calls.{familyOf, stepsOf, pairTests, partTests, callTests, callRefusal}
+use Rattle.statement.specs.Calls.{familyOf, stepsOf, partTests, callTests, callRefusal}
 use Rattle.statement.proofs.Admission.{table-passes}
 use Rattle.statement.specs.Postconditions.{Declined, Makes, AnswerPost}
 use Rattle.statement.proofs.Kept.{refused-makes}
 use Rattle.statement.proofs.Made.{below-missing}
-use Rattle.statement.proofs.FirstOf.{pass, hit, none}
+use Rattle.statement.proofs.Joins.{apart}
+use Rattle.support.specs.Support.{Labelled}
+use Rattle.statement.proofs.FirstOf.{pass, hit, none, passed, front, Numbered, behind}
 use Rattle.statement.proofs.TestLaws.{answer-known, answer-unknown}
-use Rattle.engine.specs.Reports.{Reported, pairCall, partCall}
+use Rattle.engine.specs.Reports.{Reported, pairCall, joinFront, ownFront, pairFront, PairTested, partCall}
 use Rattle.guard.specs.Admitted.{Usable, Admitted}
 use Rattle.guard.proofs.GuardLaws.{admit-refused}
 
@@ -49,6 +51,56 @@ second-unknown t a b h = go (unknownAnswer t a) (answer-unknown t b h)
     go true e = refl
     go false e = e
 
+-- ---- the tests of a call on two answers
+
+own-join : (Q : Problem) (t : List ℕ) (op a b words : ℕ) → 2 < op → ownFront Q t op a b words ≡ joinFront Q t a b words
+own-join Q t zero a b words l = absurd (omega arith)
+own-join Q t (suc zero) a b words l = absurd (omega arith)
+own-join Q t (suc (suc zero)) a b words l = absurd (omega arith)
+own-join Q t (suc (suc (suc op))) a b words l = refl
+
+own-other : (Q : Problem) (t : List ℕ) (op a b words : ℕ) → op ≤ 2 → ownFront Q t op a b words ≡ (shortWork 2 words, 8) ∷ []
+own-other Q t zero a b words n = refl
+own-other Q t (suc zero) a b words n = refl
+own-other Q t (suc (suc zero)) a b words n = refl
+own-other Q t (suc (suc (suc op))) a b words n = absurd (omega arith)
+
+-- every test has a number
+own-numbered : (Q : Problem) (t : List ℕ) (op a b words : ℕ) → Numbered (pairFront Q t op a b words)
+own-numbered Q t zero a b words = tt
+own-numbered Q t (suc zero) a b words = tt
+own-numbered Q t (suc (suc zero)) a b words = tt
+own-numbered Q t (suc (suc (suc op))) a b words = tt
+
+module _ (Q : Problem) (t : List ℕ) (op a b words : ℕ) where
+  -- 5
+  pub pair-unknown : (unknownAnswer t a || unknownAnswer t b) ≡ true → PairTested Q t op a b words 5
+  pair-unknown e = record { says = sym (hit 5 _ e); known = λ z. absurd (omega arith); apart = λ z. absurd (omega arith) }
+
+  module _ (ha : a < count t + 2) (hb : b < count t + 2) where
+    front-own : (ts : List (Bool × ℕ)) → ownFront Q t op a b words ≡ ts → firstOf ts ≡ firstOf (pairFront Q t op a b words)
+    front-own ts e = ap firstOf (sym e) ∙ sym (pass 5 _ (both-known t a b ha hb))
+
+    -- those of a join
+    pub pair-join : 2 < op → (r : ℕ) → r ≡ firstOf (joinFront Q t a b words) → PairTested Q t op a b words r
+    pair-join l r e = record {
+      says = e ∙ front-own _ (own-join Q t op a b words l);
+      known = λ z. (ha, hb);
+      apart = λ z _. passed (overlap Q t a b) 34 _ (sym e ∙ z) .0;
+    }
+
+    -- those of the others
+    pub pair-other : op ≤ 2 → (r : ℕ) → r ≡ firstOf ((shortWork 2 words, 8) ∷ []) → PairTested Q t op a b words r
+    pair-other n r e = record { says = e ∙ front-own _ (own-other Q t op a b words n); known = λ z. (ha, hb); apart = λ z l. absurd (omega arith) }
+
+  -- a refusal by them is the call's, and where there is none 10 is left
+  module _ {r : ℕ} (p : PairTested Q t op a b words r) (ts : List (Bool × ℕ)) where
+    pub pair-refused : (r ≡ 0 → ⊥) → firstOf (pairFront Q t op a b words ++ ts) ≡ r
+    pair-refused f = front (pairFront Q t op a b words) ts (λ z. f (p .says ∙ z)) ∙ sym (p .says)
+
+    pub pair-passed : r ≡ 0 → firstOf (pairFront Q t op a b words ++ ts) ≡ firstOf ts
+    pair-passed z = behind (pairFront Q t op a b words) ts (own-numbered Q t op a b words) (sym (p .says) ∙ z)
+
 -- ---- admitted
 
 module _ {Q : Problem} {t keys index : List ℕ} (g : Usable Q t keys index) where
@@ -60,6 +112,13 @@ module _ {Q : Problem} {t keys index : List ℕ} (g : Usable Q t keys index) whe
 
   pub keys-taken : length (take (length (Q .packages)) keys) ≡ length (Q .packages)
   keys-taken = ap length (g .keyed .are) ∙ length-keys Q
+
+  pub labelled : Labelled (Q .packages) t
+  labelled = record { keys = keysOf Q; sound = g .sound; each = length-keys Q }
+
+  -- two answers that passed the tests of their call can be combined
+  pub combinable : {op a b words r : ℕ} → PairTested Q t op a b words r → r ≡ 0 → Combinable op (nodesOf t) a b
+  combinable {a = a} {b} p z l = let k = p .known z in apart Q t (g .rows) (g .sound) a b (k .0) (k .1) (p .apart z l)
 
 -- ---- the whole call
 
@@ -84,10 +143,11 @@ same-call Q m t words {r} {t′} e w = subst⁻¹ (λ (x : Call). AnswerPost Q m
 
 module _ {Q : Problem} {m : ℕ} {t keys index : List ℕ} (f : Fit Q m) (g : Usable Q t keys index) (a b words : ℕ) {r : Report} {t′ : List ℕ} where
   pub pair-makes : (op : ℕ) → let F : Family = combined op (keysOf Q) (familyAt t a) (familyAt t b) in
-      Makes (keysOf Q) (firstOf (pairTests t a b F words)) F 0 t r t′ → AnswerPost Q m t (pairCall op a b) words r t′
+      Makes (keysOf Q) (firstOf (pairFront Q t op a b words ++ ((full t F, 10) ∷ []))) F 0 t r t′ → AnswerPost Q m t (pairCall op a b) words r t′
   pair-makes zero w = call-makes (Either a b) words f g refl w
   pair-makes (suc zero) w = call-makes (Both a b) words f g refl w
-  pair-makes (suc (suc op)) w = call-makes (Only a b) words f g refl w
+  pair-makes (suc (suc zero)) w = call-makes (Only a b) words f g refl w
+  pair-makes (suc (suc (suc op))) w = call-makes (Join a b) words f g refl w
 
   pub part-makes : (holding : Bool) → let F : Family = restricted holding (keysOf Q) b (familyAt t a) in
       Makes (keysOf Q) (firstOf (partTests (Q .packages) t a b F words)) F 0 t r t′ → AnswerPost Q m t (partCall holding a b) words r t′

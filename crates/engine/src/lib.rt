@@ -4,18 +4,20 @@
 // m is M, packages the N item sets, three words each, optional the items that need not be covered, order a list of the m items, each once, by which one is
 // earlier than another; t has the table's words, work are the working words, whose contents before a call do not matter.
 ghost use mathlib.Core.Path.{_≡_};
-ghost use Prim.Native.Nat.{_≤_, _<_};
+ghost use Prim.Native.Nat.{ℕ, _+_, _≤_, _<_, max};
+ghost use mathlib.Core.List.{List};
 ghost use lib.ListN.{length};
-ghost use Rattle.itemset.specs.Words.{value};
+ghost use Rattle.itemset.specs.Words.{value, setsOf};
 ghost use Rattle.zdd.specs.Table.{count as nodes};
 ghost use Rattle.exact_cover.specs.Problem.{problemOf};
 ghost use Rattle.statement.specs.Replies.{countReply, pickReply, placeReply, cheapestReply};
-ghost use Rattle.statement.specs.Refusals.{openTests};
+ghost use Rattle.statement.specs.Refusals.{firstOf, openTests};
 ghost use Rattle.statement.specs.Postconditions.{CheckPost, CountPost, MeasurePost, PickPost, PlacePost, CheapestPost};
-ghost use Rattle.statement.specs.Postconditions.{AnswerPost, CoverPost, EitherPost, BothPost, OnlyPost, WithPost, WithoutPost};
+ghost use Rattle.statement.specs.Postconditions.{AnswerPost, CoverPost, EitherPost, BothPost, OnlyPost, WithPost, WithoutPost, JoinPost};
+ghost use Rattle.support.specs.Support.{Labelled};
 ghost use Rattle.engine.specs.Answers.{tallyReply, endRefusal, writtenReply, placedReply, cheapReply};
 ghost use Rattle.engine.specs.Opened.{Opened, OpenedAt, OpenedPriced};
-ghost use Rattle.engine.specs.Reports.{Reported, pairCall, partCall};
+ghost use Rattle.engine.specs.Reports.{Reported, pairCall, joinFront, PairTested, partCall};
 use itemset::Items;
 use query::Cheap;
 use query::Spot;
@@ -371,7 +373,54 @@ pub fn cover(
     }
 }
 
-// Union (op 0), intersection (1) or difference (2) of the answers a and b.
+// The larger of two.
+fn larger(a: usize, b: usize) -> usize
+    ensures { λ r. ⌜ r ≡ max a b ⌝ }
+{
+    if a < b {
+        return b;
+    }
+    a
+}
+
+// Refusal 35 or 8 of a join of answers that the table knows, whatever is optional and whatever the order; 0 for neither.
+fn join_refusal(packages: &[u64], t: &[u32], a: u32, b: u32, words: usize) -> u8
+    requires { ⌜ Labelled (setsOf (now packages)) (now t) ⌝ }
+    requires { ⌜ (a < nodes (now t) + 2) × (b < nodes (now t) + 2) ⌝ }
+    ensures { λ r. ⌜ ((optional : ℕ) (order : List ℕ) → r ≡ firstOf (joinFront (problemOf (now (packages .entry)) optional order) (now (t .entry)) a b words)) ⌝ }
+{
+    if support::overlap(packages, t, a, b) {
+        return 35;
+    }
+    let most = larger(base::wide(a), base::wide(b));
+    if words < larger(most, 1) + 1 {
+        return 8;
+    }
+    0
+}
+
+// Refusal 5, 35 or 8 of a call on the answers a and b, whatever is optional and whatever the order; 0 for none of them.
+fn pair_refusal(packages: &[u64], t: &[u32], op: u8, a: u32, b: u32, words: usize) -> u8
+    requires { ⌜ Labelled (setsOf (now packages)) (now t) ⌝ }
+    ensures { λ r. ⌜ ((optional : ℕ) (order : List ℕ) → PairTested (problemOf (now (packages .entry)) optional order) (now (t .entry)) op a b words r) ⌝ }
+{
+    let n = t[0];
+    if n + 2 <= a {
+        return 5;
+    }
+    if n + 2 <= b {
+        return 5;
+    }
+    if op > 2 {
+        return join_refusal(packages, t, a, b, words);
+    }
+    if words < 2 {
+        return 8;
+    }
+    0
+}
+
+// Union (op 0), intersection (1), difference (2) or join (3) of the answers a and b.
 fn answer_pair(
     m: u32,
     packages: &[u64],
@@ -391,16 +440,11 @@ fn answer_pair(
     if r != 0 {
         return statement::declined(r);
     }
+    let own = pair_refusal(packages, t, op, a, b, work.len());
+    if own != 0 {
+        return statement::declined(own);
+    }
     let n = t[0];
-    if n + 2 <= a {
-        return statement::declined(5);
-    }
-    if n + 2 <= b {
-        return statement::declined(5);
-    }
-    if work.len() < 2 {
-        return statement::declined(8);
-    }
     let last = exact_cover::number(packages);
     let k = family::combination(t, &keys[..last], &mut index, work, op, a, b);
     report(t, n, k)
@@ -461,6 +505,7 @@ pub fn answer(
         Call::Only { a, b } => answer_pair(m, packages, optional, order, t, 2, a, b, work),
         Call::With { a, p } => answer_part(m, packages, optional, order, t, true, a, p, work),
         Call::Without { a, p } => answer_part(m, packages, optional, order, t, false, a, p, work),
+        Call::Join { a, b } => answer_pair(m, packages, optional, order, t, 3, a, b, work),
     }
 }
 
@@ -550,4 +595,20 @@ pub fn without(
         Call::Without { a, p },
         work,
     )
+}
+
+// Join: every union of a timetable of a and one of b, which have no item in common.
+pub fn join(
+    m: u32,
+    packages: &[u64],
+    optional: Items,
+    order: &[u8],
+    t: &mut [u32],
+    a: u32,
+    b: u32,
+    work: &mut [u64],
+) -> Report
+    ensures { λ r. ⌜ JoinPost (problemOf (now (packages .entry)) (value optional) (now (order .entry))) m (now (t .entry)) a b (length (now (work .entry))) r (now (t .exit)) ⌝ }
+{
+    answer(m, packages, optional, order, t, Call::Join { a, b }, work)
 }

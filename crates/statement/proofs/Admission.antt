@@ -11,7 +11,7 @@ use Rattle.itemset.specs.Items.{belowb}
 use Rattle.itemset.proofs.Laws.{below-lt}
 use Rattle.exact_cover.specs.Problem.{Problem, row, span, eachOnce, done, Rows}
 use Rattle.statement.specs.Refusals.{firstOf, strayPackage, stray, strayOptional, nothingCompulsory, disordered, unsound, packageTests, tableTests, Fit}
-use Rattle.statement.proofs.FirstOf.{pass, passed, front}
+use Rattle.statement.proofs.FirstOf.{pass, passed, exchanged, front}
 use Rattle.statement.proofs.TestLaws.{within-limits, package-passes}
 
 module _ {Q : Problem} {m : ℕ} where
@@ -28,6 +28,12 @@ module _ {Q : Problem} {m : ℕ} where
       let d = passed _ 29 _ (c .1) in
       let o = passed _ 33 _ (d .1) in
       (record { sized = a .0; clean = b .0; known = c .0; due = d .0; ordered = o .0 }, o .1)
+
+  -- behind them, tests may be exchanged for others that decide the same where the packages pass
+  pub fit-exchanged : (ts us : List (Bool × ℕ)) → (Fit Q m → firstOf ts ≡ firstOf us) → firstOf (packageTests Q m ts) ≡ firstOf (packageTests Q m us)
+  fit-exchanged ts us h =
+      exchanged _ 1 _ _ (λ a. exchanged _ 2 _ _ (λ b. exchanged _ 29 _ _ (λ c. exchanged _ 30 _ _ (λ d. exchanged _ 34 _ _ (λ o.
+      h (record { sized = a; clean = b; known = c; due = d; ordered = o }))))))
 
   pub packages-fit : Fit Q m → length (Q .packages) ≤ 512
   packages-fit f = within-limits m (Q .packages) (f .sized) .1

@@ -5,6 +5,7 @@ pub mod TestLaws
 pub mod Overlaps
 pub mod Kept
 pub mod Made
+pub mod Joins
 pub mod Determined
 pub mod Undo
 pub mod Measure

@@ -5,7 +5,7 @@ use mathlib.Core.Bool.{Bool, true, false, cond, _||_}
 use mathlib.Core.List.{List, [], _∷_, _++_, map, Memᴰ·cast, Memᴰ·map, Memᴰ·of-map}
 use mathlib.Core.List.{List·Memᴰ·head, List·Memᴰ·tail, List·Memᴰ·cases-cons, List·Memᴰ·not-nil, List·Memᴰ·append-cases}
 use Prim.Native.Nat.{ℕ, zero, suc, _+_, _-_, _≤_, _<_}
-use native.Mathlib.Nat.{le-antisymm, not-suc-le-zero, eq-or-lt-of-le}
+use native.Mathlib.Nat.{le-refl, le-antisymm, not-suc-le-zero, eq-or-lt-of-le}
 use native.Mathlib.Omega.{arith}
 use lib.Dec.{eqb}
 use lib.ListN.{length, getD, length-append, length-map, List·getD-append}
@@ -35,6 +35,12 @@ module _ {K : List ℕ} {ns : List Node} (n : Nodes K ns) where
   below-known itself h = h
   below-known (by-lo i w b) h = below-known b (omega (arith, n .each i w .lo-below))
   below-known (by-hi i w b) h = below-known b (omega (arith, n .each i w .hi-below))
+
+  -- and no greater one
+  pub below-le : {a k : ℕ} → Below ns a k → k ≤ a
+  below-le {a} itself = le-refl a
+  below-le (by-lo i w b) = omega (arith, below-le b, n .each i w .lo-below)
+  below-le (by-hi i w b) = omega (arith, below-le b, n .each i w .hi-below)
 
   -- ---- the test is exact
 

@@ -24,11 +24,14 @@ returns-5 c = same-call _ _ _ _ (c .before .before .before .before .before .befo
 returns-6 : tie.Need-returns-6
 returns-6 c = same-call _ _ _ _ (c .before .before .before .before .before .before .before .before .c6 .given .1) (c .before .before .before .before .answer-part2 .ensures)
 
+returns-7 : tie.Need-returns-7
+returns-7 c = same-call _ _ _ _ (c .before .before .before .before .before .before .before .before .c7 .given .1) (c .before .before .before .before .answer-pair4 .ensures)
+
 pub answer-spec : {M : Type 1} → statement M
 answer-spec =
     tie.close
     (tie.spec (λ c. search needs) (λ c κs. search needs) (λ c. search needs) (λ c κs. search needs) (λ c. search needs) (λ c κs. search needs)
     (λ c. search needs) (λ c κs. search needs) (λ c. search needs) (λ c κs. search needs) (λ c. search needs) (λ c κs. search needs)
-    (λ c. search needs) (λ c. search needs) returns (λ c. search needs) (λ c. search needs) returns-2 (λ c. search needs) (λ c. search needs)
-    returns-3 (λ c. search needs) (λ c. search needs) returns-4 (λ c. search needs) (λ c. search needs) returns-5 (λ c. search needs)
-    (λ c. search needs) returns-6)
+    (λ c. search needs) (λ c κs. search needs) (λ c. search needs) (λ c. search needs) returns (λ c. search needs) (λ c. search needs) returns-2
+    (λ c. search needs) (λ c. search needs) returns-3 (λ c. search needs) (λ c. search needs) returns-4 (λ c. search needs) (λ c. search needs)
+    returns-5 (λ c. search needs) (λ c. search needs) returns-6 (λ c. search needs) (λ c. search needs) returns-7)
