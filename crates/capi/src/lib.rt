@@ -6,7 +6,7 @@ ghost use lib.ListN.{length};
 ghost use Rattle.itemset.specs.Words.{width, valueOf};
 ghost use Rattle.exact_cover.specs.Problem.{problemOf};
 ghost use Rattle.statement.specs.Replies.{soundnessReply, countReply, measureReply, pickReply, placeReply, cheapestReply};
-ghost use Rattle.statement.specs.Postconditions.{CheckPost, CountPost, MeasurePost, PickPost, PlacePost, CheapestPost, CoverPost, EitherPost, BothPost, OnlyPost, WithPost, WithoutPost};
+ghost use Rattle.statement.specs.Postconditions.{CheckPost, CountPost, MeasurePost, PickPost, PlacePost, CheapestPost, CoverPost, EitherPost, BothPost, OnlyPost, WithPost, WithoutPost, JoinPost};
 ghost use Rattle.statement.specs.Examples.{allItems};
 ghost use Rattle.bids.specs.Contract.{readReply, ReadPost};
 ghost use Rattle.capi.specs.Structs.{soundnessOf, engineReport, reportOf, countedOf, measuredOf, pickedOf, placedOf, pricedOf, readingOf, BlankReport};
@@ -432,6 +432,27 @@ pub extern "C" fn mogedorn_without(
 {
     let o = itemset::of_words(optional);
     let r = engine::without(m, packages, o, order, t, a, p, work);
+    shown(r)
+}
+
+// Every union of a timetable of a and one of b, which have no item in common.
+#[no_mangle]
+pub extern "C" fn mogedorn_join(
+    m: u32,
+    packages: &[u64],
+    optional: &[u64; 3],
+    order: &[u8],
+    t: &mut [u32],
+    a: u32,
+    b: u32,
+    work: &mut [u64],
+) -> Report
+    ensures { λ r. ⌜ JoinPost (problemOf (now (packages .entry)) (valueOf (now (optional .entry))) (now (order .entry))) m (now (t .entry)) a b
+        (length (now (work .entry))) (reportOf r) (now (t .exit)) ⌝ }
+    ensures { λ r. ⌜ BlankReport r ⌝ }
+{
+    let o = itemset::of_words(optional);
+    let r = engine::join(m, packages, o, order, t, a, b, work);
     shown(r)
 }
 

@@ -10,7 +10,7 @@ use lib.ListN.{length}
 use borrow.Author.Tests.{leb-false}
 use Rattle.base.proofs.Bools.{never, is-false, or-left, or-right}
 use Rattle.zdd.specs.Table.{Family, count, elem, _∈_}
-use Rattle.zdd.specs.Operations.{combine, including, excluding}
+use Rattle.zdd.specs.Operations.{combine, including, excluding, join}
 use Rattle.zdd.proofs.Tested.{sound-of}
 use Rattle.exact_cover.specs.Problem.{Problem}
 use Rattle.exact_cover.specs.Cover.{keysOf, covering}
@@ -19,7 +19,7 @@ use Rattle.statement.specs.Replies.{Reply, refused, gives, outcomeReply}
 use Rattle.query.specs.Questions.{familyAt}
 use Rattle.statement.specs.Refusals.{firstOf, unknownAnswer, Fit}
 use Rattle.statement.specs.declared.Call.{Call}
-use Rattle.statement.specs.declared.Call.the-variants.{Cover, Either, Both, Only, With, Without}
+use Rattle.statement.specs.declared.Call.the-variants.{Cover, Either, Both, Only, With, Without, Join}
 use Rattle.statement.specs.Calls.{operands, familyOf, callTests, callRefusal}
 use Rattle.statement.proofs.Admission.{fit-of}
 use Rattle.statement.specs.Postconditions.{Makes}
@@ -34,13 +34,14 @@ abbrev pub made : (Q : Problem) (t : List ℕ) → Call → Chosen
 made Q t c = makes Q (λ x s. elem s (familyAt t x)) c
 
 pub made-family : (Q : Problem) (t : List ℕ) (c : Call) → familyOf Q t c ≡ listing Q (made Q t c)
-unfolding covering combine including excluding
+unfolding covering combine including excluding join
 made-family Q t (Cover d limit) = refl
 made-family Q t (Either a b) = refl
 made-family Q t (Both a b) = refl
 made-family Q t (Only a b) = refl
 made-family Q t (With a p) = refl
 made-family Q t (Without a p) = refl
+made-family Q t (Join a b) = refl
 
 pub fit-call : (Q : Problem) (t : List ℕ) (c : Entry) → refusalOf Q t c ≡ 0 → Fit Q (c .m)
 unfolding callRefusal
@@ -90,6 +91,7 @@ known-call Q m t (Both a b) words e x i = known-pair t a b x _ e i
 known-call Q m t (Only a b) words e x i = known-pair t a b x _ e i
 known-call Q m t (With a p) words e x i = known-part t a x _ e i
 known-call Q m t (Without a p) words e x i = known-part t a x _ e i
+known-call Q m t (Join a b) words e x i = known-pair t a b x _ e i
 
 own-tests : (Q : Problem) (t : List ℕ) (c : Entry) → refusalOf Q t c ≡ 0 → firstOf (callTests Q (c .m) t (c .call) (c .words)) ≡ 0
 unfolding callRefusal

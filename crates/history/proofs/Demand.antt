@@ -15,6 +15,7 @@ use Rattle.zdd.proofs.Grow.{family-zero, family-one}
 use Rattle.zdd.proofs.Canon.{canonical}
 use Rattle.zdd.proofs.Words.{length-nodes}
 use Rattle.zdd.proofs.Tested.{sound-of}
+use Rattle.zdd.proofs.Join.{unites-same}
 use Rattle.zdd.proofs.Listing.{filter-same, filter-none, elem-filter}
 use Rattle.exact_cover.specs.Problem.{Problem}
 use Rattle.exact_cover.specs.Cover.{keysOf}
@@ -26,7 +27,7 @@ use Rattle.query.specs.Questions.{familyAt, nth}
 use Rattle.statement.specs.Refusals.{firstOf, Fit, unsound, unknownAnswer, shortWork, uncountable, pastEnd, shortPage, pickRefusal}
 use Rattle.statement.specs.Postconditions.{Answered, PickPost, MeasurePost, written}
 use Rattle.statement.specs.declared.Call.{Call}
-use Rattle.statement.specs.declared.Call.the-variants.{Cover, Either, Both, Only, With, Without}
+use Rattle.statement.specs.declared.Call.the-variants.{Cover, Either, Both, Only, With, Without, Join}
 use Rattle.statement.specs.Calls.{operands, familyOf, stepsOf}
 use Rattle.history.specs.Histories.{Entry, Step, Calls, give, given, Allowed, History, start, next, Chosen, listing, SameSet}
 use Rattle.history.specs.Histories.{noTimetable, emptyTimetable, makes, Posting, latest, post, ledger, countIn, answeredWith, Returns, Refuses, Demand3}
@@ -61,14 +62,16 @@ listing-empty : (Q : Problem) → listing Q emptyTimetable ≡ [] ∷ []
 unfolding sets
 listing-empty Q = one-empty (order (keysOf Q))
 
--- what a call makes depends on the sets of its operands only
-makes-same : (Q : Problem) (F G : ℕ → Chosen) (s : List ℕ) (c : Call) → ((x : ℕ) → x ∈ operands c → F x s ≡ G x s) → makes Q F c s ≡ makes Q G c s
-makes-same Q F G s (Cover d limit) h = refl
-makes-same Q F G s (Either a b) h = rw (h a (List·Memᴰ·head refl), h b (List·Memᴰ·tail (List·Memᴰ·head refl)))
-makes-same Q F G s (Both a b) h = rw (h a (List·Memᴰ·head refl), h b (List·Memᴰ·tail (List·Memᴰ·head refl)))
-makes-same Q F G s (Only a b) h = rw (h a (List·Memᴰ·head refl), h b (List·Memᴰ·tail (List·Memᴰ·head refl)))
-makes-same Q F G s (With a p) h = rw (h a (List·Memᴰ·head refl))
-makes-same Q F G s (Without a p) h = rw (h a (List·Memᴰ·head refl))
+-- what a call makes depends on the sets of its operands only: a join's on all their timetables, the others' on s alone
+makes-same : (Q : Problem) (F G : ℕ → Chosen) (s : List ℕ) (c : Call) → elem s (sets (keysOf Q)) ≡ true
+    → ((x : ℕ) → x ∈ operands c → SameSet Q (F x) (G x)) → makes Q F c s ≡ makes Q G c s
+makes-same Q F G s (Cover d limit) e h = refl
+makes-same Q F G s (Either a b) e h = rw (h a (List·Memᴰ·head refl) s e, h b (List·Memᴰ·tail (List·Memᴰ·head refl)) s e)
+makes-same Q F G s (Both a b) e h = rw (h a (List·Memᴰ·head refl) s e, h b (List·Memᴰ·tail (List·Memᴰ·head refl)) s e)
+makes-same Q F G s (Only a b) e h = rw (h a (List·Memᴰ·head refl) s e, h b (List·Memᴰ·tail (List·Memᴰ·head refl)) s e)
+makes-same Q F G s (With a p) e h = rw (h a (List·Memᴰ·head refl) s e)
+makes-same Q F G s (Without a p) e h = rw (h a (List·Memᴰ·head refl) s e)
+makes-same Q F G s (Join a b) e h = unites-same (keysOf Q) (F a) (F b) (G a) (G b) (h a (List·Memᴰ·head refl)) (h b (List·Memᴰ·tail (List·Memᴰ·head refl))) s
 
 -- ---- the ledger: each number given has a posting
 
@@ -157,8 +160,8 @@ agree-answer Q h t c r t′ a G o e M = ((λ p m. go p (List·Memᴰ·cases-cons
         rw (f .3) (rw (f .2) at (g .1))
 
     same : familyOf Q t (c .call) ≡ listing Q (makes Q (latest (ledger Q h)) (c .call))
-    same = made-family Q t (c .call) ∙ filter-same (made Q t (c .call)) (makes Q (latest (ledger Q h)) (c .call)) (sets (keysOf Q)) (λ s m. makes-same Q _ _ s (c .call) (λ x i.
-        ap (elem s) (latest-holds x i) ∙ listing-elem Q (latest (ledger Q h) x) s m))
+    same = made-family Q t (c .call) ∙ filter-same (made Q t (c .call)) (makes Q (latest (ledger Q h)) (c .call)) (sets (keysOf Q)) (λ s m. makes-same Q _ _ s (c .call) m (λ x i u n.
+        ap (elem u) (latest-holds x i) ∙ listing-elem Q (latest (ledger Q h) x) u n))
 
     go : (p : Posting) → (p ≡ record { number = a; set = makes Q (latest (ledger Q h)) (c .call) }) ⊎ (p ∈ ledger Q h) → Posted Q t′ p
     go p (inl q) =

@@ -7,15 +7,15 @@ use Prim.Native.Nat.{ℕ, zero, suc, _/_, _≤_, _<_}
 use native.Mathlib.Omega.{arith}
 use lib.Dec.{eqb, leb, ltb}
 use lib.ListN.{length}
-use borrow.Author.Tests.{ltb-true, leb-true, eqb-true, le-leb, lt-leb, eq-eqb, ne-eqb}
-use Rattle.base.proofs.Bools.{and-left, and-right, or-left, or-cases}
+use borrow.Author.Tests.{ltb-true, leb-true, eqb-true, eq-eqb, ne-eqb}
+use Rattle.base.proofs.Bools.{and-left, and-right, or-left, or-right, or-cases}
 use Rattle.itemset.specs.declared.Items.{Items}
 use Rattle.zdd.specs.Table.{_∈_}
 use Rattle.statement.specs.declared.Report.{Report}
 use Rattle.history.specs.declared.Request.{Request}
 use Rattle.exact_cover.specs.Problem.{Problem}
 use Rattle.statement.specs.declared.Call.{Call}
-use Rattle.statement.specs.declared.Call.the-variants.{Without}
+use Rattle.statement.specs.declared.Call.the-variants.{Join}
 use Rattle.statement.specs.Calls.{operands}
 use Rattle.history.specs.Histories.{entry, Step}
 use Rattle.history.specs.Script.{callOf, requestEntry, requestAt, callAt, narrow, possible, every, runs}
@@ -33,13 +33,15 @@ or-skip b e = sym (ap (λ (x : Bool). x || b) e)
 
 -- ---- the call of seven words
 
-pub call-last : (kind : ℕ) (x : Items) (y : ℕ) → (kind ≡ 0 → ⊥) → (kind ≡ 1 → ⊥) → (kind ≡ 2 → ⊥) → (kind ≡ 3 → ⊥) → (kind ≡ 4 → ⊥) → callOf kind x y ≡ Without (x .w0) y
-call-last zero x y n0 n1 n2 n3 n4 = absurd (n0 refl)
-call-last (suc zero) x y n0 n1 n2 n3 n4 = absurd (n1 refl)
-call-last (suc (suc zero)) x y n0 n1 n2 n3 n4 = absurd (n2 refl)
-call-last (suc (suc (suc zero))) x y n0 n1 n2 n3 n4 = absurd (n3 refl)
-call-last (suc (suc (suc (suc zero)))) x y n0 n1 n2 n3 n4 = absurd (n4 refl)
-call-last (suc (suc (suc (suc (suc k))))) x y n0 n1 n2 n3 n4 = refl
+pub call-last : (kind : ℕ) (x : Items) (y : ℕ) → (kind ≡ 0 → ⊥) → (kind ≡ 1 → ⊥) → (kind ≡ 2 → ⊥) → (kind ≡ 3 → ⊥) → (kind ≡ 4 → ⊥) → (kind ≡ 5 → ⊥)
+    → callOf kind x y ≡ Join (x .w0) y
+call-last zero x y n0 n1 n2 n3 n4 n5 = absurd (n0 refl)
+call-last (suc zero) x y n0 n1 n2 n3 n4 n5 = absurd (n1 refl)
+call-last (suc (suc zero)) x y n0 n1 n2 n3 n4 n5 = absurd (n2 refl)
+call-last (suc (suc (suc zero))) x y n0 n1 n2 n3 n4 n5 = absurd (n3 refl)
+call-last (suc (suc (suc (suc zero)))) x y n0 n1 n2 n3 n4 n5 = absurd (n4 refl)
+call-last (suc (suc (suc (suc (suc zero))))) x y n0 n1 n2 n3 n4 n5 = absurd (n5 refl)
+call-last (suc (suc (suc (suc (suc (suc k)))))) x y n0 n1 n2 n3 n4 n5 = refl
 
 -- what a request that possible has
 pub record Fitting (room : ℕ) (q : Request) : Type 0 where
@@ -77,19 +79,25 @@ and-true : (b : Bool) → (b && true) ≡ b
 and-true true = refl
 and-true false = refl
 
+-- the second argument of the kind is a package: with, without
+abbrev onPackage : ℕ → Bool
+onPackage kind = eqb kind 4 || eqb kind 5
+
 -- the operands' test, by the kind
 pub every-operand : (P : ℕ → Bool) (kind : ℕ) (x : Items) (y : ℕ)
-    → every P (operands (callOf kind x y)) ≡ cond (eqb kind 0) true (P (x .w0) && (leb 4 kind || P y))
+    → every P (operands (callOf kind x y)) ≡ cond (eqb kind 0) true (P (x .w0) && (onPackage kind || P y))
 unfolding every
 every-operand P zero x y = refl
 every-operand P (suc zero) x y = ap (λ (b : Bool). P (x .w0) && b) (and-true (P y))
 every-operand P (suc (suc zero)) x y = ap (λ (b : Bool). P (x .w0) && b) (and-true (P y))
 every-operand P (suc (suc (suc zero))) x y = ap (λ (b : Bool). P (x .w0) && b) (and-true (P y))
 every-operand P (suc (suc (suc (suc zero)))) x y = refl
-every-operand P (suc (suc (suc (suc (suc k))))) x y =
-    sym (ap₂ (λ (a b : Bool). cond a true (P (x .w0) && (b || P y)))
-    (ne-eqb (suc (suc (suc (suc (suc k))))) 0 (λ z. omega arith))
-    (le-leb 4 (suc (suc (suc (suc (suc k))))) (omega arith)))
+every-operand P (suc (suc (suc (suc (suc zero))))) x y = refl
+every-operand P (suc (suc (suc (suc (suc (suc k)))))) x y =
+    let kind : ℕ = suc (suc (suc (suc (suc (suc k))))) in
+    ap (λ (b : Bool). P (x .w0) && b) (and-true (P y))
+    ∙ sym (ap₂ (λ (a b : Bool). cond a true (P (x .w0) && (b || P y)))
+    (ne-eqb kind 0 (λ z. omega arith)) (ap₂ _||_ (ne-eqb kind 4 (λ z. omega arith)) (ne-eqb kind 5 (λ z. omega arith))))
 
 pub every-same : (P R : ℕ → Bool) (l : List ℕ) → ((x : ℕ) → P x ≡ R x) → every P l ≡ every R l
 unfolding every
@@ -108,24 +116,30 @@ every-at P (y ∷ l) e x i = go (List·Memᴰ·cases-cons i) (every-at P l (and-
 -- the same by the branches of the code
 
 module _ (P : ℕ → Bool) (q : Request) where
-  by-kind : every P (operands (requestEntry q .call)) ≡ cond (eqb (q .kind) 0) true (P (q .x .w0) && (leb 4 (q .kind) || P (q .y)))
+  by-kind : every P (operands (requestEntry q .call)) ≡ cond (eqb (q .kind) 0) true (P (q .x .w0) && (onPackage (q .kind) || P (q .y)))
   by-kind = every-operand P (q .kind) (q .x) (q .y)
 
   pub no-operand : q .kind ≡ 0 → true ≡ every P (operands (requestEntry q .call))
-  no-operand e = sym (by-kind ∙ ap (λ (b : Bool). cond b true (P (q .x .w0) && (leb 4 (q .kind) || P (q .y)))) (eq-eqb (q .kind) 0 e))
+  no-operand e = sym (by-kind ∙ ap (λ (b : Bool). cond b true (P (q .x .w0) && (onPackage (q .kind) || P (q .y)))) (eq-eqb (q .kind) 0 e))
 
   module _ (some : q .kind ≡ 0 → ⊥) where
-    by-first : every P (operands (requestEntry q .call)) ≡ (P (q .x .w0) && (leb 4 (q .kind) || P (q .y)))
-    by-first = by-kind ∙ ap (λ (b : Bool). cond b true (P (q .x .w0) && (leb 4 (q .kind) || P (q .y)))) (ne-eqb (q .kind) 0 some)
+    by-first : every P (operands (requestEntry q .call)) ≡ (P (q .x .w0) && (onPackage (q .kind) || P (q .y)))
+    by-first = by-kind ∙ ap (λ (b : Bool). cond b true (P (q .x .w0) && (onPackage (q .kind) || P (q .y)))) (ne-eqb (q .kind) 0 some)
 
     pub first-fails : P (q .x .w0) ≡ false → false ≡ every P (operands (requestEntry q .call))
     first-fails f = stop _ f ∙ sym by-first
 
-    pub first-only : P (q .x .w0) ≡ true → 4 ≤ q .kind → true ≡ every P (operands (requestEntry q .call))
-    first-only f h = goes _ f (sym (or-left (leb 4 (q .kind)) (P (q .y)) (le-leb 4 (q .kind) h))) ∙ sym by-first
+    first-only : P (q .x .w0) ≡ true → onPackage (q .kind) ≡ true → true ≡ every P (operands (requestEntry q .call))
+    first-only f h = goes _ f (sym (or-left (onPackage (q .kind)) (P (q .y)) h)) ∙ sym by-first
 
-    pub then-second : P (q .x .w0) ≡ true → q .kind < 4 → P (q .y) ≡ every P (operands (requestEntry q .call))
-    then-second f h = goes _ f (or-skip (P (q .y)) (lt-leb 4 (q .kind) h)) ∙ sym by-first
+    pub with-package : P (q .x .w0) ≡ true → q .kind ≡ 4 → true ≡ every P (operands (requestEntry q .call))
+    with-package f h = first-only f (or-left (eqb (q .kind) 4) (eqb (q .kind) 5) (eq-eqb (q .kind) 4 h))
+
+    pub without-package : P (q .x .w0) ≡ true → q .kind ≡ 5 → true ≡ every P (operands (requestEntry q .call))
+    without-package f h = first-only f (or-right (eqb (q .kind) 4) (eqb (q .kind) 5) (eq-eqb (q .kind) 5 h))
+
+    pub then-second : P (q .x .w0) ≡ true → (q .kind ≡ 4 → ⊥) → (q .kind ≡ 5 → ⊥) → P (q .y) ≡ every P (operands (requestEntry q .call))
+    then-second f h k = goes _ f (or-skip (P (q .y)) (ap₂ _||_ (ne-eqb (q .kind) 4 h) (ne-eqb (q .kind) 5 k))) ∙ sym by-first
 
 -- ---- the test of the next call
 

@@ -9,11 +9,12 @@ use lib.Dec.{eqb}
 use lib.ListN.{length, drop, replicate}
 use Rattle.itemset.specs.Words.{value}
 use Rattle.zdd.specs.Table.{Family, count, nodesOf, sets, elem, filter, has, _∈_}
+use Rattle.zdd.specs.Operations.{unites}
 use Rattle.zdd.specs.Below.{Below}
 use Rattle.exact_cover.specs.Problem.{Problem}
 use Rattle.exact_cover.specs.Cover.{keysOf, covers}
 use Rattle.statement.specs.declared.Call.{Call}
-use Rattle.statement.specs.declared.Call.the-variants.{Cover, Either, Both, Only, With, Without}
+use Rattle.statement.specs.declared.Call.the-variants.{Cover, Either, Both, Only, With, Without, Join}
 use Rattle.statement.specs.declared.Report.{Report}
 use Rattle.statement.specs.declared.Picked.{Picked}
 use Rattle.statement.specs.declared.Measured.{Measured}
@@ -85,7 +86,8 @@ abbrev pub emptyTimetable : Chosen
 emptyTimetable [] = true
 emptyTimetable (p ∷ s) = false
 
--- the set that a call's line makes, from D by the definition of covering, or from p and the sets `of x` of its operands
+-- the set that a call's line makes, from D by the definition of covering, or from p and the sets `of x` of its operands; a join's by its words: of all
+-- timetables, one of a and one of b have the union s
 abbrev pub makes : Problem → (ℕ → Chosen) → Call → Chosen
 makes Q of (Cover d limit) s = covers Q (value d) s
 makes Q of (Either a b) s = of a s || of b s
@@ -93,6 +95,7 @@ makes Q of (Both a b) s = of a s && of b s
 makes Q of (Only a b) s = of a s && not (of b s)
 makes Q of (With a p) s = of a s && has p s
 makes Q of (Without a p) s = of a s && not (has p s)
+makes Q of (Join a b) s = unites (keysOf Q) (of a) (of b) s
 
 -- a number with a set of timetables
 pub record Posting : Type 0 where

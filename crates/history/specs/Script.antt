@@ -10,7 +10,7 @@ use Rattle.itemset.specs.declared.Items.{Items}
 use Rattle.zdd.specs.Table.{count, has}
 use Rattle.exact_cover.specs.Problem.{Problem}
 use Rattle.statement.specs.declared.Call.{Call}
-use Rattle.statement.specs.declared.Call.the-variants.{Cover, Either, Both, Only, With, Without}
+use Rattle.statement.specs.declared.Call.the-variants.{Cover, Either, Both, Only, With, Without, Join}
 use Rattle.statement.specs.Calls.{operands}
 use Rattle.statement.specs.declared.Report.{Report}
 use Rattle.statement.specs.declared.Outcome.{Outcome}
@@ -21,7 +21,8 @@ use Rattle.history.specs.Histories.{Entry, entry, Calls, given, History,
 -- ---- a script: seven words a call
 
 -- its kind, M, two arguments, the first of three words, and the number of working words. Kind 0 is cover of D = x with the step limit y
--- [document 01: B]; 1, 2 and 3 are either, both and only of the answers x and y; 4 is with, and 5 and above without, of the answer x and the package y.
+-- [document 01: B]; 1, 2 and 3 are either, both and only of the answers x and y; 4 is with, and 5 without, of the answer x and the package y; 6 and above
+-- is join of the answers x and y.
 -- An answer x is the lowest of its three words, and the others mean nothing
 abbrev pub callOf : (kind : ℕ) (x : Items) (y : ℕ) → Call
 callOf zero x y = Cover x y
@@ -29,7 +30,8 @@ callOf (suc zero) x y = Either (x .w0) y
 callOf (suc (suc zero)) x y = Both (x .w0) y
 callOf (suc (suc (suc zero))) x y = Only (x .w0) y
 callOf (suc (suc (suc (suc zero)))) x y = With (x .w0) y
-callOf (suc (suc (suc (suc (suc k))))) x y = Without (x .w0) y
+callOf (suc (suc (suc (suc (suc zero))))) x y = Without (x .w0) y
+callOf (suc (suc (suc (suc (suc (suc k)))))) x y = Join (x .w0) y
 
 -- the call that a request of the code asks
 abbrev pub requestEntry : Request → Entry

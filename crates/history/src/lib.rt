@@ -108,7 +108,10 @@ fn operands_pass(q: Request, given: &[u8; 65536], n: u32) -> bool
     if !passes(given, n, q.x.w0) {
         return false;
     }
-    if q.kind >= 4 {
+    if q.kind == 4 {
+        return true;
+    }
+    if q.kind == 5 {
         return true;
     }
     passes(given, n, q.y)
@@ -160,7 +163,10 @@ fn call_of(kind: u64, x: Items, y: u32) -> Call
     if kind == 4 {
         return Call::With { a: a, p: y };
     }
-    Call::Without { a: a, p: y }
+    if kind == 5 {
+        return Call::Without { a: a, p: y };
+    }
+    Call::Join { a: a, b: y }
 }
 
 // Call i of the script, on as many working words as it asks.

@@ -23,8 +23,13 @@ returns-5 : tie.Need-returns-5
 returns-5 c = rw (c .if5 .taken)
 
 returns-6 : tie.Need-returns-6
-returns-6 c = sym (call-last _ _ _ (c .before .before .before .before .before .if1 .left) (c .before .before .before .if2 .left) (c .before .before .if3 .left) (c .before .if4 .left) (c .if5 .left))
+returns-6 c = rw (c .if6 .taken)
+
+returns-7 : tie.Need-returns-7
+returns-7 c =
+    let here = c .before .before .before in
+    sym (call-last _ _ _ (here .before .before .before .if1 .left) (here .before .if2 .left) (here .if3 .left) (c .before .before .if4 .left) (c .before .if5 .left) (c .if6 .left))
 
 pub call-of-spec : {M : Type 1} → statement M
 call-of-spec =
-    tie.close (tie.spec returns cast-a returns-2 returns-3 returns-4 returns-5 returns-6)
+    tie.close (tie.spec returns cast-a returns-2 returns-3 returns-4 returns-5 returns-6 returns-7)
