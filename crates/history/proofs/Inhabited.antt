@@ -3,7 +3,7 @@
 use mathlib.Core.Path.{_≡_, refl, ap, _∙_}
 use mathlib.Core.Logic.{_⊎_, inl, inr}
 use mathlib.Core.Bool.{true}
-use mathlib.Core.List.{List, [], _∷_, List·Memᴰ·head, List·Memᴰ·tail, List·Memᴰ·cases-cons, List·Memᴰ·not-nil}
+use mathlib.Core.List.{List, [], _∷_, List·Memᴰ·head, List·Memᴰ·tail, List·Memᴰ·cases-cons, List·Memᴰ·not-nil, List·Memᴰ·eq-of-singleton}
 use Prim.Native.Nat.{ℕ, zero, suc, _<_}
 use native.Mathlib.Nat.{not-suc-le-zero}
 use native.Mathlib.Omega.{arith}
@@ -11,10 +11,10 @@ use lib.ListN.{length, getD, take}
 use Rattle.base.specs.Lists.{any}
 use Rattle.itemset.specs.Words.{width, valueOf}
 use Rattle.itemset.specs.declared.Items.{Items}
-use Rattle.itemset.specs.Items.{holds, insideb, without, belowb, size}
+use Rattle.itemset.specs.Items.{holds, insideb, without, apartb, belowb, size}
 use Rattle.zdd.specs.Table.{nodesOf, capacity, families, family, order, allSets, sets, filter, soundb, eqSet, elem, has, _∈_}
-use Rattle.zdd.specs.Operations.{combine, including, excluding}
-use Rattle.zdd.specs.Below.{Below, newBelow}
+use Rattle.zdd.specs.Operations.{combine, including, excluding, within, isUnion, unites, join}
+use Rattle.zdd.specs.Below.{Below, newBelow, labelsBelow}
 use Rattle.zdd.specs.Branches.{starting, others, weight, branchesTo, branches, eqFamily, amongb, fresh, missing}
 use Rattle.exact_cover.specs.Cover.{keysFrom, keysOf, holders, allInside, takes, once, covers, covering, fits, down, candidates}
 use Rattle.exact_cover.specs.Steps.{each, visit, steps}
@@ -22,19 +22,19 @@ use Rattle.statement.specs.declared.Report.{Report}
 use Rattle.statement.specs.declared.Outcome.the-variants.{Answer, Refused}
 use Rattle.statement.specs.declared.Picked.the-variants.{Packages}
 use Rattle.statement.specs.declared.Measured.the-variants.{Packages as MeasuredPackages}
-use Rattle.statement.specs.Refusals.{firstOf, oversize, stray, strayOptional, nothingCompulsory, disordered, unsound, unknownAnswer, unknownItem, shortWork}
+use Rattle.statement.specs.Refusals.{firstOf, oversize, stray, strayOptional, nothingCompulsory, disordered, unsound, unknownAnswer, overlap, unknownItem, shortWork}
 use Rattle.statement.specs.Refusals.{spent, full, uncountable, pastEnd, shortPage, pickRefusal, measureRefusal}
 use Rattle.statement.specs.Calls.{callRefusal, coverRefusal}
-use Rattle.statement.specs.declared.Call.the-variants.{Cover, Only, With, Without}
+use Rattle.statement.specs.declared.Call.the-variants.{Cover, Only, With, Without, Join}
 use Rattle.exact_cover.specs.Problem.{countFrom, earliest, times, eachOnce, lead, done}
 use Rattle.query.specs.Questions.{unknownPackage}
-use Rattle.statement.specs.Postconditions.{CoverPost, WithPost, WithoutPost, OnlyPost, PickPost, MeasurePost}
+use Rattle.statement.specs.Postconditions.{CoverPost, WithPost, WithoutPost, OnlyPost, JoinPost, PickPost, MeasurePost}
 use Rattle.history.specs.Histories.{entry, Calls, given, History, start, next, SameSet, Posting, noTimetable, ledger, Returns, Demanded, Needed}
 use Rattle.statement.specs.Replies.{gives, measureReply}
 use Rattle.history.proofs.Contract.{gives-one}
 use Rattle.history.proofs.Demand.{demand3}
 use Rattle.history.proofs.Spare.{no-spare-node}
-use Rattle.statement.specs.Examples.{figure1, figure1In, reversed, publicSlot, emptyTable}
+use Rattle.statement.specs.Examples.{figure1, figure1In, reversed, publicSlot, fourSlots, halvesTable, emptyTable}
 
 -- 2 is {2}; 3 is {4, 2}; 4 is {1, 4, 2}; 5 is {0, 2} and {1, 4, 2}
 abbrev covered : List ℕ
@@ -351,3 +351,103 @@ second-of-reversed =
     reversed-demanded .picks (getD (ledger (figure1In reversed) reversed-calls) 0 (record { number = 0; set = noTimetable }))
     (in-list (ledger (figure1In reversed) reversed-calls) 0 (record { number = 0; set = noTimetable }) (omega arith)) (omega arith) 6 (List·Memᴰ·head refl) 6 (omega arith) 1
     (7 ∷ 7 ∷ 7 ∷ []) (Packages 3) (2 ∷ 4 ∷ 1 ∷ []) reversed-picked .0 (omega arith) (omega arith)
+
+-- ---- a history with joins [document 02, No. 5]
+
+-- 2 is {2}; 3 is {0, 2}
+abbrev halfTable : List ℕ
+halfTable = 2 ∷ 2 ∷ 0 ∷ 1 ∷ 0 ∷ 0 ∷ 2 ∷ 0 ∷ 0 ∷ 0 ∷ 0 ∷ 0 ∷ 0 ∷ 0 ∷ 0 ∷ 0 ∷ 0 ∷ 0 ∷ 0 ∷ 0 ∷ 0 ∷ 0 ∷ []
+
+-- 4 is {3}; 5 is {1, 3}: `halvesTable 3`. And 6 is {2, 3}; 7 is {1, 2, 3}; 8 is {0, 1, 2, 3}
+abbrev joinedTable : List ℕ
+joinedTable = 7 ∷ 2 ∷ 0 ∷ 1 ∷ 0 ∷ 0 ∷ 2 ∷ 3 ∷ 0 ∷ 1 ∷ 1 ∷ 0 ∷ 4 ∷ 2 ∷ 0 ∷ 4 ∷ 1 ∷ 0 ∷ 6 ∷ 0 ∷ 0 ∷ 7 ∷ []
+
+half-cover : CoverPost fourSlots 4 (emptyTable 7) 5 3 256 (report 3 3 2) halfTable
+unfolding holds insideb without belowb size countFrom earliest times eachOnce lead done nodesOf capacity families family order allSets sets filter soundb eqSet elem starting
+    others weight branchesTo branches eqFamily amongb fresh missing newBelow keysFrom keysOf holders allInside takes once covers covering fits down candidates each
+    visit steps firstOf oversize any stray strayOptional nothingCompulsory disordered unsound unknownItem shortWork spent full callRefusal width valueOf
+half-cover = record {
+  declined = λ l. absurd (not-suc-le-zero l);
+  answered = λ e. record { number = 3; outcome = refl; known = omega arith; holds = refl; steps = refl; long = refl; sound = refl; old = refl; grown = refl; made = refl };
+}
+
+other-cover : CoverPost fourSlots 4 halfTable 10 3 256 (report 5 3 2) (halvesTable 3)
+unfolding holds insideb without belowb size countFrom earliest times eachOnce lead done nodesOf capacity families family order allSets sets filter soundb eqSet elem starting
+    others weight branchesTo branches eqFamily amongb fresh missing newBelow keysFrom keysOf holders allInside takes once covers covering fits down candidates each
+    visit steps firstOf oversize any stray strayOptional nothingCompulsory disordered unsound unknownItem shortWork spent full callRefusal width valueOf
+other-cover = record {
+  declined = λ l. absurd (not-suc-le-zero l);
+  answered = λ e. record { number = 5; outcome = refl; known = omega arith; holds = refl; steps = refl; long = refl; sound = refl; old = refl; grown = refl; made = refl };
+}
+
+halves-join : JoinPost fourSlots 4 (halvesTable 3) 3 5 6 (report 8 0 3) joinedTable
+unfolding holds insideb without apartb belowb size countFrom earliest times eachOnce lead done nodesOf capacity families family order allSets sets filter soundb eqSet elem has
+    within isUnion unites join starting others weight branchesTo branches eqFamily amongb fresh missing newBelow labelsBelow keysFrom keysOf firstOf oversize any stray
+    strayOptional nothingCompulsory disordered unsound unknownAnswer overlap shortWork full callRefusal width valueOf
+halves-join = record {
+  declined = λ l. absurd (not-suc-le-zero l);
+  answered = λ e. record { number = 8; outcome = refl; known = omega arith; holds = refl; steps = refl; long = refl; sound = refl; old = refl; grown = refl; made = refl };
+}
+
+-- a part of it with the whole, and no working words
+overlapping : JoinPost fourSlots 4 joinedTable 3 8 0 (record { outcome = Refused 35; steps = 0; made = 0 }) joinedTable
+unfolding holds insideb without apartb belowb size countFrom earliest times eachOnce lead done nodesOf capacity families family order allSets sets filter soundb eqSet elem has
+    newBelow labelsBelow keysFrom keysOf firstOf oversize any stray strayOptional nothingCompulsory disordered unsound unknownAnswer overlap shortWork callRefusal width valueOf
+overlapping = record {
+  declined = λ l. record { outcome = refl; steps = refl; made = refl; table = refl };
+  answered = λ (e : callRefusal fourSlots 4 joinedTable (Join 3 8) 0 ≡ 0). absurd (omega arith);
+}
+
+-- the cover of all four items finds it
+whole-cover : CoverPost fourSlots 4 joinedTable 15 5 256 (report 8 5 0) joinedTable
+unfolding holds insideb without belowb size countFrom earliest times eachOnce lead done nodesOf capacity families family order allSets sets filter soundb eqSet elem starting
+    others weight branchesTo branches eqFamily amongb fresh missing newBelow keysFrom keysOf holders allInside takes once covers covering fits down candidates each
+    visit steps firstOf oversize any stray strayOptional nothingCompulsory disordered unsound unknownItem shortWork spent full callRefusal width valueOf
+whole-cover = record {
+  declined = λ l. absurd (not-suc-le-zero l);
+  answered = λ e. record { number = 8; outcome = refl; known = omega arith; holds = refl; steps = refl; long = refl; sound = refl; old = refl; grown = refl; made = refl };
+}
+
+-- the items of a set below 2 ^ 64
+abbrev low : ℕ → Items
+low x = record { w0 = x; w1 = 0; w2 = 0 }
+
+abbrev joined-calls : Calls
+joined-calls =
+    (entry 4 (Cover (low 15) 5) 256, report 8 5 0)
+    ∷ (entry 4 (Join 3 8) 0, record { outcome = Refused 35; steps = 0; made = 0 })
+    ∷ (entry 4 (Join 3 5) 6, report 8 0 3)
+    ∷ (entry 4 (Cover (low 10) 3) 256, report 5 3 2)
+    ∷ (entry 4 (Cover (low 5) 3) 256, report 3 3 2)
+    ∷ []
+
+joined-history : History fourSlots joined-calls joinedTable
+unfolding callRefusal valueOf
+joined-history =
+    next (next (next (next (next (start 22)
+    (entry 4 (Cover (low 5) 3) 256) (report 3 3 2) halfTable (λ x m. absurd (List·Memᴰ·not-nil m)) half-cover)
+    (entry 4 (Cover (low 10) 3) 256) (report 5 3 2) (halvesTable 3) (λ x m. absurd (List·Memᴰ·not-nil m)) other-cover)
+    (entry 4 (Join 3 5) 6) (report 8 0 3) joinedTable (λ x m. halves x (List·Memᴰ·cases-cons m)) halves-join)
+    (entry 4 (Join 3 8) 0) (record { outcome = Refused 35; steps = 0; made = 0 }) joinedTable tt overlapping)
+    (entry 4 (Cover (low 15) 5) 256) (report 8 5 0) joinedTable (λ x m. absurd (List·Memᴰ·not-nil m)) whole-cover
+  where
+    halves : (x : ℕ) → (x ≡ 3) ⊎ (x ∈ 5 ∷ []) → x ∈ 5 ∷ 3 ∷ 0 ∷ 1 ∷ []
+    halves x (inl e) = List·Memᴰ·tail (List·Memᴰ·head e)
+    halves x (inr m) = List·Memᴰ·head (List·Memᴰ·eq-of-singleton m)
+
+joined-demanded : Demanded fourSlots joined-calls joinedTable
+joined-demanded = demand3 fourSlots joined-calls joinedTable joined-history
+
+-- each of its nodes is below an answer given
+joined-needed : Needed joined-calls joinedTable
+joined-needed = no-spare-node fourSlots joined-calls joinedTable joined-history
+
+abbrev joined-posting : ℕ → Posting
+joined-posting k = getD (ledger fourSlots joined-calls) k (record { number = 0; set = noTimetable })
+
+joined-posted : (k : ℕ) → k < 6 → joined-posting k ∈ ledger fourSlots joined-calls
+joined-posted k h = in-list (ledger fourSlots joined-calls) k (record { number = 0; set = noTimetable }) h
+
+-- the join and the cover of all items have one number: every cover of the four items is a union of one of {0, 2} and one of {1, 3}, and every such union covers them
+whole-week : SameSet fourSlots (joined-posting 0 .set) (joined-posting 1 .set)
+whole-week = joined-demanded .numbers (joined-posting 0) (joined-posting 1) (joined-posted 0 (omega arith)) (joined-posted 1 (omega arith)) .0 refl

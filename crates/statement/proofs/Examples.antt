@@ -1,4 +1,4 @@
--- THEOREM: document 01's examples P1 to P8, Figure 1 on items of three words, weeks with optional items, and Figure 1 in other orders, by computation from the
+-- THEOREM: document 01's examples P1 to P8, Figure 1 on items of three words, weeks with optional items, Figure 1 in other orders, and joins, by computation from the
 -- definitions. P1 to P8 are computed from document 01's own definitions, and hold by the laws for the empty optional set and the plain order
 -- (`NoneOptional`, here and in `exact_cover`). Assumes nothing.
 use mathlib.Core.Path.{_≡_, refl, ap}
@@ -6,9 +6,11 @@ use mathlib.Core.List.{[], _∷_}
 use Prim.Native.Nat.{ℕ}
 use native.Mathlib.Omega.{arith}
 use Rattle.base.specs.Lists.{any}
-use Rattle.itemset.specs.Items.{holds, insideb, without, belowb, size, lowest}
+use Rattle.itemset.specs.Items.{holds, insideb, without, apartb, belowb, size, lowest}
 use Rattle.itemset.specs.Words.{width}
-use Rattle.zdd.specs.Table.{nodesOf, capacity, families, family, order, allSets, sets, filter, soundb, eqSet, elem}
+use Rattle.zdd.specs.Table.{nodesOf, capacity, families, family, order, allSets, sets, filter, soundb, eqSet, elem, has}
+use Rattle.zdd.specs.Operations.{within, isUnion, unites, join}
+use Rattle.zdd.specs.Below.{newBelow, labelsBelow}
 use Rattle.zdd.specs.Branches.{starting, others, weight, branchesTo, branches, eqFamily, amongb, fresh, missing}
 use Rattle.exact_cover.specs.Problem.{Problem, earliest, times, eachOnce, countFrom, lead, done, Rows}
 use Rattle.exact_cover.specs.Cover.{keysFrom, keysOf, holders, allInside, takes, once, covers, covering, fits, down, candidates}
@@ -17,8 +19,9 @@ use Rattle.exact_cover.proofs.NoneOptional.{noneOptional, keysFrom01, keys01, o
 use Rattle.exact_cover.proofs.NoneOptional.{covering-as-before, steps-as-before}
 use Rattle.query.specs.Questions.{unknownPackage, anyUnknown, ascending}
 use Rattle.statement.specs.Refusals.{firstOf, packageTests, oversize, stray, strayOptional, nothingCompulsory, disordered, unsound, unknownItem}
-use Rattle.statement.specs.Refusals.{unpriced, unknownAnswer, notTimetable, shortWork, spent, full, uncountable, absent, checkRefusal, placeRefusal, cheapestRefusal}
-use Rattle.statement.specs.Examples.{allItems, noPackages, figure1, emptyTable, PaperExamples, WideExamples, OptionalExamples, OrderExamples}
+use Rattle.statement.specs.Refusals.{unpriced, unknownAnswer, overlap, notTimetable, shortWork, spent, full, uncountable, absent, checkRefusal, placeRefusal, cheapestRefusal}
+use Rattle.statement.specs.Calls.{callRefusal}
+use Rattle.statement.specs.Examples.{allItems, noPackages, figure1, emptyTable, PaperExamples, WideExamples, OptionalExamples, OrderExamples, JoinExamples}
 use Rattle.statement.proofs.Admission.{fit-of, rows}
 use Rattle.statement.proofs.NoneOptional.{refusals-as-before}
 
@@ -113,4 +116,22 @@ order-examples = record {
   out-of-precedence = refl;
   plain-table = refl;
   reversed-table = refl;
+}
+
+pub join-examples : JoinExamples
+unfolding holds insideb without apartb belowb lead earliest done countFrom times eachOnce nodesOf capacity families family order allSets sets filter soundb eqSet elem has
+    any within isUnion unites join newBelow labelsBelow starting others weight branchesTo branches eqFamily amongb fresh missing keysFrom keysOf width
+    firstOf oversize stray strayOptional nothingCompulsory disordered unsound unknownAnswer overlap shortWork full callRefusal
+join-examples = record {
+  lists = refl;
+  nodes3 = refl;
+  answers = refl;
+  full = refl;
+  short = refl;
+  itself = refl;
+  below = refl;
+  unknown = refl;
+  shared = refl;
+  ends = refl;
+  ends-short = refl;
 }

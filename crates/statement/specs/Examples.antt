@@ -1,16 +1,19 @@
--- Document 01's examples P1 to P8, Figure 1 on items of three words, weeks with optional items and Figure 1 in other orders, each as one record;
+-- Document 01's examples P1 to P8, Figure 1 on items of three words, weeks with optional items, Figure 1 in other orders and joins, each as one record;
 -- `proofs/Examples.antt` proves them by computation. Assumes nothing.
 use mathlib.Core.Path.{_≡_}
 use mathlib.Core.List.{List, [], _∷_}
 use Prim.Native.Nat.{ℕ, _+_, _-_, _*_, _/_, _%_, _^_}
 use lib.ListN.{replicate}
 use Rattle.zdd.specs.Table.{nodesOf}
+use Rattle.zdd.specs.Operations.{join}
 use Rattle.zdd.specs.Branches.{missing}
 use Rattle.exact_cover.specs.Problem.{Problem, upTo}
-use Rattle.exact_cover.specs.Cover.{covering}
+use Rattle.exact_cover.specs.Cover.{keysOf, covering}
 use Rattle.exact_cover.specs.Steps.{steps}
+use Rattle.query.specs.Questions.{familyAt}
+use Rattle.statement.specs.declared.Call.the-variants.{Join}
 use Rattle.statement.specs.Refusals.{checkRefusal, placeRefusal, cheapestRefusal}
-use Rattle.statement.specs.Calls.{coverRefusal}
+use Rattle.statement.specs.Calls.{callRefusal, coverRefusal}
 
 -- all items below m
 abbrev pub allItems : ℕ → ℕ
@@ -169,3 +172,38 @@ pub record OrderExamples : Type 0 where
   -- and so does soundness
   pub plain-table : checkRefusal figure1 6 figure1Table ≡ 0
   pub reversed-table : checkRefusal (figure1In reversed) 6 figure1Table ≡ 4
+
+-- ---- join [document 02, No. 5]
+
+-- packages {0}, {1}, {2}, {3}
+abbrev pub fourSlots : Problem
+fourSlots = record { packages = 0b0001 ∷ 0b0010 ∷ 0b0100 ∷ 0b1000 ∷ []; optional = 0; order = upTo 4 }
+
+-- a table after the covers of {0, 2} and {1, 3}: 2 is {2}, 3 is {0, 2}, 4 is {3}, 5 is {1, 3}; behind it n free places
+abbrev pub halvesTable : ℕ → List ℕ
+halvesTable n = 4 ∷ 2 ∷ 0 ∷ 1 ∷ 0 ∷ 0 ∷ 2 ∷ 3 ∷ 0 ∷ 1 ∷ 1 ∷ 0 ∷ 4 ∷ replicate (3 * n) 0
+
+-- packages {0, 2}, {1, 2}; item 2 is optional
+abbrev pub sharedSlot : Problem
+sharedSlot = record { packages = 0b101 ∷ 0b110 ∷ []; optional = 0b100; order = upTo 3 }
+
+-- 2 is the first package's timetable, 3 the second's
+abbrev pub sharedTable : List ℕ
+sharedTable = 2 ∷ 0 ∷ 0 ∷ 1 ∷ 1 ∷ 0 ∷ 1 ∷ []
+
+pub record JoinExamples : Type 0 where
+  -- listing "0 1 2 3", 3 nodes made
+  pub lists : join (keysOf fourSlots) (familyAt (halvesTable 3) 3) (familyAt (halvesTable 3) 5) ≡ (0 ∷ 1 ∷ 2 ∷ 3 ∷ []) ∷ []
+  pub nodes3 : missing (nodesOf (halvesTable 3)) (join (keysOf fourSlots) (familyAt (halvesTable 3) 3) (familyAt (halvesTable 3) 5)) ≡ 3
+  pub answers : callRefusal fourSlots 4 (halvesTable 3) (Join 3 5) 6 ≡ 0
+  pub full : callRefusal fourSlots 4 (halvesTable 2) (Join 3 5) 6 ≡ 10
+  pub short : callRefusal fourSlots 4 (halvesTable 3) (Join 3 5) 5 ≡ 8
+  -- with itself: 35 with no working words; 5 comes first
+  pub itself : callRefusal fourSlots 4 (halvesTable 3) (Join 3 3) 0 ≡ 35
+  pub below : callRefusal fourSlots 4 (halvesTable 3) (Join 3 2) 0 ≡ 35
+  pub unknown : callRefusal fourSlots 4 (halvesTable 3) (Join 3 6) 0 ≡ 5
+  -- a shared item is one though it is optional
+  pub shared : callRefusal sharedSlot 3 sharedTable (Join 2 3) 0 ≡ 35
+  -- 0 and 1 have no package, and take two words
+  pub ends : callRefusal fourSlots 4 (halvesTable 3) (Join 1 1) 2 ≡ 0
+  pub ends-short : callRefusal fourSlots 4 (halvesTable 3) (Join 0 1) 1 ≡ 8
