@@ -181,16 +181,11 @@ fn remember(memo: &mut [u64], at: usize, pair: u64, r: u32)
     memo[w] = replace(memo[w], at, e);
 }
 
-// The number of f's and g's join where one of them is 0 or 1; 65537 where it is to be looked for.
+// The number of f's and g's join where one of them is 1; 65537 where it is to be looked for.
 fn ended_join(f: u32, g: u32) -> u32
+    requires { ⌜ (0 < f) × (0 < g) ⌝ }
     ensures { λ r. ⌜ Ends 3 f g r ⌝ }
 {
-    if f == 0 {
-        return 0;
-    }
-    if g == 0 {
-        return 0;
-    }
     if f == 1 {
         return g;
     }
@@ -204,9 +199,6 @@ fn ended_join(f: u32, g: u32) -> u32
 fn ended(op: u8, f: u32, g: u32) -> u32
     ensures { λ r. ⌜ Ends op f g r ⌝ }
 {
-    if op > 2 {
-        return ended_join(f, g);
-    }
     if f == 0 {
         if op == 0 {
             return g;
@@ -217,7 +209,13 @@ fn ended(op: u8, f: u32, g: u32) -> u32
         if op == 1 {
             return 0;
         }
+        if op > 2 {
+            return 0;
+        }
         return f;
+    }
+    if op > 2 {
+        return ended_join(f, g);
     }
     if f == g {
         if op < 2 {
