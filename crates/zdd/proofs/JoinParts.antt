@@ -21,6 +21,18 @@ use Rattle.zdd.proofs.Unions.{union-labels, labels-union, merge, merge-
 use Rattle.zdd.proofs.Join.{Joined, listed-join, join-set, join-means, join-of, join-comm}
 
 module _ (K : List ℕ) (k : Keys K) where
+  -- the same two sets, the first as one of another family
+  joined-by : (F F′ G : Family) {s : List ℕ} (r : Joined K F G s) → elem (r .first) F′ ≡ true → Joined K F′ G s
+  joined-by F F′ G r e = record {
+    first = r .first;
+    second = r .second;
+    first-set = r .first-set;
+    second-set = r .second-set;
+    first-in = e;
+    second-in = r .second-in;
+    union = r .union;
+  }
+
   pub from-join : (b : ℕ) (F G : Family) → Listed K F → Listed K G → From K b F → From K b G → From K b (join K F G)
   from-join b F G lf lg f g = from-of K b (join K F G) (λ q t e.
       let r = join-of K F G (q ∷ t) e in
@@ -56,15 +68,7 @@ module _ (K : List ℕ) (k : Keys K) where
         r = join-of K (fork p F1 F0) G s e
 
         by-lo : elem (r .first) F0 ≡ true → elem s parts ≡ true
-        by-lo d = fork-lo p s (join K F1 G) (join K F0 G) (join-means K F0 G s c .1 (record {
-          first = r .first;
-          second = r .second;
-          first-set = r .first-set;
-          second-set = r .second-set;
-          first-in = d;
-          second-in = r .second-in;
-          union = r .union;
-        }))
+        by-lo d = fork-lo p s (join K F1 G) (join K F0 G) (join-means K F0 G s c .1 (joined-by (fork p F1 F0) F0 G r d))
 
         by-hi : (u : List ℕ) × (r .first ≡ p ∷ u) × (elem u F1 ≡ true) → elem s parts ≡ true
         by-hi (u, q, d) =
@@ -91,15 +95,7 @@ module _ (K : List ℕ) (k : Keys K) where
         by-lo : elem s (join K F0 G) ≡ true → elem s whole ≡ true
         by-lo d =
             let r = join-of K F0 G s d in
-            join-means K (fork p F1 F0) G s c .1 (record {
-              first = r .first;
-              second = r .second;
-              first-set = r .first-set;
-              second-set = r .second-set;
-              first-in = fork-lo p (r .first) F1 F0 (r .first-in);
-              second-in = r .second-in;
-              union = r .union;
-            })
+            join-means K (fork p F1 F0) G s c .1 (joined-by F0 (fork p F1 F0) G r (fork-lo p (r .first) F1 F0 (r .first-in)))
 
         by-hi : (t : List ℕ) × (s ≡ p ∷ t) × (elem t (join K F1 G) ≡ true) → elem s whole ≡ true
         by-hi (t, q, d) =
