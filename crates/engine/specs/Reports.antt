@@ -2,12 +2,13 @@
 use mathlib.Core.Path.{_≡_}
 use mathlib.Core.Bool.{Bool, true, false, _||_}
 use mathlib.Core.List.{List, [], _∷_}
-use Prim.Native.Nat.{ℕ, zero, suc, _+_, _-_, _<_, max}
+use Prim.Native.Nat.{ℕ, zero, suc, _+_, _-_, _<_}
 use Rattle.zdd.specs.Table.{count}
 use Rattle.exact_cover.specs.Problem.{Problem}
 use Rattle.statement.specs.declared.Call.{Call}
 use Rattle.statement.specs.declared.Call.the-variants.{Either, Both, Only, With, Without, Join}
 use Rattle.statement.specs.declared.Report.{Report}
+use Rattle.statement.specs.Calls.{joinLeast}
 use Rattle.statement.specs.Refusals.{firstOf, unknownAnswer, overlap, shortWork}
 use Rattle.statement.specs.Replies.{outcomeReply, gives}
 use Rattle.statement.specs.Postconditions.{Declined}
@@ -30,7 +31,7 @@ pairCall (suc (suc (suc op))) a b = Join a b
 
 -- their tests in front of 10: those of join behind 5, and those of all four
 abbrev pub joinFront : (Q : Problem) (t : List ℕ) (a b words : ℕ) → List (Bool × ℕ)
-joinFront Q t a b words = (overlap Q t a b, 35) ∷ (shortWork (max (max a b) 1 + 1) words, 8) ∷ []
+joinFront Q t a b words = (overlap Q t a b, 35) ∷ (shortWork (joinLeast a b) words, 8) ∷ []
 
 abbrev pub ownFront : (Q : Problem) (t : List ℕ) (op a b words : ℕ) → List (Bool × ℕ)
 ownFront Q t zero a b words = (shortWork 2 words, 8) ∷ []

@@ -5,7 +5,7 @@
 use mathlib.Core.Path.{_≡_, refl, sym, ap, ap₂, _∙_}
 use mathlib.Core.Bool.{Bool, true, false, not, _||_, or-comm}
 use mathlib.Core.List.{List, [], _∷_}
-use Prim.Native.Nat.{ℕ, _+_, _-_, _*_, _≤_, _<_, max}
+use Prim.Native.Nat.{ℕ, _+_, _-_, _*_, _≤_, _<_}
 use native.Mathlib.Nat.{max-comm, pos-of-ne-zero}
 use native.Mathlib.Omega.{arith}
 use lib.ListN.{length, getD}
@@ -32,7 +32,7 @@ use Rattle.query.specs.Questions.{familyAt}
 use Rattle.statement.specs.declared.Call.the-variants.{Join}
 use Rattle.statement.specs.declared.Report.{Report}
 use Rattle.statement.specs.Refusals.{firstOf, unsound, unknownAnswer, overlap, shortWork, full, Fit}
-use Rattle.statement.specs.Calls.{callRefusal}
+use Rattle.statement.specs.Calls.{joinLeast, callRefusal}
 use Rattle.statement.specs.Postconditions.{Answered, JoinPost}
 use Rattle.statement.proofs.FirstOf.{pass, hit, passed, exchanged}
 use Rattle.statement.proofs.Admission.{fit-of, fit-exchanged, rows, table-passes}
@@ -125,13 +125,16 @@ module _ (Q : Problem) (m : ℕ) (t : List ℕ) (a b : ℕ) where
     where
       -- behind 5
       own : (x y : ℕ) → List (Bool × ℕ)
-      own x y = (overlap Q t x y, 35) ∷ (shortWork (max (max x y) 1 + 1) words, 8) ∷ (full t (join (keysOf Q) (familyAt t x) (familyAt t y)), 10) ∷ []
+      own x y = (overlap Q t x y, 35) ∷ (shortWork (joinLeast x y) words, 8) ∷ (full t (join (keysOf Q) (familyAt t x) (familyAt t y)), 10) ∷ []
+
+      same-least : joinLeast a b ≡ joinLeast b a
+      same-least = rw (max-comm a b)
 
       rest : Fit Q m → Sound (keysOf Q) t → a < count t + 2 → b < count t + 2 → firstOf (own a b) ≡ firstOf (own b a)
       rest f S ha hb =
-          ap firstOf (ap₂ (λ (x : Bool) (F : Family). (x, 35) ∷ (shortWork (max (max a b) 1 + 1) words, 8) ∷ (full t F, 10) ∷ [])
+          ap firstOf (ap₂ (λ (x : Bool) (F : Family). (x, 35) ∷ (shortWork (joinLeast a b) words, 8) ∷ (full t F, 10) ∷ [])
           (overlap-comm Q t (S .nodes) a b ha hb) (J.join-comm (keysOf Q) (keys-apart Q (rows f .few)) (familyAt t a) (familyAt t b))
-          ∙ ap (λ (n : ℕ). (overlap Q t b a, 35) ∷ (shortWork (max n 1 + 1) words, 8) ∷ (full t (join (keysOf Q) (familyAt t b) (familyAt t a)), 10) ∷ []) (max-comm a b))
+          ∙ ap (λ (n : ℕ). (overlap Q t b a, 35) ∷ (shortWork n words, 8) ∷ (full t (join (keysOf Q) (familyAt t b) (familyAt t a)), 10) ∷ []) same-least)
 
 -- ---- a join that answers
 

@@ -61,12 +61,16 @@ partTests packages t a p F words =
     (full t F, 10) ∷
     []
 
--- of join: 35 stands behind 5, and the least working words are one more than the larger answer, and at least 2 [document 02, No. 5]
+-- the least working words of join: one more than the larger answer, and at least 2 [document 02, No. 5]
+abbrev pub joinLeast : (a b : ℕ) → ℕ
+joinLeast a b = max (max a b) 1 + 1
+
+-- of join: 35 stands behind 5
 abbrev pub joinTests : (Q : Problem) (t : List ℕ) (a b : ℕ) (F : Family) (words : ℕ) → List (Bool × ℕ)
 joinTests Q t a b F words =
     (unknownAnswer t a || unknownAnswer t b, 5) ∷
     (overlap Q t a b, 35) ∷
-    (shortWork (max (max a b) 1 + 1) words, 8) ∷
+    (shortWork (joinLeast a b) words, 8) ∷
     (full t F, 10) ∷
     []
 
