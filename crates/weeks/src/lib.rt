@@ -1,5 +1,5 @@
-// What programs that show weeks by the public calls share: a cover in a lent order, and its line. A line gives the answer of cover, nodes made, steps, timetables
-// and the first of these in quotes, or the refusal.
+// What programs that show weeks by the public calls share: a cover in a lent order, and the line of a report. A line gives the answer, nodes made, steps,
+// timetables and the first of these in quotes, or the refusal; where only count refuses, its refusal stands behind the steps.
 ghost use Prim.Native.Nat.{_≤_};
 use itemset::Items;
 use statement::Counted;
@@ -128,7 +128,8 @@ pub fn print_timetables(packages: &[u64], w: Week, order: &[u8], t: &[u32], a: u
     print_first(packages, w, order, t, a, n);
 }
 
-fn print_report(packages: &[u64], w: Week, order: &[u8], t: &[u32], r: Report) {
+// What a call that makes an answer reports, and the timetables of the answer.
+pub fn print_report(packages: &[u64], w: Week, order: &[u8], t: &[u32], r: Report) {
     let outcome = r.outcome;
     match outcome {
         Outcome::Answer(a) => {
@@ -141,9 +142,8 @@ fn print_report(packages: &[u64], w: Week, order: &[u8], t: &[u32], r: Report) {
     }
 }
 
-// Cover on a table of 65,534 nodes, and in at most the working words of a memo of 65,521 places (a prime, as in table1_demo).
-pub fn run(packages: &[u64], w: Week, order: &[u8]) {
-    let mut t = [0u32; 196603];
+// Cover of d on the table, in at most the working words of a memo of 65,521 places (a prime, as in table1_demo).
+pub fn cover(packages: &[u64], w: Week, order: &[u8], t: &mut [u32], d: Items) {
     let mut work = [0u64; 262084];
     let lent = least(w.words, 262084);
     let report = engine::cover(
@@ -151,11 +151,17 @@ pub fn run(packages: &[u64], w: Week, order: &[u8]) {
         packages,
         w.optional,
         order,
-        &mut t,
-        w.d,
+        t,
+        d,
         4294967295,
         &mut work[0..lent],
     );
-    print_report(packages, w, order, &t, report);
+    print_report(packages, w, order, t, report);
     io::write_all(1, b"\n");
+}
+
+// The same on an empty table of 65,534 nodes.
+pub fn run(packages: &[u64], w: Week, order: &[u8]) {
+    let mut t = [0u32; 196603];
+    cover(packages, w, order, &mut t, w.d);
 }
