@@ -1,10 +1,10 @@
 // Runs a script of calls on Figure 1 of document 000 through the runner, on tables and working words of several lengths, and prints each report.
 // A second script has calls on four packages one of whose items is optional, and a third calls on the figure in another order than the plain one, and with an order
-// that is none.
+// that is none. Two more have joins among the calls.
 ghost use Prim.Native.Nat.{_≤_};
 use itemset::Items;
 
-// Seven words a call: kind (0 cover, 1 either, 2 both, 3 only, 4 with, 5 without), M, two arguments, the first of three words, working words.
+// Seven words a call: kind (0 cover, 1 either, 2 both, 3 only, 4 with, 5 without, 6 join), M, two arguments, the first of three words, working words.
 const SCRIPT: [u64; 147] = [
     0,
     6,
@@ -224,6 +224,35 @@ const REVERSED_CALLS: [[u64; 7]; 9] = [
     [0, 6, 40, 0, 0, 2, 256], // items 3 and 5: package 2 alone
 ];
 
+// {0}, {0}, {1}, {1}, numbered from 0: two halves of a week, with two timetables each.
+const HALVES: [u64; 12] = [1, 0, 0, 1, 0, 0, 2, 0, 0, 2, 0, 0];
+
+// Each timetable of the first half is joined with the second, and either of the two joins is the join of the halves, and the cover of all items.
+const JOIN_CALLS: [[u64; 7]; 9] = [
+    [0, 2, 1, 0, 0, 9, 256], // cover the first half, and the second
+    [0, 2, 2, 0, 0, 9, 256],
+    [4, 2, 3, 0, 0, 0, 2], // of the first half with package 0
+    [6, 2, 6, 0, 0, 5, 7], // joined with the second
+    [3, 2, 3, 0, 0, 6, 2], // only the rest of the first half: package 1 alone
+    [6, 2, 5, 0, 0, 2, 6], // joined, the other way round
+    [1, 2, 7, 0, 0, 8, 2], // either of the two joins
+    [6, 2, 3, 0, 0, 5, 6], // the join of the halves: the same set, the same number
+    [0, 2, 3, 0, 0, 9, 256], // cover all items: the same again
+];
+
+// Refused joins among others.
+const REFUSED_JOINS: [[u64; 7]; 9] = [
+    [0, 2, 1, 0, 0, 9, 256], // cover the first half, and the second
+    [0, 2, 2, 0, 0, 9, 256],
+    [6, 2, 3, 0, 0, 3, 0], // a half with itself: overlap, told without a working word
+    [6, 2, 3, 0, 0, 5, 5], // one working word too few
+    [6, 2, 3, 0, 0, 6, 7], // an unknown answer
+    [6, 2, 5, 0, 0, 3, 6], // the halves
+    [6, 2, 7, 0, 0, 3, 8], // their join with the first once more: overlap
+    [6, 2, 1, 0, 0, 7, 8], // with the empty timetable alone: nothing new
+    [0, 2, 3, 0, 0, 9, 256], // cover all items: the number of the join
+];
+
 // The rows, one after the other.
 fn script(calls: [[u64; 7]; 9]) -> [u64; 63] {
     let mut script = [0u64; 63];
@@ -318,6 +347,24 @@ fn nine(what: &[u8], packages: &[u64], optional: Items, order: &[u8], calls: [[u
     show_run(what, &out, n, 9);
 }
 
+// The two scripts with joins.
+fn joins() {
+    nine(
+        b"two halves and their joins",
+        &HALVES,
+        NO_ITEMS,
+        &PLAIN[0..2],
+        JOIN_CALLS,
+    );
+    nine(
+        b"two halves, and joins refused",
+        &HALVES,
+        NO_ITEMS,
+        &PLAIN[0..2],
+        REFUSED_JOINS,
+    );
+}
+
 fn main() {
     scenario(b"a table of 8 nodes", &mut [7u32; 25], 256, 21);
     scenario(b"a table of 3 nodes", &mut [7u32; 10], 256, 21);
@@ -339,4 +386,5 @@ fn main() {
         &REPEATED,
         REVERSED_CALLS,
     );
+    joins();
 }
