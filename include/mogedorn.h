@@ -79,6 +79,7 @@ enum {
     MOGEDORN_UNKNOWN_ANSWER = 5,   /* an operand that the table does not know */
     MOGEDORN_UNKNOWN_PACKAGE = 6,  /* a package of N or more; in place also a list out of precedence or repeating */
     MOGEDORN_UNKNOWN_ITEM = 7,     /* an item of M or above in the set to cover */
+    MOGEDORN_OVERLAP = 35,         /* join: a package on a node below one answer, its own included, shares an item with one below the other */
     MOGEDORN_SHORT_WORK = 8,       /* too few working words */
     MOGEDORN_SPENT = 9,            /* more steps than the limit, counted as if the table had no end */
     MOGEDORN_FULL = 10,            /* the answer's nodes that are not yet in the table outnumber the free places */
@@ -164,6 +165,14 @@ mogedorn_report mogedorn_with(uint32_t m, const uint64_t *packages, size_t packa
                               uint32_t *table, size_t table_len, uint32_t a, uint32_t p, uint64_t *work, size_t work_len);
 mogedorn_report mogedorn_without(uint32_t m, const uint64_t *packages, size_t packages_len, const uint64_t optional[3], const uint8_t *order, size_t order_len,
                                  uint32_t *table, size_t table_len, uint32_t a, uint32_t p, uint64_t *work, size_t work_len);
+
+/* Every union of a timetable of a and one of b: two halves of the week, or two pools, planned on separate items, as one programme. No package on a node below a,
+   its own node included, may share an item with one below b (35); optional items count too, and 0 and 1 have no nodes. 35 is told whatever working words are
+   lent. Join with 1 is the other answer, with 0 it is 0. The count of a join is the product of the two counts. It may exceed 64 bits: then count, measure, pick
+   and place say 11, and cheapest still answers. At least one working word more than the larger of the two numbers, and at least 2. Results of pairs are
+   remembered as in either. Refusals 1, 2, 29, 30, 34, 4, 5, 35, 8, 10. Stack: 642 KB. */
+mogedorn_report mogedorn_join(uint32_t m, const uint64_t *packages, size_t packages_len, const uint64_t optional[3], const uint8_t *order, size_t order_len,
+                              uint32_t *table, size_t table_len, uint32_t a, uint32_t b, uint64_t *work, size_t work_len);
 
 /* How many timetables the answer holds. At least answer + 1 working words. Refusals 1, 2, 29, 30, 34, 4, 5, 8, 11. Stack: 266 KB. */
 mogedorn_number mogedorn_count(uint32_t m, const uint64_t *packages, size_t packages_len, const uint64_t optional[3], const uint8_t *order, size_t order_len,
@@ -278,6 +287,11 @@ static inline mogedorn_report mogedorn_week_with(const mogedorn_week *week, uint
 static inline mogedorn_report mogedorn_week_without(const mogedorn_week *week, uint32_t *table, size_t table_len, uint32_t a, uint32_t p, uint64_t *work,
                                                     size_t work_len) {
     return mogedorn_without(MOGEDORN_LENT(week), table, table_len, a, p, work, work_len);
+}
+
+static inline mogedorn_report mogedorn_week_join(const mogedorn_week *week, uint32_t *table, size_t table_len, uint32_t a, uint32_t b, uint64_t *work,
+                                                 size_t work_len) {
+    return mogedorn_join(MOGEDORN_LENT(week), table, table_len, a, b, work, work_len);
 }
 
 static inline mogedorn_number mogedorn_week_count(const mogedorn_week *week, const uint32_t *table, size_t table_len, uint32_t answer, uint64_t *work,
