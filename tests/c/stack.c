@@ -17,8 +17,8 @@ static uint64_t packages[3 * N], pairs[3 * 2 * M], everything[3], work[4 * NODES
 static const uint64_t optional[3]; /* none: the more items are compulsory, the deeper cover goes */
 static uint8_t order[M];           /* reversed: in the plain order nothing is permuted */
 static uint16_t costs[N], page[N], list[N];
-static uint32_t table[1 + 3 * NODES], pairs_table[1 + 3 * NODES];
-static uint32_t all, subsets;
+static uint32_t table[1 + 3 * NODES], pairs_table[1 + 3 * NODES], apart_table[1 + 3 * NODES];
+static uint32_t all, subsets, even, odd;
 static uint8_t file[13 + 2 * 64 + 12 * 64];
 static uint32_t refused;
 
@@ -38,19 +38,31 @@ static size_t measure(void (*call)(void)) {
     return sizeof stack - i;
 }
 
+/* The number of a new node. */
+static uint32_t node(uint32_t *t, uint32_t p, uint32_t lo, uint32_t hi) {
+    uint32_t *w = t + 1 + 3 * t[0]++;
+    w[0] = p, w[1] = lo, w[2] = hi;
+    return t[0] + 1;
+}
+
+/* Where the item of package p stands in the order. The last package has the last item for itself. */
+static int place(int p) { return p * (M - 1) / (N - 1); }
+
 /* Every node of this table is on one path: the timetable of all 512 packages, and every set of packages. */
 static void deep_table(void) {
-    uint32_t n = 0, one = 1, any = 1;
+    all = subsets = 1;
+    for (uint32_t p = N; p-- > 0;) all = node(table, p, 0, all), subsets = node(table, p, subsets, subsets);
+}
+
+/* The timetable of all packages at even places of the order, and every set of those at odd places: their join goes down all packages but the last. */
+static void deep_table_apart(void) {
+    even = odd = 1;
     for (uint32_t p = N; p-- > 0;) {
-        uint32_t *w = table + 1 + 3 * n;
-        w[0] = p, w[1] = 0, w[2] = one;
-        one = 2 + n++;
-        w = table + 1 + 3 * n;
-        w[0] = p, w[1] = any, w[2] = any;
-        any = 2 + n++;
+        if (place((int)p) % 2 == 0)
+            even = node(apart_table, p, 0, even);
+        else
+            odd = node(apart_table, p, odd, odd);
     }
-    table[0] = n;
-    all = one, subsets = any;
 }
 
 static void do_check(void) { refused |= mogedorn_check(M, packages, 3 * N, optional, order, M, table, sizeof table / 4); }
@@ -64,6 +76,9 @@ static void do_both(void) { refused |= mogedorn_both(M, packages, 3 * N, optiona
 static void do_only(void) { refused |= mogedorn_only(M, packages, 3 * N, optional, order, M, table, sizeof table / 4, subsets, all, work, 2).refusal; }
 static void do_with(void) { refused |= mogedorn_with(M, packages, 3 * N, optional, order, M, table, sizeof table / 4, all, N - 1, work, 2).refusal; }
 static void do_without(void) { refused |= mogedorn_without(M, packages, 3 * N, optional, order, M, table, sizeof table / 4, all, N - 1, work, 2).refusal; }
+static void do_join(void) {
+    refused |= mogedorn_join(M, packages, 3 * N, optional, order, M, apart_table, sizeof apart_table / 4, even, odd, work, N + 2).refusal;
+}
 static void do_count(void) { refused |= mogedorn_count(M, packages, 3 * N, optional, order, M, table, sizeof table / 4, all, work, 4 * NODES).refusal; }
 static void do_pick(void) {
     refused |= mogedorn_pick(M, packages, 3 * N, optional, order, M, table, sizeof table / 4, all, 0, work, 4 * NODES, page, N).refusal;
@@ -94,15 +109,16 @@ static void single(uint64_t *sets, int p, int item) { sets[3 * p + item / 64] = 
 
 int main(void) {
     for (int i = 0; i < M; i++) order[i] = (uint8_t)(M - 1 - i);
-    for (int p = 0; p < N; p++) single(packages, p, order[p * M / N]), list[p] = (uint16_t)p;
+    for (int p = 0; p < N; p++) single(packages, p, order[place(p)]), list[p] = (uint16_t)p;
     for (int p = 0; p < 2 * M; p++) single(pairs, p, p / 2);
     mogedorn_all_items(M, everything);
     deep_table();
+    deep_table_apart();
     make_file();
     static const struct { const char *name; void (*call)(void); } calls[] = {
         {"check", do_check}, {"all_items", do_all_items}, {"cover", do_cover}, {"either", do_either}, {"both", do_both}, {"only", do_only},
-        {"with", do_with}, {"without", do_without}, {"count", do_count}, {"measure", do_measure}, {"pick", do_pick}, {"place", do_place},
-        {"cheapest", do_cheapest}, {"read_bids", do_read_bids},
+        {"with", do_with}, {"without", do_without}, {"join", do_join}, {"count", do_count}, {"measure", do_measure}, {"pick", do_pick},
+        {"place", do_place}, {"cheapest", do_cheapest}, {"read_bids", do_read_bids},
     };
     for (size_t i = 0; i < sizeof calls / sizeof *calls; i++) {
         refused = 0;

@@ -5,7 +5,7 @@
 
 #include "mogedorn.h"
 
-enum { TABLE = 31, WORK = 4 * 64 + 3, PAGE = 5 };
+enum { TABLE = 1 + 3 * 20, WORK = 4 * 64 + 3, PAGE = 5 };
 
 /* {0}, {0, 2}, {1, 2}, {1}, item 2 optional; the word behind them is no package */
 static const uint64_t packages[13] = {1, 0, 0, 5, 0, 0, 6, 0, 0, 2, 0, 0, 9};
@@ -64,6 +64,31 @@ static void operations(uint32_t all) {
     report("only", mogedorn_week_only(&week, table, TABLE, a, b, work, WORK), mogedorn_only(LENT, entry_table, TABLE, a, b, work, WORK));
 }
 
+static uint32_t part(uint64_t items) {
+    const uint64_t d[3] = {items, 0, 0};
+    return report("cover of a part", mogedorn_week_cover(&week, table, TABLE, d, 6, work, WORK), mogedorn_cover(LENT, entry_table, TABLE, d, 6, work, WORK));
+}
+
+static mogedorn_report join(uint32_t a, uint32_t b, size_t words) {
+    mogedorn_report x = mogedorn_week_join(&week, table, TABLE, a, b, work, words);
+    report("join", x, mogedorn_join(LENT, entry_table, TABLE, a, b, work, words));
+    return x;
+}
+
+/* {0, 2} and {1} are covered by packages 0 or 1 and by 3: joined they are the timetables without package 2. {1, 2} shares the optional item with {0, 2}. */
+static void joins(uint32_t all) {
+    uint32_t a = part(5), b = part(2), c = part(6), most = a < b ? b : a;
+    uint32_t without = mogedorn_week_without(&week, table, TABLE, all, 2, work, WORK).answer;
+    mogedorn_report x = join(a, b, most + 1);
+    expect("join", x.refusal == 0 && x.answer == without && x.steps == 0 && x.made == 0);
+    expect("join", join(b, a, most + 1).answer == without);
+    expect("join of few words", join(a, b, most).refusal == MOGEDORN_SHORT_WORK && join(1, 1, 1).refusal == MOGEDORN_SHORT_WORK);
+    expect("join with 0 and 1", join(a, 1, a + 1).answer == a && join(1, a, a + 1).answer == a && join(a, 0, a + 1).answer == 0 && join(1, 1, 2).answer == 1);
+    expect("join of answers that share an item", join(a, c, WORK).refusal == MOGEDORN_OVERLAP && join(c, a, 0).refusal == MOGEDORN_OVERLAP);
+    expect("join with itself", join(a, a, 0).refusal == MOGEDORN_OVERLAP);
+    expect("join of an unknown answer", join(a, table[0] + 2, 0).refusal == MOGEDORN_UNKNOWN_ANSWER);
+}
+
 /* The second timetable and the cheapest. */
 static void questions(uint32_t all, const uint16_t second[2], const uint16_t least[2]) {
     expect("check", mogedorn_week_check(&week, table, TABLE) == 0 && mogedorn_check(LENT, table, TABLE) == 0);
@@ -83,6 +108,7 @@ static void every_call(const uint8_t *week_order, size_t week_order_len, uint32_
     memset(entry_table, 0, sizeof entry_table);
     uint32_t all = cover(made);
     operations(all);
+    joins(all);
     questions(all, second, least);
 }
 
