@@ -23,6 +23,8 @@ struct Lent {
     words: Vec<u64>,
     optional: Set,
     order: Vec<u8>,
+    /// The items of two halves, where the week has such; packages that have items of both are few.
+    halves: Option<[Set; 2]>,
 }
 
 impl Lent {
@@ -49,6 +51,9 @@ pub struct History {
     strict: bool,
     pub calls: u64,
     pub outcomes: Outcomes,
+    /// Those of joins alone, and how many of these answered for two answers above 1.
+    pub joins: Outcomes,
+    pub joined: u64,
 }
 
 /// What a call that makes an answer should say.
@@ -60,7 +65,13 @@ enum Expected {
 impl History {
     pub fn new(mut rng: Rng) -> History {
         let strict = rng.once_in(4);
-        let (m, sets) = if strict { many_timetables(&mut rng) } else { random_packages(&mut rng) };
+        let (m, sets, halves) = if rng.once_in(3) {
+            let (m, sets, halves) = two_halves(&mut rng);
+            (m, sets, Some(halves))
+        } else {
+            let (m, sets) = if strict { many_timetables(&mut rng) } else { random_packages(&mut rng) };
+            (m, sets, None)
+        };
         let words = match rng.below(8) {
             0 => rng.below(4),
             1 => 1 + 3 * rng.below(6),
@@ -74,18 +85,20 @@ impl History {
         }
         let optional = random_optional(&mut rng, m, &sets);
         let order = random_order(&mut rng, m, 60);
-        let lent = Lent { m, sets, words, optional, order };
+        let lent = Lent { m, sets, words, optional, order, halves };
         let (known, ledger, left) = (Vec::new(), Vec::new(), Vec::new());
-        let mut history = History { rng, lent, table, left, known, ledger, strict, calls: 0, outcomes: NO_OUTCOME };
+        let (outcomes, joins) = (NO_OUTCOME, NO_OUTCOME);
+        let mut history = History { rng, lent, table, left, known, ledger, strict, calls: 0, outcomes, joins, joined: 0 };
         history.learn();
         history
     }
 
     pub fn run(&mut self) {
-        for _ in 0..self.rng.from(20, if self.strict { 160 } else { 60 }) {
-            match self.rng.below(17) {
+        let halves = self.lent.halves.is_some();
+        for _ in 0..self.rng.from(20, if self.strict || halves { 160 } else { 60 }) {
+            match self.rng.below(if halves { 22 } else { 18 }) {
                 0 => self.cover(),
-                1..=3 if !self.strict => self.cover(),
+                1..=3 if halves || !self.strict => self.cover(),
                 1..=8 => self.combine(),
                 9 => self.check(),
                 10 => self.count(),
@@ -93,7 +106,8 @@ impl History {
                 13 => self.place(),
                 14 => self.cheapest(),
                 15 => self.measure(),
-                _ => self.damaged(),
+                16 => self.damaged(),
+                _ => self.join(),
             }
         }
         self.no_spare_node();
@@ -169,7 +183,17 @@ impl History {
 
     // ---- the calls that make an answer
 
-    /// A set to cover: any, none, the optional items alone, those of all packages or of some; rarely with an item next to M or in the highest word.
+    /// How many of the table's words are lent: mostly all, sometimes no more than have room for a few new nodes.
+    fn lent_words(&mut self) -> usize {
+        let few = 1 + 3 * self.nodes() as usize + self.rng.below(15) as usize;
+        if self.first_refusal() != 0 || !self.rng.once_in(6) {
+            return self.table.len();
+        }
+        few.min(self.table.len())
+    }
+
+    /// A set to cover: any, none, the optional items alone, those of all packages or of some, mostly in one half where the week has two; rarely with an item next
+    /// to M or in the highest word.
     fn items(&mut self) -> Set {
         let mut d = match self.rng.below(6) {
             0 => Set([0; 3].map(|_| self.rng.next() & self.rng.next())),
@@ -181,6 +205,9 @@ impl History {
                 some.iter().fold(Set::NONE, |a, &s| a.or(s))
             }
         };
+        if let Some(halves) = self.lent.halves.filter(|_| !self.rng.once_in(4)) {
+            d = d.and(halves[self.rng.below(2) as usize]);
+        }
         match self.rng.below(24) {
             0 => d.add(self.rng.from(128, 191) as u32),
             1 => d.add(self.lent.m.min(ITEMS - 1)),
@@ -204,6 +231,7 @@ impl History {
     fn cover(&mut self) {
         let d = self.items();
         let mut work = self.memo();
+        let end = self.lent_words();
         let s = self.lent.model();
         let places = work.len() / 4;
         let fits = self.first_refusal() == 0 && d.below(self.lent.m);
@@ -223,12 +251,12 @@ impl History {
             0 if steps > limit as u64 => Expected::Refused(9),
             0 => {
                 assert_eq!(found, s.covering(d), "the model: Search by its text and covering by its definition");
-                self.made(found, steps)
+                self.made(found, steps, end)
             }
             r => Expected::Refused(r),
         };
         let before = self.table.clone();
-        let got = ffi::cover(self.lent.week(), &mut self.table, &d.0, limit, &mut work);
+        let got = ffi::cover(self.lent.week(), &mut self.table[..end], &d.0, limit, &mut work);
         self.compare(&format!("cover {d:?} limit {limit} words {}", work.len()), &before, expected, got);
         self.left = work;
     }
@@ -245,6 +273,7 @@ impl History {
             (false, _) => self.rng.below(n.max(1)) as u32,
         };
         let mut work = if self.rng.once_in(30) { self.long_work() } else { self.work(2) };
+        let end = self.lent_words();
         let known = |k: u32| (k as u64) < self.nodes() + 2;
         let expected = match self.first_refusal() {
             0 if !known(a) || (op < 3 && !known(b)) => Expected::Refused(5),
@@ -261,19 +290,66 @@ impl History {
                         f.add(t);
                     }
                 }
-                self.made(f, 0)
+                self.made(f, 0, end)
             }
             r => Expected::Refused(r),
         };
         let before = self.table.clone();
-        let got = ffi::combine(op, self.lent.week(), &mut self.table, a, b, &mut work);
+        let got = ffi::combine(op, self.lent.week(), &mut self.table[..end], a, b, &mut work);
         self.compare(&format!("call {op} of {a} and {b}"), &before, expected, got);
     }
 
-    /// The call makes f: full, or an answer.
-    fn made(&self, f: Family, steps: u64) -> Expected {
+    /// Operands for a join: mostly two answers above 1 whose packages have no item in common, where there are such.
+    fn two_operands(&mut self) -> (u32, u32) {
+        let s = self.lent.model();
+        let numbers: Vec<u32> = if self.strict { self.ledger.iter().map(|p| p.0).collect() } else { (0..self.known.len() as u32).collect() };
+        let items: Vec<(u32, Set)> = numbers.into_iter().filter(|&a| a >= 2).map(|a| (a, s.items(&self.known[a as usize]))).collect();
+        let partners = |x: Set| items.iter().filter(|y| x.and(y.1) == Set::NONE).map(|y| y.0).collect::<Vec<u32>>();
+        let first: Vec<&(u32, Set)> = items.iter().filter(|x| !partners(x.1).is_empty()).collect();
+        if first.is_empty() || self.rng.once_in(4) {
+            return (self.operand(), self.operand());
+        }
+        let (a, x) = first[self.rng.below(first.len() as u64) as usize];
+        let apart = partners(*x);
+        (*a, apart[self.rng.below(apart.len() as u64) as usize])
+    }
+
+    fn join(&mut self) {
+        let (a, b) = self.two_operands();
+        let least = a.max(b).max(1) as u64 + 1;
+        let mut work = if self.rng.once_in(30) { self.long_work() } else { self.work(least.min(2000)) };
+        let end = self.lent_words();
+        let known = |k: u32| (k as u64) < self.nodes() + 2;
+        let expected = match self.first_refusal() {
+            0 if !known(a) || !known(b) => Expected::Refused(5),
+            0 => {
+                let s = self.lent.model();
+                let (first, second) = (&self.known[a as usize], &self.known[b as usize]);
+                let overlap = s.overlap(&self.table, a, b);
+                assert_eq!(overlap, s.items(first).and(s.items(second)) != Set::NONE, "the model: packages on nodes and packages of timetables");
+                if overlap {
+                    Expected::Refused(35)
+                } else if (work.len() as u64) < least {
+                    Expected::Refused(8)
+                } else {
+                    let f = first.join(second);
+                    assert_eq!(f.len(), first.len() * second.len(), "the model: a join has as many as the product");
+                    self.made(f, 0, end)
+                }
+            }
+            r => Expected::Refused(r),
+        };
+        let before = self.table.clone();
+        let got = ffi::join(self.lent.week(), &mut self.table[..end], a, b, &mut work);
+        self.compare(&format!("join of {a} and {b}, words {}", work.len()), &before, expected, got);
+        self.joins[got.refusal as usize] += 1;
+        self.joined += (got.refusal == 0 && a > 1 && b > 1) as u64;
+    }
+
+    /// The call makes f in the first words of the table, up to `end`: full, or an answer.
+    fn made(&self, f: Family, steps: u64, end: usize) -> Expected {
         let made = self.lent.model().missing(&self.known, &f);
-        if made > capacity(&self.table) as u64 - self.nodes() {
+        if made > capacity(&self.table[..end]) as u64 - self.nodes() {
             return Expected::Refused(10);
         }
         Expected::Answer { family: f, steps, made }
@@ -500,7 +576,7 @@ impl History {
         self.learn();
         self.ledger.clear();
         for _ in 0..self.rng.from(1, 3) {
-            match self.rng.below(8) {
+            match self.rng.below(9) {
                 0 => self.cover(),
                 1 => self.combine(),
                 2 => self.count(),
@@ -508,6 +584,7 @@ impl History {
                 4 => self.place(),
                 5 => self.cheapest(),
                 6 => self.measure(),
+                7 => self.join(),
                 _ => self.check(),
             }
         }
@@ -549,9 +626,8 @@ fn compare_page(call: &str, refusal: u32, list: &[u16], cost: u32, before: &[u16
     assert_eq!(page[list.len()..], before[list.len()..], "{call}: the rest of the page");
 }
 
-/// Several packages for each of a few items: a cover has many timetables, and so the parts of it are many sets.
-fn many_timetables(rng: &mut Rng) -> (u32, Vec<Set>) {
-    let few = rng.from(2, 4);
+/// An M, and so many different items below it.
+fn few_items(rng: &mut Rng, few: u64) -> (u32, Vec<u32>) {
     let m = if rng.once_in(2) { few as u32 } else { random_m(rng).clamp(few as u32, ITEMS) };
     let mut items: Vec<u32> = Vec::new();
     while items.len() < few as usize {
@@ -560,6 +636,13 @@ fn many_timetables(rng: &mut Rng) -> (u32, Vec<Set>) {
             items.push(i);
         }
     }
+    (m, items)
+}
+
+/// Several packages for each of a few items: a cover has many timetables, and so the parts of it are many sets.
+fn many_timetables(rng: &mut Rng) -> (u32, Vec<Set>) {
+    let few = rng.from(2, 4);
+    let (m, items) = few_items(rng, few);
     let mut sets: Vec<Set> = (0..rng.from(6, MOST)).map(|p| Set::of([items[(p % few) as usize]])).collect();
     let shared = random_item(rng, m);
     let often = rng.from(2, 12);
@@ -572,6 +655,33 @@ fn many_timetables(rng: &mut Rng) -> (u32, Vec<Set>) {
         }
     }
     (m, sets)
+}
+
+/// Packages on the items of two halves, which lie mixed below M; sometimes a package that has items of both, or an item that packages of both share.
+fn two_halves(rng: &mut Rng) -> (u32, Vec<Set>, [Set; 2]) {
+    let n = rng.from(4, MOST);
+    let (first, second) = (rng.from(1, n.div_ceil(2).min(3)), rng.from(1, (n / 2).min(3)));
+    let (m, items) = few_items(rng, first + second);
+    let halves = [&items[..first as usize], &items[first as usize..]];
+    let heavy = rng.from(2, 8);
+    let mut sets: Vec<Set> = (0..n)
+        .map(|p| {
+            let half = halves[p as usize % 2];
+            let mut s = Set::of([half[p as usize / 2 % half.len()]]);
+            half.iter().filter(|_| rng.once_in(heavy)).for_each(|&i| s.add(i));
+            s
+        })
+        .collect();
+    let any = rng.below(sets.len() as u64) as usize;
+    match rng.below(9) {
+        0 => sets[any] = sets[any].or(Set::of([items[0], items[first as usize]])),
+        1 | 2 => {
+            let shared = random_item(rng, m);
+            sets.iter_mut().filter(|_| rng.once_in(3)).for_each(|s| s.add(shared));
+        }
+        _ => {}
+    }
+    (m, sets, halves.map(|half| Set::of(half.iter().copied())))
 }
 
 /// Optional items: often none, mostly some that leave each package a compulsory item; rarely also all items of a package, one that no package has, or one of M

@@ -81,6 +81,7 @@ entries! {
     mogedorn_only(t: *mut u32, tn: usize, a: u32, b: u32, w: *mut u64, wn: usize) -> Report;
     mogedorn_with(t: *mut u32, tn: usize, a: u32, k: u32, w: *mut u64, wn: usize) -> Report;
     mogedorn_without(t: *mut u32, tn: usize, a: u32, k: u32, w: *mut u64, wn: usize) -> Report;
+    mogedorn_join(t: *mut u32, tn: usize, a: u32, b: u32, w: *mut u64, wn: usize) -> Report;
     mogedorn_count(t: *const u32, tn: usize, a: u32, w: *mut u64, wn: usize) -> Number;
     mogedorn_pick(t: *const u32, tn: usize, a: u32, k: u64, w: *mut u64, wn: usize, g: *mut u16, gn: usize) -> Timetable;
     mogedorn_measure(t: *const u32, tn: usize, a: u32, k: u64, w: *mut u64, wn: usize) -> Number;
@@ -111,10 +112,14 @@ pub fn cover(week: Week, t: &mut [u32], d: &[u64; 3], limit: u32, w: &mut [u64])
     call!(mogedorn_cover, week, t.as_mut_ptr(), t.len(), d.as_ptr(), limit, w.as_mut_ptr(), w.len())
 }
 
-/// either, both, only, with, without: 0 to 4.
+/// either, both, only, with, without, join: 0 to 5.
 pub fn combine(op: usize, week: Week, t: &mut [u32], a: u32, b: u32, w: &mut [u64]) -> Report {
-    let f: Combine = [mogedorn_either, mogedorn_both, mogedorn_only, mogedorn_with, mogedorn_without][op];
+    let f: Combine = [mogedorn_either, mogedorn_both, mogedorn_only, mogedorn_with, mogedorn_without, mogedorn_join][op];
     call!(f, week, t.as_mut_ptr(), t.len(), a, b, w.as_mut_ptr(), w.len())
+}
+
+pub fn join(week: Week, t: &mut [u32], a: u32, b: u32, w: &mut [u64]) -> Report {
+    combine(5, week, t, a, b, w)
 }
 
 pub fn count(week: Week, t: &[u32], a: u32, w: &mut [u64]) -> Number {

@@ -5,6 +5,7 @@ mod bids;
 mod calls;
 mod edge;
 mod ffi;
+mod join;
 mod model;
 mod optional;
 mod order;
@@ -38,6 +39,23 @@ fn edges() {
     order::no_items();
     order::refusal_order();
     order::one_by_one();
+    join::two_pools();
+    join::zero_and_one();
+    join::overlap();
+    join::refusal_order();
+    join::sixty_four_bits();
+    join::deepest();
+    join::last_number();
+}
+
+fn add(all: &mut Outcomes, more: Outcomes) {
+    all.iter_mut().zip(more).for_each(|(a, b)| *a += b);
+}
+
+/// Each number that was said, and how often.
+fn said(outcomes: &Outcomes) -> String {
+    let said: Vec<String> = (0..outcomes.len()).filter(|&i| outcomes[i] > 0).map(|i| format!("{i}: {}", outcomes[i])).collect();
+    said.join(", ")
 }
 
 fn main() {
@@ -45,21 +63,23 @@ fn main() {
     let first = args.next().unwrap_or(1);
     let most = args.next().unwrap_or(120_000);
     edges();
-    let (mut calls, mut files, mut seed) = (0, 0, first);
-    let mut outcomes: Outcomes = NO_OUTCOME;
+    let (mut calls, mut files, mut joined, mut seed) = (0, 0, 0, first);
+    let (mut outcomes, mut joins) = (NO_OUTCOME, NO_OUTCOME);
     while calls < most {
         let run = panic::catch_unwind(|| {
             let mut history = History::new(Rng(seed));
             history.run();
             let mut counts = history.outcomes;
             let read = bids::some_files(&mut Rng(!seed), &mut counts);
-            (history.calls, read, counts)
+            (history.calls, read, counts, history.joins, history.joined)
         });
         match run {
-            Ok((c, f, counts)) => {
+            Ok((c, f, counts, of_joins, j)) => {
                 calls += c + f;
                 files += f;
-                outcomes.iter_mut().zip(counts).for_each(|(a, b)| *a += b);
+                joined += j;
+                add(&mut outcomes, counts);
+                add(&mut joins, of_joins);
             }
             Err(_) => {
                 eprintln!("a difference, seed {seed}");
@@ -69,6 +89,6 @@ fn main() {
         seed += 1;
     }
     println!("{calls} calls in {} histories, {files} of them on bids files: no difference (seeds {first} to {})", seed - first, seed - 1);
-    let said: Vec<String> = (0..outcomes.len()).filter(|&i| outcomes[i] > 0).map(|i| format!("{i}: {}", outcomes[i])).collect();
-    println!("outcomes (0: answered): {}", said.join(", "));
+    println!("outcomes (0: answered): {}", said(&outcomes));
+    println!("of joins: {}; {joined} answered for two answers above 1", said(&joins));
 }

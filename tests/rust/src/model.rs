@@ -39,6 +39,10 @@ impl Set {
         Set([0, 1, 2].map(|j| self.0[j] | other.0[j]))
     }
 
+    pub fn and(self, other: Set) -> Set {
+        Set([0, 1, 2].map(|j| self.0[j] & other.0[j]))
+    }
+
     pub fn without(self, other: Set) -> Set {
         Set([0, 1, 2].map(|j| self.0[j] & !other.0[j]))
     }
@@ -96,6 +100,17 @@ impl Family {
 
     pub fn len(&self) -> u64 {
         self.0.iter().map(|w| w.count_ones() as u64).sum()
+    }
+
+    /// Every union of a timetable of this one and one of the other.
+    pub fn join(&self, other: &Family) -> Family {
+        let mut all = Family(vec![0; self.0.len()]);
+        for s in self.members() {
+            for t in other.members() {
+                all.add(s | t);
+            }
+        }
+        all
     }
 }
 
@@ -238,6 +253,19 @@ impl<'a> Week<'a> {
         let mut all = HashSet::new();
         self.branches(f, &mut all);
         all.iter().filter(|b| !known.contains(b)).count() as u64
+    }
+
+    /// The items of the packages that some timetable of f has.
+    pub fn items(&self, f: &Family) -> Set {
+        let packages = f.members().into_iter().fold(0, |all, t| all | t);
+        (0..self.n()).filter(|&p| packages >> p & 1 == 1).fold(Set::NONE, |all, p| all.or(self.sets[p]))
+    }
+
+    /// Some package on a node below a shares an item with one on a node below b.
+    pub fn overlap(&self, t: &[u32], a: u32, b: u32) -> bool {
+        let on_nodes = |k: u32| below(t, k).into_iter().filter(|&k| k >= 2).map(|k| self.sets[t[1 + 3 * (k as usize - 2)] as usize]);
+        let second: Vec<Set> = on_nodes(b).collect();
+        on_nodes(a).any(|x| second.iter().any(|&y| x.and(y) != Set::NONE))
     }
 
     /// 1 oversize, 2 stray, 29 optional item of M or above, 30 package without a compulsory item, 34 order that is not each item just once, or 0.
