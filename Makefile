@@ -54,8 +54,8 @@ stack: $(build)/stack
 test-rust: $(archive)
 	MOGEDORN_LIB='$(abspath target/staticlib)' $(CARGO) run --quiet --release --manifest-path tests/rust/Cargo.toml --target-dir target/tests-rust -- $(SEED) $(CALLS)
 
-# The benchmarks. OLD is an earlier archive to stand beside this one, whose calls take no order; its functions are set to multiples of 64 bytes too. Rust's
-# loops start at multiples of 32, where they were fastest.
+# The benchmarks. OLD is an earlier archive to stand beside this one, one without join; its functions are set to multiples of 64 bytes too. Rust's loops start
+# at multiples of 32, where they were fastest.
 bench_run = MOGEDORN_LIB='$(abspath target/staticlib)' $(if $(OLD),MOGEDORN_OLD='$(abspath $(OLD))') RUSTFLAGS='-C llvm-args=-align-loops=32' $(CARGO) run --quiet --release --manifest-path bench/Cargo.toml --target-dir target/bench
 
 # Against the same algorithm in Rust, and where libbrial-dev is installed against CUDD.

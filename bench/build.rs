@@ -1,5 +1,5 @@
 // Where the archive is: MOGEDORN_LIB, or the place where `make lib` puts it. An earlier archive, MOGEDORN_OLD, is taken in beside it under other names, its functions
-// at multiples of 64 bytes as those of the other (one whose calls take optional items and no order), and CUDD where libbrial-dev is installed.
+// at multiples of 64 bytes as those of the other (one whose calls take an order, and that need not have join), and CUDD where libbrial-dev is installed.
 use std::path::{Path, PathBuf};
 use std::process::Command;
 

@@ -1,14 +1,14 @@
-//! The entries of an earlier archive that the benchmark calls (see build.rs): they take no order, so the week's must be the plain one.
+//! The entries of an earlier archive, one without join, that the benchmark calls (see build.rs).
 
 use crate::ffi::{Number, Report, Timetable, Week};
 
-type Combine = unsafe extern "C" fn(u32, *const u64, usize, *const u64, *mut u32, usize, u32, u32, *mut u64, usize) -> Report;
+type Combine = unsafe extern "C" fn(u32, *const u64, usize, *const u64, *const u8, usize, *mut u32, usize, u32, u32, *mut u64, usize) -> Report;
 
 /// Entries that take a week: the arguments that it stands for come first, then their own.
 macro_rules! entries {
     ($($entry:ident($($own:ident: $type:ty),*) -> $result:ty;)*) => {
         extern "C" {
-            $(fn $entry(m: u32, p: *const u64, pn: usize, o: *const u64, $($own: $type),*) -> $result;)*
+            $(fn $entry(m: u32, p: *const u64, pn: usize, o: *const u64, r: *const u8, rn: usize, $($own: $type),*) -> $result;)*
         }
     };
 }
@@ -29,7 +29,10 @@ entries! {
 /// A call of an entry, with the arguments that the week stands for.
 macro_rules! call {
     ($entry:expr, $week:ident, $($rest:expr),+) => {
-        unsafe { $entry($week.m, $week.packages.as_ptr(), $week.packages.len(), $week.optional.as_ptr(), $($rest),+) }
+        unsafe {
+            let (packages, order) = ($week.packages, $week.order);
+            $entry($week.m, packages.as_ptr(), packages.len(), $week.optional.as_ptr(), order.as_ptr(), order.len(), $($rest),+)
+        }
     };
 }
 

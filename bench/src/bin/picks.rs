@@ -1,6 +1,6 @@
 //! 10,000 picks in a row, their k spread over the listing, from the benchmark's answers, and beside them what a pick consists of: the check of the table, the
-//! count, the walk that measures and, in pick alone, the walk that writes. The library, the same calls by hand in Rust and, where one is given and the week is
-//! in the plain order, an earlier archive take turns (see build.rs).
+//! count, the walk that measures and, in pick alone, the walk that writes. The library, the same calls by hand in Rust and, where one is
+//! given, an earlier archive take turns (see build.rs).
 
 #[path = "../../../tests/rust/src/ffi.rs"]
 #[allow(dead_code)]
@@ -60,12 +60,11 @@ const OLD: [Call; 4] = [
     |d, k| old::pick(d.who.week(), &d.table, d.answer, k, &mut d.work, &mut d.page).packages,
 ];
 
-/// Each with its calls, and whether it takes other orders than the plain one too.
-const THEM: &[(&str, [Call; 4], bool)] = &[
-    ("library", LIBRARY, true),
-    ("by hand", HAND, true),
+const THEM: &[(&str, [Call; 4])] = &[
+    ("library", LIBRARY),
+    ("by hand", HAND),
     #[cfg(old)]
-    ("before", OLD, false),
+    ("before", OLD),
 ];
 
 impl Desk<'_> {
@@ -82,11 +81,6 @@ impl Desk<'_> {
         d
     }
 
-    /// Those who take such a week.
-    fn able(&self) -> Vec<usize> {
-        (0..THEM.len()).filter(|&i| THEM[i].2 || self.who.plain()).collect()
-    }
-
     /// The i-th of the k that are picked.
     fn spread(&self, i: u64) -> u64 {
         (i as u128 * self.who.count as u128 / PICKS as u128) as u64
@@ -97,8 +91,7 @@ impl Desk<'_> {
         for i in 0..PICKS {
             let k = self.spread(i);
             let mut given: Vec<(u64, Vec<u16>)> = Vec::new();
-            for i in self.able() {
-                let calls = THEM[i].1;
+            for (_, calls) in THEM {
                 self.page.fill(0);
                 let n = calls[3](self, k);
                 assert_eq!(calls[2](self, k), n);
@@ -134,10 +127,9 @@ fn compare(who: &Instance) {
     desk.agree();
     println!("{}: {} timetables, {} nodes in a table for {}", who.name, who.count, desk.table[0], who.nodes);
     let mut times = vec![vec![Vec::new(); THEM.len()]; CALLS.len()];
-    let able = desk.able();
     for block in 0..PICKS / BLOCK {
-        for turn in 0..able.len() {
-            let them = able[(turn + block as usize) % able.len()];
+        for turn in 0..THEM.len() {
+            let them = (turn + block as usize) % THEM.len();
             for (i, call) in THEM[them].1.iter().enumerate() {
                 times[i][them].push(desk.block(*call, block));
             }
@@ -146,13 +138,9 @@ fn compare(who: &Instance) {
     for (name, columns) in CALLS.iter().zip(&times) {
         print!("  {name:<8}");
         for x in columns {
-            if x.is_empty() {
-                print!(" {:>9} {:>9}", "-", "-");
-            } else {
-                print!(" {:>9.2} {:>9.2}", median(x), least(x));
-            }
+            print!(" {:>9.2} {:>9.2}", median(x), least(x));
         }
-        for x in columns[1..].iter().filter(|x| !x.is_empty()) {
+        for x in &columns[1..] {
             print!(" {:>9.2}", least(&columns[0]) / least(x));
         }
         println!();
