@@ -66,7 +66,7 @@ bench: $(archive)
 picks: $(archive)
 	$(bench_run) --bin picks
 
-# How many working words either, both and only want.
+# How many working words either, both, only and join want.
 words: $(archive)
 	$(bench_run) --bin words
 

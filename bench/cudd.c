@@ -63,6 +63,12 @@ void *shim_pair(void *dd, int op, void *a, void *b) {
     return f;
 }
 
+void *shim_join(void *dd, void *a, void *b) {
+    DdNode *f = Cudd_zddUnateProduct(dd, a, b);
+    Cudd_Ref(f);
+    return f;
+}
+
 void *shim_without(void *dd, void *a, int v) {
     DdNode *f = Cudd_zddSubset0(dd, a, v);
     Cudd_Ref(f);
@@ -76,6 +82,13 @@ void *shim_with(void *dd, void *a, int v) {
     DdNode *f = Cudd_zddChange(dd, g, v);
     Cudd_Ref(f);
     return f;
+}
+
+/* whether a is a node, and its children */
+int shim_node(void *a, void **lo, void **hi) {
+    if (cuddIsConstant((DdNode *)a)) return 0;
+    *lo = cuddE((DdNode *)a), *hi = cuddT((DdNode *)a);
+    return 1;
 }
 
 void *shim_zero(void *dd) { return DD_ZERO((DdManager *)dd); }

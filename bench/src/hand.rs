@@ -401,6 +401,43 @@ pub fn hand_cover(week: Week, t: &mut [u32], d: &[u64; 3], limit: u32, work: &mu
     Ok((answer, steps))
 }
 
+/// What is remembered of pairs, two places a word: the place and 16 bits beside the result tell the mixed pair.
+struct Pairs<'a>(&'a mut [u64]);
+
+/// The place of a pair.
+#[derive(Clone, Copy)]
+struct Place {
+    mixed: u32,
+    word: usize,
+    shift: usize,
+}
+
+impl Pairs<'_> {
+    #[inline(always)]
+    fn place(&self, x: u32, y: u32) -> Place {
+        let mixed = (x << 16 | y).wrapping_mul(4021839121);
+        let at = (mixed as u64 * (2 * self.0.len() as u64) >> 32) as usize;
+        Place { mixed, word: at / 2, shift: 32 * (at % 2) }
+    }
+
+    #[inline(always)]
+    fn get(&self, Place { mixed, word, shift }: Place) -> Option<u32> {
+        let known = (self.0[word] >> shift) as u32;
+        if known >> 16 == mixed & 65535 && known & 65535 != 0 {
+            return Some((known & 65535) - 1);
+        }
+        None
+    }
+
+    #[inline(always)]
+    fn put(&mut self, Place { mixed, word, shift }: Place, r: u32) {
+        if r < 65535 {
+            let new = ((mixed & 65535) << 16 | (r + 1)) as u64;
+            self.0[word] = self.0[word] & !(0xffff_ffff << shift) | new << shift;
+        }
+    }
+}
+
 struct Table<'a> {
     t: &'a mut [u32],
     keys: &'a [u32],
@@ -428,7 +465,7 @@ impl Table<'_> {
         }
     }
 
-    fn combine(&mut self, memo: &mut [u64], op: u8, f: u32, g: u32) -> Option<u32> {
+    fn combine(&mut self, memo: &mut Pairs, op: u8, f: u32, g: u32) -> Option<u32> {
         if f == 0 {
             return Some(if op == 0 { g } else { 0 });
         }
@@ -439,13 +476,9 @@ impl Table<'_> {
             return Some(if op < 2 { f } else { 0 });
         }
         let (x, y) = if op < 2 && g < f { (g, f) } else { (f, g) };
-        // two places a word; the place and 16 bits beside the result tell the mixed pair
-        let mixed = (x << 16 | y).wrapping_mul(4021839121);
-        let at = (mixed as u64 * (2 * memo.len() as u64) >> 32) as usize;
-        let shift = 32 * (at % 2);
-        let known = (memo[at / 2] >> shift) as u32;
-        if known >> 16 == mixed & 65535 && known & 65535 != 0 {
-            return Some((known & 65535) - 1);
+        let place = memo.place(x, y);
+        if let Some(known) = memo.get(place) {
+            return Some(known);
         }
         let (a, b) = (self.top(f), self.top(g));
         let (label, f1, g1, f0, g0) = if a < b {
@@ -461,10 +494,33 @@ impl Table<'_> {
         let h = self.combine(memo, op, f1, g1)?;
         let l = self.combine(memo, op, f0, g0)?;
         let r = self.make(label, l, h)?;
-        if r < 65535 {
-            let new = ((mixed & 65535) << 16 | (r + 1)) as u64;
-            memo[at / 2] = memo[at / 2] & !(0xffff_ffff << shift) | new << shift;
+        memo.put(place, r);
+        Some(r)
+    }
+
+    /// Of two that have no label in common.
+    fn join(&mut self, memo: &mut Pairs, f: u32, g: u32) -> Option<u32> {
+        if f == 0 || g == 0 {
+            return Some(0);
         }
+        if f == 1 {
+            return Some(g);
+        }
+        if g == 1 {
+            return Some(f);
+        }
+        let place = memo.place(f, g);
+        if let Some(known) = memo.get(place) {
+            return Some(known);
+        }
+        let ((p, f0, f1), (q, g0, g1)) = (self.node(f), self.node(g));
+        let (label, h, l) = if self.keys[p as usize] < self.keys[q as usize] {
+            (p, self.join(memo, f1, g)?, self.join(memo, f0, g)?)
+        } else {
+            (q, self.join(memo, f, g1)?, self.join(memo, f, g0)?)
+        };
+        let r = self.make(label, l, h)?;
+        memo.put(place, r);
         Some(r)
     }
 
@@ -492,6 +548,13 @@ impl Table<'_> {
     }
 }
 
+/// Many lent words as the memory, cleared.
+fn long(work: &mut [u64]) -> Pairs<'_> {
+    let words = work.len().min(1 << 31);
+    work[..words].fill(0);
+    Pairs(&mut work[..words])
+}
+
 /// either, both, only, with, without: 0 to 4.
 #[inline(never)]
 #[no_mangle]
@@ -514,11 +577,56 @@ pub fn hand_combine(op: u8, week: Week, t: &mut [u32], a: u32, b: u32, work: &mu
     let r = if op >= 3 {
         table.restrict(&mut [0; 65536], b, op == 3, a)
     } else if work.len() < 131072 {
-        table.combine(&mut [0; 32768], op, a, b)
+        table.combine(&mut Pairs(&mut [0; 32768]), op, a, b)
     } else {
-        let words = work.len().min(1 << 31);
-        work[..words].fill(0);
-        table.combine(&mut work[..words], op, a, b)
+        table.combine(&mut long(work), op, a, b)
+    };
+    if r.is_none() {
+        rollback(t, n);
+    }
+    r.ok_or(10)
+}
+
+/// The items of the packages on the nodes below a, whose children have smaller numbers.
+#[inline(never)]
+fn support(packs: &[[u64; 3]], t: &[u32], a: u32) -> Items {
+    let mut marks = [false; 65536];
+    let mut items = Items::of(&[0; 3]);
+    marks[a as usize] = true;
+    for k in (2..=a as usize).rev() {
+        if marks[k] {
+            let w = 3 * k - 5;
+            items = items.or(Items::of(&packs[t[w] as usize]));
+            marks[t[w + 1] as usize] = true;
+            marks[t[w + 2] as usize] = true;
+        }
+    }
+    items
+}
+
+#[inline(never)]
+#[no_mangle]
+pub fn hand_join(week: Week, t: &mut [u32], a: u32, b: u32, work: &mut [u64]) -> Result<u32, u32> {
+    let mut keys = [0; 512];
+    let mut index = Index([0; 131072]);
+    week.admit(t, &mut keys, &mut index)?;
+    let packs = week.packs;
+    let n = t[0];
+    if a >= n + 2 || b >= n + 2 {
+        return Err(5);
+    }
+    let (first, second) = (support(packs, t, a), support(packs, t, b));
+    if first.without(second) != first {
+        return Err(35);
+    }
+    if work.len() < a.max(b).max(1) as usize + 1 {
+        return Err(8);
+    }
+    let mut table = Table { t, keys: &keys[..packs.len()], index: &mut index };
+    let r = if work.len() < 131072 {
+        table.join(&mut Pairs(&mut [0; 32768]), a, b)
+    } else {
+        table.join(&mut long(work), a, b)
     };
     if r.is_none() {
         rollback(t, n);

@@ -1,6 +1,7 @@
 //! The library beside the same algorithm written by hand in Rust and, where it is installed, beside CUDD's ZDDs: instances of document 000's Table 1
-//! and queens compiled, rounds of with, without, either, both and only on what was compiled, and how a call's time grows with the nodes. An earlier archive
-//! stands beside it where one is given (see build.rs). CUDD's search takes the weeks in the plain order, of at most 64 items.
+//! and queens compiled, rounds of with, without, either, both and only on what was compiled, two such weeks joined, and how a call's time grows with the nodes.
+//! An earlier archive, without join, stands beside it where one is given (see build.rs). CUDD's search takes the weeks in the plain order, of at most 64 items,
+//! and each of two pools of so many.
 //!
 //! `bench [REPETITIONS]` prints the table. `bench WHO INSTANCE` does one repetition of one, for instruction counts (see bench/instructions).
 
@@ -17,7 +18,7 @@ mod instances;
 #[allow(dead_code)]
 mod old;
 
-use instances::{instances, Instance};
+use instances::{instances, pools, Instance, Pools};
 use std::cell::RefCell;
 use std::hint::black_box;
 use std::time::Instant;
@@ -145,12 +146,11 @@ fn before(who: &Instance) -> Times {
 
 #[cfg(cudd)]
 fn by_cudd(who: &Instance) -> Times {
-    assert!(who.plain());
-    let order = cudd::Order::new(&who.narrow().expect("at most 64 items"), who.optional[0]);
+    assert!(who.m <= 64);
+    let order = cudd::Order::new(who, &who.all());
     let manager = cudd::Manager::new(&order);
     let (mut keys, mut values) = (vec![1; who.places], vec![std::ptr::null_mut(); who.places]);
-    let d = who.all()[0];
-    repetition(who, || manager.cover(d, &mut keys, &mut values), |op, a, b, p| manager.combine(op, a, b, p), || {}, manager.zero())
+    repetition(who, || manager.cover(&mut keys, &mut values), |op, a, b, p| manager.combine(op, a, b, p), || {}, manager.zero())
 }
 
 fn median(mut x: Vec<f64>) -> f64 {
@@ -204,9 +204,15 @@ fn compare(who: &Instance, repetitions: usize) {
         who.nodes,
         who.places
     );
-    for (i, call) in CALLS.iter().enumerate() {
+    let times: Vec<Vec<[f64; 7]>> = times.into_iter().map(|t| t.into_iter().map(|x| x.0).collect()).collect();
+    rows(CALLS, &times);
+}
+
+/// A row for each call: for each who takes part, what its repetitions took, in microseconds, then the ratios.
+fn rows<const N: usize>(calls: [&str; N], times: &[Vec<[f64; N]>]) {
+    for (i, call) in calls.iter().enumerate() {
         print!("  {call:<8}");
-        let columns: Vec<Vec<f64>> = times.iter().map(|t| t.iter().map(|x| x.0[i] / 1000.0).collect()).collect();
+        let columns: Vec<Vec<f64>> = times.iter().map(|t| t.iter().map(|x| x[i] / 1000.0).collect()).collect();
         for x in &columns {
             if x.is_empty() {
                 print!(" {:>9} {:>9}", "-", "-");
@@ -234,6 +240,128 @@ fn compiled(who: &Instance) -> Lent {
     hand::hand_cover(who.by_hand(), &mut hand.table, &who.all(), u32::MAX, &mut hand.work).unwrap();
     assert_eq!(lent.table[0], hand.table[0], "nodes differ");
     lent
+}
+
+// ---- two pools
+
+/// The two covers together, and their join.
+const JOINED: [&str; 2] = ["covers", "join"];
+
+/// The nanoseconds of one repetition, for each of JOINED; and what was made: the nodes of the join and the timetables, by the table or by CUDD.
+struct JoinTimes([f64; 2], usize, u64);
+
+/// One repetition by calls on numbers: the two covers, and then the join.
+fn joined<A: Copy>(mut cover: impl FnMut(usize) -> A, mut join: impl FnMut(A, A) -> A) -> ([f64; 2], A) {
+    let started = Instant::now();
+    let (a, b) = black_box((cover(0), cover(1)));
+    let covers = started.elapsed().as_nanos() as f64;
+    let started = Instant::now();
+    let both = black_box(join(a, b));
+    ([covers, started.elapsed().as_nanos() as f64], both)
+}
+
+/// The nodes below an answer, its own included: children have smaller numbers.
+fn below(t: &[u32], a: u32) -> usize {
+    let mut marks = vec![false; a as usize + 2];
+    marks[a as usize] = true;
+    for k in (2..=a as usize).rev() {
+        if marks[k] {
+            marks[t[3 * k - 4] as usize] = true;
+            marks[t[3 * k - 3] as usize] = true;
+        }
+    }
+    marks[2..].iter().filter(|&&m| m).count()
+}
+
+/// By calls on a table and working words, as many as the rounds are lent.
+fn join_by_calls(
+    who: &Pools,
+    cover: impl Fn(&mut [u32], &[u64; 3], &mut [u64]) -> u32,
+    join: impl Fn(&mut [u32], u32, u32, &mut [u64]) -> u32,
+) -> JoinTimes {
+    let lent = RefCell::new(Lent::new(&who.week));
+    let (times, both) = joined(
+        |pool| {
+            let l = &mut *lent.borrow_mut();
+            cover(&mut l.table, &who.items[pool], &mut l.work)
+        },
+        |a, b| {
+            let l = &mut *lent.borrow_mut();
+            join(&mut l.table, a, b, &mut l.work[..2 * who.week.places])
+        },
+    );
+    let l = &mut *lent.borrow_mut();
+    let count = ffi::count(who.week.week(), &l.table, both, &mut l.work);
+    assert_eq!(count.refusal, 0);
+    JoinTimes(times, below(&l.table, both), count.value)
+}
+
+fn join_library(who: &Pools) -> JoinTimes {
+    let week = who.week.week();
+    join_by_calls(
+        who,
+        |t, d, work| answered(ffi::cover(week, t, d, u32::MAX, work)).0,
+        |t, a, b, work| answered(ffi::join(week, t, a, b, work)).0,
+    )
+}
+
+fn join_by_hand(who: &Pools) -> JoinTimes {
+    let week = who.week.by_hand();
+    join_by_calls(
+        who,
+        |t, d, work| hand::hand_cover(week, t, d, u32::MAX, work).unwrap().0,
+        |t, a, b, work| hand::hand_join(week, t, a, b, work).unwrap(),
+    )
+}
+
+#[cfg(cudd)]
+fn join_by_cudd(who: &Pools) -> JoinTimes {
+    let orders = [0, 1].map(|pool| cudd::Order::new(&who.week, &who.items[pool]));
+    let manager = cudd::Manager::new(&orders[0]);
+    let places = who.week.places;
+    let (mut keys, mut values) = (vec![1; places], vec![std::ptr::null_mut(); places]);
+    let (times, both) = joined(|pool| manager.cover_by(&orders[pool], &mut keys, &mut values).0, |a, b| manager.join(a, b));
+    let (nodes, count) = manager.size(both);
+    JoinTimes(times, nodes, count)
+}
+
+/// Who joins, by the columns' names; one who does not, as an earlier archive, has an empty column.
+fn joiner(name: &str) -> Option<fn(&Pools) -> JoinTimes> {
+    match name {
+        "library" => Some(join_library),
+        "by hand" | "hand" => Some(join_by_hand),
+        #[cfg(cudd)]
+        "CUDD" | "cudd" => Some(join_by_cudd),
+        _ => None,
+    }
+}
+
+fn compare_joins(who: &Pools, repetitions: usize) {
+    let them: Vec<_> = all_of_them().iter().map(|x| joiner(x.name)).collect();
+    let able: Vec<usize> = (0..them.len()).filter(|&i| them[i].is_some()).collect();
+    let mut times: Vec<Vec<[f64; 2]>> = vec![Vec::new(); them.len()];
+    let mut made = Vec::new();
+    // in turn, as above
+    for i in 0..able.len() * repetitions {
+        let turn = able[(i + i / able.len()) % able.len()];
+        let JoinTimes(t, nodes, count) = them[turn].unwrap()(who);
+        times[turn].push(t);
+        made.push((nodes, count));
+    }
+    let week = &who.week;
+    assert!(made.iter().all(|m| *m == (made[0].0, week.count)), "nodes or counts differ");
+    println!(
+        "{}: {} items{}, {} packages, a join of {} timetables and {} nodes, in a table for {}, memo of {} places",
+        week.name,
+        week.m,
+        if week.optional_items() == 0 { String::new() } else { format!(" ({} optional)", week.optional_items()) },
+        week.packs.len(),
+        week.count,
+        made[0].0,
+        week.nodes,
+        week.places
+    );
+    rows(JOINED, &times);
 }
 
 /// The check of the first n nodes of a table, in a table with just room for them: what every call does first.
@@ -271,8 +399,12 @@ fn once(who: &str, instance: &Instance) {
 
 fn main() {
     let args: Vec<String> = std::env::args().skip(1).collect();
-    let all = instances();
+    let (all, two) = (instances(), pools());
     if args.len() == 2 {
+        if let Some(who) = two.iter().find(|x| x.week.name == args[1]) {
+            joiner(&args[0]).expect("library, hand or cudd")(who);
+            return;
+        }
         return once(&args[0], all.iter().find(|i| i.name == args[1]).expect("an instance"));
     }
     let repetitions = args.first().map_or(101, |a| a.parse().expect("a number"));
@@ -285,9 +417,12 @@ fn main() {
     for who in &all {
         compare(who, repetitions);
     }
+    for who in &two {
+        compare_joins(who, repetitions);
+    }
     #[cfg(cudd)]
     {
-        let order = cudd::Order::new(&all[0].narrow().unwrap(), 0);
+        let order = cudd::Order::new(&all[0], &all[0].all());
         let times = (0..repetitions).map(|_| {
             let started = Instant::now();
             black_box(cudd::Manager::new(&order));

@@ -1,11 +1,14 @@
-//! How many working words either, both and only want: `both` of two answers made to meet in as many pairs of nodes as they can, by their nodes and the
-//! words lent. Weeks of a desk are not like these; the table shows where the words that are lent decide.
+//! How many working words either, both, only and join want: `both` of two answers made to meet in as many pairs of nodes as they can, by their nodes and the
+//! words lent, and `join` of such on separate items. Weeks of a desk are not like these; the tables show where the words that are lent decide.
 //!
 //! An answer is layered: for each of so many packages 128 nodes, whose lo and hi are those of the next package, shuffled twice, below a tree of 127 nodes.
 //! The two answers have the same packages and no node in common, so that all 128 × 128 pairs of each layer meet. Given is the slowest of three such pairs.
 //! Each call runs in a process of its own, which is ended after a while.
 //!
-//! `words [SECONDS]` prints the table. `words one DEPTH WORDS DRAW` makes one call and prints its seconds.
+//! For join the packages are in turns those of one answer and of the other, and there are fewer nodes in a layer: each pair that meets is a node of the join, so
+//! that no more than the table has room for do.
+//!
+//! `words [SECONDS]` prints the tables. `words one DEPTH WORDS DRAW` makes one call of `both` and prints its seconds.
 
 #[path = "../../../tests/rust/src/ffi.rs"]
 #[allow(dead_code)]
@@ -17,13 +20,18 @@ use std::time::{Duration, Instant};
 
 /// Nodes of a layer, packages of the tree above the layers, packages of the single sets below them.
 const WIDE: usize = 128;
-const TREE: usize = 7;
+const TREE: usize = WIDE.ilog2() as usize;
 const ENDS: usize = 16;
+/// Of join: nodes of a layer, and the layers of each answer.
+const SHAPES: [(usize, usize); 3] = [(8, 220), (16, 110), (32, 26)];
 
 /// The first numbers of the draws.
 const DRAWS: [u64; 3] = [1, 2, 3];
 const DEPTHS: [usize; 7] = [16, 24, 32, 56, 112, 168, 224];
 const WORDS: [usize; 5] = [2, 1 << 17, 1 << 18, 1 << 20, 1 << 22];
+
+/// Of join; the first are no more than answers of so few nodes need.
+const JOIN_WORDS: [usize; 5] = [6000, 1 << 17, 1 << 18, 1 << 20, 1 << 22];
 
 /// A fixed sequence of numbers that look random.
 struct Draw(u64);
@@ -62,15 +70,17 @@ impl Layers {
         lo.into_iter().zip(hi).map(|(lo, hi)| self.node(label, lo, hi)).collect()
     }
 
-    /// An answer of so many layers, over sets of one or two of the packages from `end` on.
-    fn answer(&mut self, depth: usize, end: usize) -> u32 {
-        let single: Vec<u32> = (1..=ENDS).map(|p| self.node(end + p, 0, 1)).collect();
-        let pairs = (0..WIDE).map(|i| (single[i % ENDS], single[(i % ENDS + i / ENDS) % ENDS]));
-        let mut below: Vec<u32> = pairs.map(|(lo, hi)| self.node(end, lo, hi)).collect();
-        for label in (TREE..TREE + depth).rev() {
+    /// An answer on these packages, which ascend: a tree, layers of so many nodes, and sets of one or two of the last.
+    fn answer(&mut self, wide: usize, packages: &[usize]) -> u32 {
+        let (above, end) = packages.split_at(packages.len() - 1 - ENDS);
+        let (tree, layers) = above.split_at(wide.ilog2() as usize);
+        let single: Vec<u32> = end[1..].iter().map(|&p| self.node(p, 0, 1)).collect();
+        let pairs = (0..wide).map(|i| (single[i % ENDS], single[(i % ENDS + i / ENDS) % ENDS]));
+        let mut below: Vec<u32> = pairs.map(|(lo, hi)| self.node(end[0], lo, hi)).collect();
+        for &label in layers.iter().rev() {
             below = self.layer(label, &below);
         }
-        for label in (0..TREE).rev() {
+        for &label in tree.iter().rev() {
             below = below.chunks(2).map(|two| self.node(label, two[0], two[1])).collect();
         }
         below[0]
@@ -79,16 +89,34 @@ impl Layers {
 
 /// The seconds of one call, and the nodes of the two answers together.
 fn one(depth: usize, words: usize, draw: u64) -> (f64, u32) {
-    let last = TREE + depth;
-    let packages: Vec<u64> = (0..last + 2 * (1 + ENDS)).flat_map(|p| [1 << (p / 8), 0, 0]).collect();
+    let (last, ends) = (TREE + depth, 1 + ENDS);
+    let packages: Vec<u64> = (0..last + 2 * ends).flat_map(|p| [1 << (p / 8), 0, 0]).collect();
     let mut layers = Layers { table: vec![0], draw: Draw(draw) };
-    let (a, b) = (layers.answer(depth, last), layers.answer(depth, last + 1 + ENDS));
+    let [a, b] = [last, last + ends].map(|end| layers.answer(WIDE, &(0..last).chain(end..end + ends).collect::<Vec<_>>()));
     let nodes = layers.table[0];
     let mut work = vec![1; words];
     let started = Instant::now();
     let r = ffi::combine(1, ffi::Week::plain(64, &packages), &mut layers.table, a, b, &mut work);
     assert_eq!((r.refusal, r.answer), (0, 0), "the two answers share no timetable");
     (started.elapsed().as_secs_f64(), nodes)
+}
+
+/// The seconds of a join, the nodes of the two answers together, and those that are made.
+fn one_join((wide, depth): (usize, usize), words: usize, draw: u64) -> (f64, u32, u32) {
+    let most = 2 * (wide.ilog2() as usize + depth + 1 + ENDS);
+    // package p has an item of the answer 0 or 1 that p is, in turns
+    let item = |p: usize| 2 * (p / 6) + p % 2;
+    let mut packages = vec![0; 3 * most];
+    (0..most).for_each(|p| packages[3 * p + item(p) / 64] = 1 << (item(p) % 64));
+    let mut layers = Layers { table: vec![0], draw: Draw(draw) };
+    let [a, b] = [0, 1].map(|turn| layers.answer(wide, &(turn..most).step_by(2).collect::<Vec<_>>()));
+    let nodes = layers.table[0];
+    layers.table.resize(1 + 3 * 65534, 0);
+    let mut work = vec![1; words];
+    let started = Instant::now();
+    let r = ffi::join(ffi::Week::plain(192, &packages), &mut layers.table, a, b, &mut work);
+    assert_eq!(r.refusal, 0);
+    (started.elapsed().as_secs_f64(), nodes, r.made)
 }
 
 /// The seconds of one call, by a process of its own; none where it takes longer than the seconds given.
@@ -130,6 +158,19 @@ fn main() {
             // none where one of them takes too long
             let slowest = DRAWS.iter().try_fold(0.0, |most: f64, &draw| Some(most.max(timed(depth, words, draw, seconds)?)));
             print!(" {:>9}", slowest.map_or("-".to_string(), |s| format!("{s:.3}")));
+        }
+        println!();
+    }
+    println!("seconds of `join`, by the nodes of the two answers together, the nodes made and the working words");
+    print!("{:>8} {:>10}", "nodes", "made");
+    JOIN_WORDS.iter().for_each(|w| print!(" {w:>9}"));
+    println!();
+    for shape in SHAPES {
+        let (_, nodes, made) = one_join(shape, JOIN_WORDS[0], 1);
+        print!("{nodes:>8} {made:>10}");
+        for words in JOIN_WORDS {
+            let slowest = DRAWS.iter().map(|&draw| one_join(shape, words, draw).0).fold(0.0, f64::max);
+            print!(" {slowest:>9.4}");
         }
         println!();
     }
