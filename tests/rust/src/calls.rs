@@ -299,11 +299,12 @@ impl History {
         self.compare(&format!("call {op} of {a} and {b}"), &before, expected, got);
     }
 
-    /// Operands for a join: mostly two answers above 1 whose packages have no item in common, where there are such.
+    /// Operands for a join: mostly two answers above 1 whose packages have no compulsory item in common, where there are such.
     fn two_operands(&mut self) -> (u32, u32) {
         let s = self.lent.model();
         let numbers: Vec<u32> = if self.strict { self.ledger.iter().map(|p| p.0).collect() } else { (0..self.known.len() as u32).collect() };
-        let items: Vec<(u32, Set)> = numbers.into_iter().filter(|&a| a >= 2).map(|a| (a, s.items(&self.known[a as usize]))).collect();
+        let compulsory = |a: u32| s.items(&self.known[a as usize]).without(self.lent.optional);
+        let items: Vec<(u32, Set)> = numbers.into_iter().filter(|&a| a >= 2).map(|a| (a, compulsory(a))).collect();
         let partners = |x: Set| items.iter().filter(|y| x.and(y.1) == Set::NONE).map(|y| y.0).collect::<Vec<u32>>();
         let first: Vec<&(u32, Set)> = items.iter().filter(|x| !partners(x.1).is_empty()).collect();
         if first.is_empty() || self.rng.once_in(4) {
@@ -657,11 +658,12 @@ fn many_timetables(rng: &mut Rng) -> (u32, Vec<Set>) {
     (m, sets)
 }
 
-/// Packages on the items of two halves, which lie mixed below M; sometimes a package that has items of both, or an item that packages of both share.
+/// Packages on the items of two halves, which lie mixed below M; sometimes a package that has items of both, or an item more that some packages of both have.
 fn two_halves(rng: &mut Rng) -> (u32, Vec<Set>, [Set; 2]) {
     let n = rng.from(4, MOST);
     let (first, second) = (rng.from(1, n.div_ceil(2).min(3)), rng.from(1, (n / 2).min(3)));
-    let (m, items) = few_items(rng, first + second);
+    let (m, mut items) = few_items(rng, first + second + 1);
+    let shared = items.pop().unwrap();
     let halves = [&items[..first as usize], &items[first as usize..]];
     let heavy = rng.from(2, 8);
     let mut sets: Vec<Set> = (0..n)
@@ -672,16 +674,19 @@ fn two_halves(rng: &mut Rng) -> (u32, Vec<Set>, [Set; 2]) {
             s
         })
         .collect();
-    let any = rng.below(sets.len() as u64) as usize;
+    let mut halves = halves.map(|half| Set::of(half.iter().copied()));
     match rng.below(9) {
-        0 => sets[any] = sets[any].or(Set::of([items[0], items[first as usize]])),
-        1 | 2 => {
-            let shared = random_item(rng, m);
+        0 => {
+            let any = rng.below(n) as usize;
+            sets[any] = sets[any].or(Set::of([items[0], items[first as usize]]));
+        }
+        1..=3 => {
             sets.iter_mut().filter(|_| rng.once_in(3)).for_each(|s| s.add(shared));
+            halves.iter_mut().for_each(|half| half.add(shared));
         }
         _ => {}
     }
-    (m, sets, halves.map(|half| Set::of(half.iter().copied())))
+    (m, sets, halves)
 }
 
 /// Optional items: often none, mostly some that leave each package a compulsory item; rarely also all items of a package, one that no package has, or one of M
