@@ -1,5 +1,6 @@
 /* A week at the pool: two schools and two slots, six packages, as document 01's example has them. Builds the bids file, reads it, covers all items, and
-   asks what the desk would ask; then once more with a slot that may go to the public, and once with the slots first. `make example` builds and runs it. */
+   asks what the desk would ask; joins the two schools planned apart; then once more with a slot that may go to the public, and once with the slots first.
+   `make example` builds and runs it. */
 #include <stdint.h>
 #include <stdio.h>
 #include <stdlib.h>
@@ -101,6 +102,15 @@ static void pages(const mogedorn_week *week, uint32_t all) {
     printf("pick past the end: refused %u\n", (unsigned)past.refusal);
 }
 
+/* School 0 with slot 0 and school 1 with slot 1, planned apart, as one programme. The whole week has items in common with each. */
+static void one_programme(const mogedorn_week *week, uint32_t all) {
+    static const uint64_t first[3] = {1 << 0 | 1 << 2}, second[3] = {1 << 1 | 1 << 3};
+    uint32_t a = answer("cover of school 0 and slot 0", mogedorn_week_cover(week, table, TABLE, first, 1000000, work, WORK));
+    uint32_t b = answer("cover of school 1 and slot 1", mogedorn_week_cover(week, table, TABLE, second, 1000000, work, WORK));
+    list(week, table, answer("join", mogedorn_week_join(week, table, TABLE, a, b, work, WORK)));
+    printf("join with the whole week: refused %u\n", (unsigned)mogedorn_week_join(week, table, TABLE, a, all, work, WORK).refusal);
+}
+
 /* The same bids where slot 1 may go to the public: at most one package has it. Another optional set, so another table. */
 static void open_swimming(const mogedorn_week *school_week, const uint64_t everything[3]) {
     mogedorn_week week = *school_week;
@@ -146,6 +156,7 @@ int main(void) {
     printf("  place %llu\n", (unsigned long long)k.value);
     with_and_without(&week, all);
     pages(&week, all);
+    one_programme(&week, all);
     open_swimming(&week, everything);
     slots_first(&week, everything);
     return 0;
@@ -176,6 +187,12 @@ only: answer 9, 0 steps, 0 nodes made
 measure 2: 2 packages
 pick 2 on a shorter page: refused 15
 pick past the end: refused 12
+cover of school 0 and slot 0: answer 10, 2 steps, 1 nodes made
+cover of school 1 and slot 1: answer 6, 3 steps, 0 nodes made
+join: answer 11, 0 steps, 1 nodes made
+  1 timetables
+  packages: 0 2
+join with the whole week: refused 35
 cover with slot 1 optional: answer 7, 9 steps, 6 nodes made
   4 timetables
   packages: 0 2
