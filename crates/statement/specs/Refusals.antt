@@ -1,5 +1,5 @@
 -- When each call is refused. A call's refusal is the number of the first test of its list that holds, 0 for none: each list is document 01's table
--- read down, with the lines that concern the call and, behind 2, those of document 02's No. 1 and 4. The calls that make an answer have theirs in `Calls`. Q
+-- read down, with the lines that concern the call and those of document 02: behind 2 No. 1's and 4's, behind 7 No. 5's. The calls that make an answer have theirs in `Calls`. Q
 -- is the problem, m is M, t has the table's words, and `words` is the number of working words. Assumes nothing.
 use mathlib.Core.Path.{_≡_}
 use mathlib.Core.Bool.{Bool, true, false, not, _&&_, _||_}
