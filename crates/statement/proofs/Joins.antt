@@ -1,7 +1,7 @@
 -- THEOREMS about join, from its contract [document 02, No. 5]. A join that answers has as many timetables as the product of its operands' numbers
 -- (`join-count`), and each is the union of one of a and one of b in just one way (`join-splits`). The join of (b, a) is refused as that of (a, b) is
 -- (`join-refused-alike`), and behind it it is found: the same number, and no node made (`join-turned`). With 1 a join is the other answer, with 0 it is 0, and
--- no node is made (`join-one`, `join-zero`). An answer from 2 on overlaps itself (`join-self`). Assumes nothing.
+-- no node is made (`join-one`, `one-join`, `join-zero`, `zero-join`). An answer from 2 on overlaps itself (`join-self`). Assumes nothing.
 use mathlib.Core.Path.{_≡_, refl, sym, ap, ap₂, _∙_}
 use mathlib.Core.Bool.{Bool, true, false, not, _||_, or-comm}
 use mathlib.Core.List.{List, [], _∷_}
@@ -167,22 +167,28 @@ module _ (Q : Problem) (m : ℕ) (t : List ℕ) (a b words : ℕ) {r : Report} {
   pub join-splits : (s : List ℕ) (x y : Joined (keysOf Q) (familyAt t a) (familyAt t b) s) → (x .first ≡ y .first) × (x .second ≡ y .second)
   join-splits = J.join-splits (keysOf Q) keys (familyAt t a) (familyAt t b) families-apart
 
+  -- the table has it, as x
+  found : (x : ℕ) → x < count t + 2 → join (keysOf Q) (familyAt t a) (familyAt t b) ≡ familyAt t x → (A .number ≡ x) × (r .made ≡ 0)
+  found x h q = (found-number A x h (sym q), found-made A x h (sym q))
+
   -- THEOREM: with 1 it is the other answer
   pub join-one : b ≡ 1 → (A .number ≡ a) × (r .made ≡ 0)
-  join-one e =
-      let q : familyAt t a ≡ join (keysOf Q) (familyAt t a) (familyAt t b) =
-      sym (ap (λ (x : ℕ). join (keysOf Q) (familyAt t a) (familyAt t x)) e ∙ ap (join (keysOf Q) (familyAt t a)) (family-one (nodesOf t))
-      ∙ J.join-one (keysOf Q) keys (familyAt t a) (listed a (T .first))) in
-      (found-number A a (T .first) q, found-made A a (T .first) q)
+  join-one e = found a (T .first)
+      (ap (join (keysOf Q) (familyAt t a)) (ap (familyAt t) e ∙ family-one (nodesOf t)) ∙ J.join-one (keysOf Q) keys (familyAt t a) (listed a (T .first)))
+
+  pub one-join : a ≡ 1 → (A .number ≡ b) × (r .made ≡ 0)
+  one-join e = found b (T .second)
+      (ap (λ (F : Family). join (keysOf Q) F (familyAt t b)) (ap (familyAt t) e ∙ family-one (nodesOf t)) ∙ J.one-join (keysOf Q) keys (familyAt t b) (listed b (T .second)))
 
   -- THEOREM: with 0 it is 0
   pub join-zero : b ≡ 0 → (A .number ≡ 0) × (r .made ≡ 0)
-  join-zero e =
-      let q : familyAt t 0 ≡ join (keysOf Q) (familyAt t a) (familyAt t b) =
-      family-zero (nodesOf t)
-      ∙ sym (ap (λ (x : ℕ). join (keysOf Q) (familyAt t a) (familyAt t x)) e ∙ ap (join (keysOf Q) (familyAt t a)) (family-zero (nodesOf t))
-      ∙ J.join-nil (keysOf Q) keys (familyAt t a)) in
-      (found-number A 0 (omega arith) q, found-made A 0 (omega arith) q)
+  join-zero e = found 0 (omega arith)
+      (ap (join (keysOf Q) (familyAt t a)) (ap (familyAt t) e ∙ family-zero (nodesOf t)) ∙ J.join-nil (keysOf Q) keys (familyAt t a) ∙ sym (family-zero (nodesOf t)))
+
+  pub zero-join : a ≡ 0 → (A .number ≡ 0) × (r .made ≡ 0)
+  zero-join e = found 0 (omega arith)
+      (ap (λ (F : Family). join (keysOf Q) F (familyAt t b)) (ap (familyAt t) e ∙ family-zero (nodesOf t)) ∙ J.nil-join (keysOf Q) keys (familyAt t b)
+      ∙ sym (family-zero (nodesOf t)))
 
   -- THEOREM: the join of (b, a) behind it has its number, and no node is made
   pub join-turned : (words₂ : ℕ) {r₂ : Report} {t₂ : List ℕ} (P₂ : JoinPost Q m t′ b a words₂ r₂ t₂) (z₂ : callRefusal Q m t′ (Join b a) words₂ ≡ 0)

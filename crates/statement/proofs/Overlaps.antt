@@ -2,7 +2,7 @@
 -- shares an item with one below the other. It is the same for (b, a) as for (a, b), and no answer overlaps 0 or 1. Assumes nothing.
 use mathlib.Core.Path.{_≡_, ap}
 use mathlib.Core.Logic.{_↔_}
-use mathlib.Core.Bool.{true, not}
+use mathlib.Core.Bool.{true, false, not}
 use mathlib.Core.List.{List}
 use Prim.Native.Nat.{ℕ, suc, _+_, _<_}
 use native.Mathlib.Omega.{arith}
@@ -15,6 +15,7 @@ use Rattle.itemset.proofs.Laws.{apart-holds, common-item}
 use Rattle.zdd.specs.Table.{Node, count, nodesOf, Nodes}
 use Rattle.zdd.specs.Below.{Labels, labelsBelow}
 use Rattle.zdd.proofs.Words.{length-nodes}
+use Rattle.zdd.proofs.Below.{below-le}
 use Rattle.zdd.proofs.Support.{labels-means}
 use Rattle.exact_cover.specs.Problem.{Problem, row}
 use Rattle.statement.specs.Refusals.{overlap}
@@ -75,3 +76,10 @@ overlap-comm Q t n a b ha hb =
     same-test (overlap Q t a b) (overlap Q t b a)
     (λ e. overlap-means Q t n b a hb ha .1 (overlap-turned (overlap-means Q t n a b ha hb .0 e)))
     (λ e. overlap-means Q t n a b ha hb .1 (overlap-turned (overlap-means Q t n b a hb ha .0 e)))
+
+-- THEOREM: 0 and 1 have no package
+pub end-clear : {K : List ℕ} (Q : Problem) (t : List ℕ) → Nodes K (nodesOf t) → (a b : ℕ) → a < 2 → b < count t + 2 → overlap Q t a b ≡ false
+end-clear Q t n a b l hb =
+    is-false (overlap Q t a b) (λ e.
+    let L = overlap-means Q t n a b (omega arith) hb .0 e .one-below in
+    omega (arith, L .branch, below-le n (L .below)))
