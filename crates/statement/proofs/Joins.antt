@@ -40,7 +40,7 @@ use Rattle.statement.proofs.Kept.{keeps}
 use Rattle.statement.proofs.Made.{found-number, found-made}
 use Rattle.statement.proofs.Overlaps.{overlap-means, overlap-comm}
 
--- ---- answers that overlap have a package in common
+-- ---- answers that have a package in common overlap
 
 module _ (Q : Problem) (t : List ℕ) (R : Rows Q) (S : Sound (keysOf Q) t) where
   -- a package on a node has an item

@@ -18,7 +18,7 @@ use Rattle.zdd.specs.Below.{Below, itself, by-lo, by-hi}
 use Rattle.zdd.proofs.Words.{length-nodes, at-word, node-at}
 use Rattle.zdd.proofs.TableLaws.{fine-at}
 use Rattle.zdd.proofs.Below.{below-known}
-use Rattle.zdd.proofs.Support.{below-trans}
+use Rattle.zdd.proofs.Support.{below-trans, own-label, labels-up}
 use Rattle.exact_cover.specs.Problem.{Problem}
 use Rattle.statement.specs.Refusals.{overlap}
 use Rattle.statement.proofs.Overlaps.{overlap-means}
@@ -149,16 +149,13 @@ module _ {packages : List ℕ} {ns : List Node} {a : ℕ} where
       only = λ j t. ⊎-elim (M .only j)
           (λ q. record {
             label = getD ns i blank .label;
-            below = record { number = suc (suc i); branch = omega arith; below = under; label = at-two };
+            below = labels-up under (own-label ns i);
             held = q;
           }) (or-cases (holds j x) _ (sym (added j) ∙ t));
       all = λ j h b v p t. added h ∙ ⊎-elim
           (λ q. or-right (holds h x) _ (subst (λ (n : ℕ). holds h (getD packages (getD ns n blank .label) 0) ≡ true) q t))
           (λ q. or-left (holds h x) _ (M .all j h q v (early j b p) t)) (this j b);
     }
-      where
-        at-two : getD ns (suc (suc i) - 2) blank .label ≡ getD ns i blank .label
-        at-two = let q : suc (suc i) - 2 ≡ i = omega arith in ap (λ (j : ℕ). getD ns j blank .label) q
 
 -- ---- by the words of the table t
 

@@ -1,6 +1,6 @@
 -- The labels of the nodes below a number. THEOREMS: they are as listed (`labels-means`), and every label of a set of the number's family is one of them
 -- (`family-labels`). Assumes nothing.
-use mathlib.Core.Path.{_≡_, refl, sym, ap, _∙_}
+use mathlib.Core.Path.{_≡_, refl, sym, ap, _∙_, subst⁻¹}
 use mathlib.Core.Logic.{⊎-elim, _↔_}
 use mathlib.Core.Bool.{true}
 use mathlib.Core.List.{List, [], _∷_, Memᴰ·cast, Memᴰ·map, Memᴰ·of-map, List·Memᴰ·cases-cons, List·Memᴰ·not-nil}
@@ -20,7 +20,14 @@ below-trans itself c = c
 below-trans (by-lo i w b) c = by-lo i w (below-trans b c)
 below-trans (by-hi i w b) c = by-hi i w (below-trans b c)
 
-labels-up : {ns : List Node} {a b p : ℕ} → Below ns a b → Labels ns b p → Labels ns a p
+-- a node's own label
+pub own-label : (ns : List Node) (i : ℕ) → Labels ns (suc (suc i)) (getD ns i blank .label)
+own-label ns i =
+    let e : suc (suc i) - 2 ≡ i = omega arith in
+    record { number = suc (suc i); branch = omega arith; below = itself; label = ap (λ (j : ℕ). getD ns j blank .label) e }
+
+-- what is below a number is below those above it
+pub labels-up : {ns : List Node} {a b p : ℕ} → Below ns a b → Labels ns b p → Labels ns a p
 labels-up x L = record { number = L .number; branch = L .branch; below = below-trans x (L .below); label = L .label }
 
 module _ {K : List ℕ} {ns : List Node} (n : Nodes K ns) where
@@ -45,9 +52,6 @@ module _ {K : List ℕ} {ns : List Node} (n : Nodes K ns) where
       (λ i w r l u p e d. at i w r l u p e d)
       a h
     where
-      at-two : (i : ℕ) → getD ns (suc (suc i) - 2) blank .label ≡ getD ns i blank .label
-      at-two i = let e : suc (suc i) - 2 ≡ i = omega arith in ap (λ (j : ℕ). getD ns j blank .label) e
-
       at : (i : ℕ) → i < length ns
           → ((u : List ℕ) (p : ℕ) → elem u (family ns (getD ns i blank .hi)) ≡ true → has p u ≡ true → Labels ns (getD ns i blank .hi) p)
           → ((u : List ℕ) (p : ℕ) → elem u (family ns (getD ns i blank .lo)) ≡ true → has p u ≡ true → Labels ns (getD ns i blank .lo) p)
@@ -58,7 +62,7 @@ module _ {K : List ℕ} {ns : List Node} (n : Nodes K ns) where
       at i w r l (q ∷ u) p e d =
           ⊎-elim
           (λ a. ⊎-elim
-          (λ b. record { number = suc (suc i); branch = omega arith; below = itself; label = at-two i ∙ sym (a .0) ∙ sym (eqb-true p q b) })
+          (λ b. subst⁻¹ (Labels ns (suc (suc i))) (eqb-true p q b ∙ a .0) (own-label ns i))
           (λ b. labels-up (by-hi i w itself) (r u p (a .1) b))
           (or-cases _ (has p u) d))
           (λ a. labels-up (by-lo i w itself) (l (q ∷ u) p a d))
