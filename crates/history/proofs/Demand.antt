@@ -15,7 +15,7 @@ use Rattle.zdd.proofs.Grow.{family-zero, family-one}
 use Rattle.zdd.proofs.Canon.{canonical}
 use Rattle.zdd.proofs.Words.{length-nodes}
 use Rattle.zdd.proofs.Tested.{sound-of}
-use Rattle.zdd.proofs.Join.{unites-same}
+use Rattle.zdd.proofs.Join.{unites-turn, unites-same}
 use Rattle.zdd.proofs.Listing.{filter-same, filter-none, elem-filter}
 use Rattle.exact_cover.specs.Problem.{Problem}
 use Rattle.exact_cover.specs.Cover.{keysOf}
@@ -72,6 +72,10 @@ makes-same Q F G s (Only a b) e h = rw (h a (List·Memᴰ·head refl) s e, h b (
 makes-same Q F G s (With a p) e h = rw (h a (List·Memᴰ·head refl) s e)
 makes-same Q F G s (Without a p) e h = rw (h a (List·Memᴰ·head refl) s e)
 makes-same Q F G s (Join a b) e h = unites-same (keysOf Q) (F a) (F b) (G a) (G b) (h a (List·Memᴰ·head refl)) (h b (List·Memᴰ·tail (List·Memᴰ·head refl))) s
+
+-- THEOREM: joins of (a, b) and of (b, a) post one set, so that in every history they have one number (`Demanded .numbers`)
+pub joins-turned : (Q : Problem) (of : ℕ → Chosen) (a b : ℕ) → SameSet Q (makes Q of (Join a b)) (makes Q of (Join b a))
+joins-turned Q of a b s e = unites-turn (keysOf Q) (of a) (of b) s
 
 -- ---- the ledger: each number given has a posting
 

@@ -66,6 +66,13 @@ unites-means K X Y s = (
       (any-there _ (sets K) (r .second) (elem-in (r .second) (sets K) (r .second-set)) (and-both (Y (r .second)) _ (r .second-in) (r .union)))),
 )
 
+-- the tests the other way round
+pub unites-turn : (K : List ℕ) (X Y : List ℕ → Bool) (s : List ℕ) → unites K X Y s ≡ unites K Y X s
+unites-turn K X Y s = same-test (unites K X Y s) (unites K Y X s) (turn X Y) (turn Y X)
+  where
+    turn : (X Y : List ℕ → Bool) → unites K X Y s ≡ true → unites K Y X s ≡ true
+    turn X Y e = unites-means K Y X s .1 (united-turn (unites-means K X Y s .0 e))
+
 -- the unions depend on which sets pass, and on nothing else
 pub unites-same : (K : List ℕ) (X Y X′ Y′ : List ℕ → Bool)
     → ((u : List ℕ) → elem u (sets K) ≡ true → X u ≡ X′ u) → ((v : List ℕ) → elem v (sets K) ≡ true → Y v ≡ Y′ v)
