@@ -5,6 +5,7 @@ use Prim.Native.Nat.{ℕ, suc, _+_, _-_, _*_, _<_}
 use native.Mathlib.Omega.{arith}
 use lib.ListN.{length, length-append, length-map}
 use Rattle.zdd.specs.Table.{Family, fork, count, nodesOf, key, Fine}
+use Rattle.zdd.specs.Work.{From}
 use Rattle.zdd.proofs.Words.{at-word, length-nodes}
 use Rattle.zdd.proofs.Grow.{family-zero, family-one}
 use Rattle.zdd.proofs.Canon.{family-some}
@@ -64,3 +65,9 @@ module _ {t : List ℕ} (R : Readable t) where
             from-avoids (R .keys) (suc (key (R .keys) (labelOf t k))) (labelOf t k) (familyAt t (loOf t k))
             (family-from (R .sound .nodes) (loOf t k) (omega (arith, f .lo-below, length-nodes t)) (suc (key (R .keys) (labelOf t k))) (f .lo-after)) (omega arith);
       }
+
+  -- the labels of hi's sets come behind the node's
+  pub hi-from : (k : ℕ) → 1 < k → k < count t + 2 → From (R .keys) (suc (key (R .keys) (labelOf t k))) (familyAt t (hiOf t k))
+  hi-from k l h =
+      let f = fine-at (R .sound) k (1 + 3 * (k - 2)) (omega arith) h refl in
+      family-from (R .sound .nodes) (hiOf t k) (omega (arith, f .hi-below, length-nodes t)) (suc (key (R .keys) (labelOf t k))) (f .hi-after)

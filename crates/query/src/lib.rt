@@ -1,13 +1,15 @@
-// Questions to a sound table: how many sets a number holds, which is the k-th and how long it is, where a set stands, and which is the cheapest.
+// Questions to a sound table: how many sets a number holds, which is the k-th and how long it is, where a set stands, which is the cheapest, and which is closest to
+// a given one.
 ghost use mathlib.Core.Path.{_≡_};
 ghost use mathlib.Core.Bool.{true, false};
 ghost use mathlib.Core.List.{_++_};
 ghost use Prim.Native.Nat.{ℕ, _+_, _-_, _*_, _<_, _≤_, min};
 ghost use lib.ListN.{length, getD, drop};
 ghost use Rattle.zdd.specs.Table.{count as nodes};
-ghost use Rattle.query.specs.Questions.{familyAt, nth, cost, cheapest as cheapestOf, inPrecedence};
-ghost use Rattle.query.specs.Reading.{labelOf, loOf, hiOf, Readable, Branch, Filled, countWord, Priceable, costWord, Choice};
-ghost use Rattle.query.specs.Answers.{Told, Wrote, PlaceFound, Bought};
+ghost use Rattle.query.specs.Questions.{familyAt, nth, cost, cheapest as cheapestOf, difference, closest as closestOf, anyUnknown, inPrecedence};
+ghost use Rattle.query.specs.Reading.{labelOf, loOf, hiOf, Readable, Branch, Filled, countWord};
+ghost use Rattle.query.specs.Reading.{Priceable, Comparable, weight, lightest as lightestOf, Weighable, weightWord, Choice, Marked};
+ghost use Rattle.query.specs.Answers.{Told, Wrote, PlaceFound, Weighed};
 
 // How many: the number, or more than 64 bits hold.
 pub enum Tally {
@@ -27,10 +29,17 @@ pub enum Spot {
     Absent,
 }
 
-// How many packages the cheapest set has, which were written to the page, and its cost; or the page is too short.
-pub enum Cheap {
-    Found { packages: usize, cost: u32 },
+// How many packages the lightest set has, which were written to the page, and its weight: for `cheapest` its cost, for `closest` its difference; or the
+// page is too short.
+pub enum Chosen {
+    Found { packages: usize, weight: u32 },
     NoRoom,
+}
+
+// How a set is weighed: from `start` on, each package adds what the weights have for it, less `bias`.
+pub struct Scale {
+    pub start: u64,
+    pub bias: u64,
 }
 
 // The label, lo and hi of node k.
@@ -245,71 +254,89 @@ fn long(x: u16) -> u64
     x as u64
 }
 
-// The cost of package p.
-fn price(costs: &[u16], p: u32) -> u64
-    requires { ⌜ p < length (now costs) ⌝ }
-    ensures { λ r. ⌜ (r ≡ getD (now (costs .entry)) p 0) × (r ≤ 65535) ⌝ }
+// What the weights have for package p.
+fn weight_of(weights: &[u16], p: u32) -> u64
+    requires { ⌜ p < length (now weights) ⌝ }
+    ensures { λ r. ⌜ r ≡ getD (now (weights .entry)) p 0 ⌝ }
 {
     let at = base::wide(p);
-    long(costs[at])
+    long(weights[at])
 }
 
-// Whether the cheapest set of node k is among hi's, from the least costs of the numbers below.
-fn takes_hi(costs: &[u16], t: &[u32], k: usize, work: &[u64]) -> bool
-    requires { ⌜ Priceable (now t) (now costs) ⌝ }
-    requires { ⌜ (1 < k) × (k < nodes (now t) + 2) ⌝ }
-    requires { ⌜ Filled (costWord (now costs) (now t)) k (now work) ⌝ }
-    ensures { λ r. ⌜ Choice (now (costs .entry)) (now (t .entry)) k r ⌝ }
+// What hi's lightest set weighs with the label of node k, the bias not yet taken off.
+fn weight_hi(weights: &[u16], t: &[u32], k: usize, work: &[u64]) -> u64
+    requires { ⌜ Branch (now t) k ⌝ }
+    requires { ⌜ (labelOf (now t) k < length (now weights)) × (hiOf (now t) k < length (now work)) ⌝ }
+    requires { ⌜ getD (now weights) (labelOf (now t) k) 0 + getD (now work) (hiOf (now t) k) 0 ≤ 4294967296 ⌝ }
+    ensures { λ r. ⌜ r ≡ getD (now (weights .entry)) (labelOf (now (t .entry)) k) 0 + getD (now (work .entry)) (hiOf (now (t .entry)) k) 0 ⌝ }
 {
-    let l = lo(t, k);
-    if l == 0 {
-        return true;
-    }
     let h = hi(t, k);
     let p = label(t, k);
-    price(costs, p) + work[h] <= work[l]
+    weight_of(weights, p) + work[h]
 }
 
-// The least cost of number k, from those of the numbers below.
-fn cost_word(costs: &[u16], t: &[u32], k: usize, work: &[u64]) -> u64
-    requires { ⌜ Priceable (now t) (now costs) ⌝ }
-    requires { ⌜ (0 < k) × (k < nodes (now t) + 2) ⌝ }
-    requires { ⌜ Filled (costWord (now costs) (now t)) k (now work) ⌝ }
-    ensures { λ r. ⌜ r ≡ costWord (now (costs .entry)) (now (t .entry)) k ⌝ }
+// What lo's lightest set weighs, with the bias added; more than any where there is none.
+fn weight_lo(bias: u64, t: &[u32], k: usize, work: &[u64]) -> u64
+    requires { ⌜ Branch (now t) k ⌝ }
+    requires { ⌜ loOf (now t) k < length (now work) ⌝ }
+    requires { ⌜ (getD (now work) (loOf (now t) k) 0 ≤ 4294967296) × (bias ≤ 65535) ⌝ }
+    ensures { λ r. ⌜ r ≡ getD (now (work .entry)) (loOf (now (t .entry)) k) 0 + bias ⌝ }
 {
-    if k == 1 {
-        return 0;
-    }
-    if takes_hi(costs, t, k, work) {
-        let h = hi(t, k);
-        let p = label(t, k);
-        return price(costs, p) + work[h];
-    }
     let l = lo(t, k);
-    work[l]
+    work[l] + bias
 }
 
-// The least cost of each number up to a.
-fn prices(costs: &[u16], t: &[u32], a: usize, work: &mut [u64])
-    requires { ⌜ Priceable (now t) (now costs) ⌝ }
-    requires { ⌜ (a < nodes (now t) + 2) × (a < length (now work)) ⌝ }
-    ensures { λ _. ⌜ Filled (costWord (now (costs .entry)) (now (t .entry))) (a + 1) (now (work .exit)) ⌝ }
+// Whether the lightest set of node k is among hi's, from the least weights of the numbers below.
+fn takes_hi(weights: &[u16], scale: Scale, t: &[u32], k: usize, work: &[u64]) -> bool
+    requires { ⌜ Weighable (now t) (now weights) scale ⌝ }
+    requires { ⌜ (1 < k) × (k < nodes (now t) + 2) ⌝ }
+    requires { ⌜ Filled (weightWord (now weights) scale (now t)) k (now work) ⌝ }
+    ensures { λ r. ⌜ Choice (now (weights .entry)) scale (now (t .entry)) k r ⌝ }
 {
-    work[0] = 0;
-    let mut k = 1;
+    weight_hi(weights, t, k, work) <= weight_lo(scale.bias, t, k, work)
+}
+
+fn lesser(x: u64, y: u64) -> u64
+    ensures { λ r. ⌜ r ≡ min x y ⌝ }
+{
+    if x <= y { x } else { y }
+}
+
+// The least weight of node k, from those of the numbers below: no branch, since which child it is cannot be foreseen.
+fn weight_word(weights: &[u16], scale: Scale, t: &[u32], k: usize, work: &[u64]) -> u64
+    requires { ⌜ Weighable (now t) (now weights) scale ⌝ }
+    requires { ⌜ (1 < k) × (k < nodes (now t) + 2) ⌝ }
+    requires { ⌜ Filled (weightWord (now weights) scale (now t)) k (now work) ⌝ }
+    ensures { λ r. ⌜ r ≡ weightWord (now (weights .entry)) scale (now (t .entry)) k ⌝ }
+{
+    let x = weight_hi(weights, t, k, work);
+    let y = weight_lo(scale.bias, t, k, work);
+    lesser(x, y) - scale.bias
+}
+
+// The least weight of each number up to a; the word of 0, which holds no set, is more than any.
+fn weigh(weights: &[u16], scale: Scale, t: &[u32], a: usize, work: &mut [u64])
+    requires { ⌜ Weighable (now t) (now weights) scale ⌝ }
+    requires { ⌜ (0 < a) × (a < nodes (now t) + 2) ⌝ }
+    requires { ⌜ a < length (now work) ⌝ }
+    ensures { λ _. ⌜ Filled (weightWord (now (weights .entry)) scale (now (t .entry))) (a + 1) (now (work .exit)) ⌝ }
+{
+    work[0] = 4294967296;
+    work[1] = scale.start;
+    let mut k = 2;
     while k <= a {
-        let c = cost_word(costs, t, k, work);
-        work[k] = c;
+        let w = weight_word(weights, scale, t, k, work);
+        work[k] = w;
         k += 1;
     }
 }
 
-// How many packages the cheapest set of number a has: down from a, by hi where the set is among hi's, until 1.
-fn measure_cheapest(costs: &[u16], t: &[u32], a: usize, work: &[u64]) -> usize
-    requires { ⌜ Priceable (now t) (now costs) ⌝ }
+// How many packages the lightest set of number a has: down from a, by hi where the set is among hi's, until 1.
+fn measure_lightest(weights: &[u16], scale: Scale, t: &[u32], a: usize, work: &[u64]) -> usize
+    requires { ⌜ Weighable (now t) (now weights) scale ⌝ }
     requires { ⌜ (0 < a) × (a < nodes (now t) + 2) ⌝ }
-    requires { ⌜ Filled (costWord (now costs) (now t)) (a + 1) (now work) ⌝ }
-    ensures { λ r. ⌜ r ≡ length (cheapestOf (now (costs .entry)) (familyAt (now (t .entry)) a)) ⌝ }
+    requires { ⌜ Filled (weightWord (now weights) scale (now t)) (a + 1) (now work) ⌝ }
+    ensures { λ r. ⌜ r ≡ length (lightestOf (now (weights .entry)) scale (familyAt (now (t .entry)) a)) ⌝ }
 {
     let mut node = a;
     let mut n: usize = 0;
@@ -317,7 +344,7 @@ fn measure_cheapest(costs: &[u16], t: &[u32], a: usize, work: &[u64]) -> usize
         if node == 1 {
             break n;
         }
-        if takes_hi(costs, t, node, work) {
+        if takes_hi(weights, scale, t, node, work) {
             n += 1;
             node = hi(t, node);
             continue;
@@ -327,12 +354,19 @@ fn measure_cheapest(costs: &[u16], t: &[u32], a: usize, work: &[u64]) -> usize
 }
 
 // The same walk, which writes the packages to the start of the page.
-fn write_cheapest(costs: &[u16], t: &[u32], a: usize, work: &[u64], page: &mut [u16]) -> usize
-    requires { ⌜ Priceable (now t) (now costs) ⌝ }
+fn write_lightest(
+    weights: &[u16],
+    scale: Scale,
+    t: &[u32],
+    a: usize,
+    work: &[u64],
+    page: &mut [u16],
+) -> usize
+    requires { ⌜ Weighable (now t) (now weights) scale ⌝ }
     requires { ⌜ (0 < a) × (a < nodes (now t) + 2) ⌝ }
-    requires { ⌜ Filled (costWord (now costs) (now t)) (a + 1) (now work) ⌝ }
-    requires { ⌜ length (cheapestOf (now costs) (familyAt (now t) a)) ≤ length (now page) ⌝ }
-    ensures { λ r. ⌜ Wrote (cheapestOf (now (costs .entry)) (familyAt (now (t .entry)) a)) (now (page .entry)) (now (page .exit)) (Written.Packages r) ⌝ }
+    requires { ⌜ Filled (weightWord (now weights) scale (now t)) (a + 1) (now work) ⌝ }
+    requires { ⌜ length (lightestOf (now weights) scale (familyAt (now t) a)) ≤ length (now page) ⌝ }
+    ensures { λ r. ⌜ Wrote (lightestOf (now (weights .entry)) scale (familyAt (now (t .entry)) a)) (now (page .entry)) (now (page .exit)) (Written.Packages r) ⌝ }
 {
     let mut node = a;
     let mut n: usize = 0;
@@ -340,7 +374,7 @@ fn write_cheapest(costs: &[u16], t: &[u32], a: usize, work: &[u64], page: &mut [
         if node == 1 {
             break n;
         }
-        if takes_hi(costs, t, node, work) {
+        if takes_hi(weights, scale, t, node, work) {
             let p = label(t, node);
             page[n] = p as u16;
             n += 1;
@@ -351,25 +385,44 @@ fn write_cheapest(costs: &[u16], t: &[u32], a: usize, work: &[u64], page: &mut [
     }
 }
 
+// Of the sets of number a with the least weight the first listed, to the start of the page: measured first, and written only where it fits.
+fn lightest(
+    weights: &[u16],
+    scale: Scale,
+    t: &[u32],
+    a: usize,
+    work: &mut [u64],
+    page: &mut [u16],
+) -> Chosen
+    requires { ⌜ Weighable (now t) (now weights) scale ⌝ }
+    requires { ⌜ (0 < a) × (a < nodes (now t) + 2) ⌝ }
+    requires { ⌜ a < length (now work) ⌝ }
+    ensures { λ r. ⌜ Weighed (lightestOf (now (weights .entry)) scale (familyAt (now (t .entry)) a))
+        (weight (now (weights .entry)) scale (lightestOf (now (weights .entry)) scale (familyAt (now (t .entry)) a))) (now (page .entry)) (now (page .exit)) r ⌝ }
+{
+    weigh(weights, scale, t, a, work);
+    let n = measure_lightest(weights, scale, t, a, work);
+    if page.len() < n {
+        return Chosen::NoRoom;
+    }
+    let m = write_lightest(weights, scale, t, a, work, page);
+    let x = work[a] as u32;
+    Chosen::Found {
+        packages: m,
+        weight: x,
+    }
+}
+
 // Of the sets of number a with the least cost the first listed, to the start of the page.
-pub fn cheapest(costs: &[u16], t: &[u32], a: usize, work: &mut [u64], page: &mut [u16]) -> Cheap
+pub fn cheapest(costs: &[u16], t: &[u32], a: usize, work: &mut [u64], page: &mut [u16]) -> Chosen
     requires { ⌜ Priceable (now t) (now costs) ⌝ }
     requires { ⌜ (0 < a) × (a < nodes (now t) + 2) ⌝ }
     requires { ⌜ a < length (now work) ⌝ }
-    ensures { λ r. ⌜ Bought (cheapestOf (now (costs .entry)) (familyAt (now (t .entry)) a))
+    ensures { λ r. ⌜ Weighed (cheapestOf (now (costs .entry)) (familyAt (now (t .entry)) a))
         (cost (now (costs .entry)) (cheapestOf (now (costs .entry)) (familyAt (now (t .entry)) a))) (now (page .entry)) (now (page .exit)) r ⌝ }
 {
-    prices(costs, t, a, work);
-    let n = measure_cheapest(costs, t, a, work);
-    if page.len() < n {
-        return Cheap::NoRoom;
-    }
-    let m = write_cheapest(costs, t, a, work, page);
-    let x = work[a] as u32;
-    Cheap::Found {
-        packages: m,
-        cost: x,
-    }
+    let scale = Scale { start: 0, bias: 0 };
+    lightest(costs, scale, t, a, work, page)
 }
 
 fn index(x: u16) -> usize
@@ -401,4 +454,36 @@ pub fn in_precedence(s: &[u16], keys: &[u32]) -> bool
         i += 1;
     }
     true
+}
+
+// The weights of the packages of s become 0.
+fn mark(s: &[u16], weights: &mut [u16; 512])
+    requires { ⌜ length (now weights) ≡ 512 ⌝ }
+    requires { ⌜ anyUnknown (now weights) (now s) ≡ false ⌝ }
+    ensures { λ _. ⌜ Marked (now (s .entry)) (now (weights .entry)) (now (weights .exit)) ⌝ }
+{
+    let mut i: usize = 0;
+    while i < s.len() {
+        let p = index(s[i]);
+        weights[p] = 0;
+        i += 1;
+    }
+}
+
+// Of the sets of number a that differ from s in the fewest packages the first listed, to the start of the page. The empty set lacks all of s; each package
+// makes the difference one less where s has it, and else one more.
+pub fn closest(s: &[u16], t: &[u32], a: usize, work: &mut [u64], page: &mut [u16]) -> Chosen
+    requires { ⌜ Comparable (now t) (now s) ⌝ }
+    requires { ⌜ (0 < a) × (a < nodes (now t) + 2) ⌝ }
+    requires { ⌜ a < length (now work) ⌝ }
+    ensures { λ r. ⌜ Weighed (closestOf (now (s .entry)) (familyAt (now (t .entry)) a))
+        (difference (now (s .entry)) (closestOf (now (s .entry)) (familyAt (now (t .entry)) a))) (now (page .entry)) (now (page .exit)) r ⌝ }
+{
+    let mut weights = [2u16; 512];
+    mark(s, &mut weights);
+    let scale = Scale {
+        start: s.len() as u64,
+        bias: 1,
+    };
+    lightest(&weights, scale, t, a, work, page)
 }

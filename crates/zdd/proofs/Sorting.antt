@@ -94,3 +94,21 @@ order-sorted K k = sorted-to K k (length K) (omega arith)
 pub order-all : (K : List ℕ) (r : ℕ) → r < length K → has r (order K) ≡ true
 unfolding order
 order-all K r h = order-has K (length K) r h
+
+length-insert : (K : List ℕ) (p : ℕ) (qs : List ℕ) → length (insertBy K p qs) ≡ suc (length qs)
+unfolding insertBy
+length-insert K p [] = refl
+length-insert K p (q ∷ qs) = go (ltb (key K p) (key K q)) (length-insert K p qs)
+  where
+    go : (b : Bool) → length (insertBy K p qs) ≡ suc (length qs) → length (cond b (p ∷ q ∷ qs) (q ∷ insertBy K p qs)) ≡ suc (suc (length qs))
+    go true e = refl
+    go false e = ap suc e
+
+length-to : (K : List ℕ) (n : ℕ) → length (orderTo K n) ≡ n
+unfolding orderTo
+length-to K zero = refl
+length-to K (suc n) = length-insert K n (orderTo K n) ∙ ap suc (length-to K n)
+
+pub length-order : (K : List ℕ) → length (order K) ≡ length K
+unfolding order
+length-order K = length-to K (length K)

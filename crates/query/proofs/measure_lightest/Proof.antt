@@ -1,18 +1,19 @@
-use Rattle.query.proofs.CostWords.{filled-less, at-end, Way, way-start, mark, way-hi, way-lo, goes-hi, goes-lo}
+use Rattle.query.proofs.WeightWords.{filled-less, at-end, Way, way-start, mark, way-hi, way-lo, goes-hi, goes-lo}
 use Rattle.query.proofs.Parts.{branch}
-use Rattle.query.specs.Questions.{familyAt, cheapest}
+use Rattle.query.specs.Questions.{familyAt}
+use Rattle.query.specs.Reading.{lightest}
 use lib.ListN.{length}
 use native.Mathlib.Omega.{arith}
 use Prim.Native.Nat.{_+_}
 use mathlib.Core.Path.{_≡_, ap}
-use Rattle.query.proofs.measure_cheapest.Statement.{statement}
-use Rattle.query.proofs.measure_cheapest.Tie as tie
+use Rattle.query.proofs.measure_lightest.Statement.{statement}
+use Rattle.query.proofs.measure_lightest.Tie as tie
 
 abbrev Inv-loop : tie.InvT-loop
-Inv-loop costs t a work node₀ n₀ node n = Way t a node n × (length (cheapest costs (familyAt t a)) ≡ n + length (cheapest costs (familyAt t node)))
+Inv-loop weights scale t a work node₀ n₀ node n = Way t a node n × (length (lightest weights scale (familyAt t a)) ≡ n + length (lightest weights scale (familyAt t node)))
 
 abbrev μ-loop : tie.MeasureT-loop
-μ-loop costs t a work node₀ n₀ node n = node
+μ-loop weights scale t a work node₀ n₀ node n = node
 
 loop-holds : tie.Need-loop-holds Inv-loop μ-loop
 loop-holds c =
@@ -77,9 +78,9 @@ loop-again-2 c =
 returns : tie.Need-returns Inv-loop μ-loop
 returns c =
     let args = c .before .before .before .before .before .args in
-    omega (arith, c .before .loop .inv .1, ap length (at-end (args .costs .now) (args .t .now) (c .before .loop .node) (c .if1 .taken)))
+    omega (arith, c .before .loop .inv .1, ap length (at-end (args .weights .now) (args .scale) (args .t .now) (c .before .loop .node) (c .if1 .taken)))
 
-pub measure-cheapest-spec : {M : Type 1} → statement M
-measure-cheapest-spec =
+pub measure-lightest-spec : {M : Type 1} → statement M
+measure-lightest-spec =
     tie.close
     (tie.spec Inv-loop μ-loop loop-holds takes-hi-requires add-n hi-requires loop-less loop-again lo-requires loop-less-2 loop-again-2 returns)

@@ -1,21 +1,22 @@
-use Rattle.query.proofs.CostWords.{filled-less, at-end, Way, way-start, mark, way-hi, way-lo, goes-hi, goes-lo}
+use Rattle.query.proofs.WeightWords.{filled-less, at-end, Way, way-start, mark, way-hi, way-lo, goes-hi, goes-lo}
 use Rattle.query.proofs.Pages.{Page, page-start, page-room, page-more, page-end}
 use Rattle.query.proofs.Parts.{branch}
-use Rattle.query.specs.Questions.{familyAt, cheapest}
+use Rattle.query.specs.Questions.{familyAt}
+use Rattle.query.specs.Reading.{lightest}
 use native.Mathlib.Omega.{arith}
-use Rattle.query.proofs.write_cheapest.Statement.{statement}
-use Rattle.query.proofs.write_cheapest.Tie as tie
+use Rattle.query.proofs.write_lightest.Statement.{statement}
+use Rattle.query.proofs.write_lightest.Tie as tie
 
 abbrev Inv-loop : tie.InvT-loop
-Inv-loop costs t a work page₀ node₀ n₀ page node n = Way t a node n × Page (cheapest costs (familyAt t a)) page₀ page n (cheapest costs (familyAt t node))
+Inv-loop weights scale t a work page₀ node₀ n₀ page node n = Way t a node n × Page (lightest weights scale (familyAt t a)) page₀ page n (lightest weights scale (familyAt t node))
 
 abbrev μ-loop : tie.MeasureT-loop
-μ-loop costs t a work page₀ node₀ n₀ page node n = node
+μ-loop weights scale t a work page₀ node₀ n₀ page node n = node
 
 loop-holds : tie.Need-loop-holds Inv-loop μ-loop
 loop-holds c =
     let here = c .before .before .before .before in let args = here .args in let pre = here .pre in
-    (way-start (args .t .now) (args .a) (pre .1 .0 .0) (pre .1 .0 .1), page-start (cheapest (args .costs .now) (familyAt (args .t .now) (args .a))) (args .page .now) (pre .1 .1 .1))
+    (way-start (args .t .now) (args .a) (pre .1 .0 .0) (pre .1 .0 .1), page-start (lightest (args .weights .now) (args .scale) (familyAt (args .t .now) (args .a))) (args .page .now) (pre .1 .1 .1))
 
 takes-hi-requires : tie.Need-takes-hi-requires Inv-loop μ-loop
 takes-hi-requires c κs =
@@ -99,11 +100,11 @@ same-length c = c .before .loop .inv .1 .long
 returns : tie.Need-returns Inv-loop μ-loop
 returns c =
     let args = c .before .before .before .before .before .before .args in
-    let e = page-end (rw (at-end (args .costs .now) (args .t .now) (c .before .loop .node) (c .if1 .taken)) at (c .before .loop .inv .1)) in
+    let e = page-end (rw (at-end (args .weights .now) (args .scale) (args .t .now) (c .before .loop .node) (c .if1 .taken)) at (c .before .loop .inv .1)) in
     (e .many, c .before .before .before .before .before .before .pre .1 .1 .1, e .pages)
 
-pub write-cheapest-spec : {M : Type 1} → statement M
-write-cheapest-spec =
+pub write-lightest-spec : {M : Type 1} → statement M
+write-lightest-spec =
     tie.close
     (tie.spec Inv-loop μ-loop loop-holds takes-hi-requires label-requires cast-page mul-page slice-write-page add-n hi-requires loop-less loop-again
     lo-requires loop-less-2 loop-again-2 same-length returns)
