@@ -37,7 +37,7 @@ use Rattle.statement.proofs.Admission.{fit-of, fit-passes, rows, table-passes}
 use Rattle.statement.specs.Postconditions.{Makes, Answered, PickPost, PlacePost, CheapestPost, written}
 use Rattle.statement.proofs.FirstOf.{pass, none}
 use Rattle.statement.proofs.TestLaws.{reply-gives, all-priced, answer-known, enough, countable, something, page-fits}
-use Rattle.statement.proofs.Cheapest.{cheapest-least}
+use Rattle.statement.proofs.Least.{cheapest-least}
 use Rattle.zdd.proofs.Member.{elem-in}
 use Rattle.exact_cover.proofs.Lead.{open-pos}
 use Rattle.statement.proofs.Undo.{Answerable, place-ready, pick-ready}

@@ -1,5 +1,5 @@
--- THEOREM: document 01's examples P1 to P8, Figure 1 on items of three words, weeks with optional items, Figure 1 in other orders, and joins, by computation from the
--- definitions. P1 to P8 are computed from document 01's own definitions, and hold by the laws for the empty optional set and the plain order
+-- THEOREM: document 01's examples P1 to P8, Figure 1 on items of three words, weeks with optional items, Figure 1 in other orders, joins and the closest, by computation
+-- from the definitions. P1 to P8 are computed from document 01's own definitions, and hold by the laws for the empty optional set and the plain order
 -- (`NoneOptional`, here and in `exact_cover`). Assumes nothing.
 use mathlib.Core.Path.{_≡_, refl, ap}
 use mathlib.Core.List.{[], _∷_}
@@ -17,11 +17,12 @@ use Rattle.exact_cover.specs.Cover.{keysFrom, keysOf, holders, allInside, takes
 use Rattle.exact_cover.specs.Steps.{each, visit, steps}
 use Rattle.exact_cover.proofs.NoneOptional.{noneOptional, keysFrom01, keys01, once01, covers01, covering01, fits01, candidates01, visit01, steps01}
 use Rattle.exact_cover.proofs.NoneOptional.{covering-as-before, steps-as-before}
-use Rattle.query.specs.Questions.{unknownPackage, anyUnknown, ascending}
+use Rattle.query.specs.Questions.{noneBelow, least, lacking, difference, unknownPackage, anyUnknown, ascending}
 use Rattle.statement.specs.Refusals.{firstOf, packageTests, oversize, stray, strayOptional, nothingCompulsory, disordered, unsound, unknownItem}
-use Rattle.statement.specs.Refusals.{unpriced, unknownAnswer, overlap, notTimetable, shortWork, spent, full, uncountable, absent, checkRefusal, placeRefusal, cheapestRefusal}
+use Rattle.statement.specs.Refusals.{unpriced, unknownAnswer, overlap, notTimetable, shortWork, spent, full, uncountable, absent}
+use Rattle.statement.specs.Refusals.{nothing, shortPage, checkRefusal, placeRefusal, cheapestRefusal, closestRefusal}
 use Rattle.statement.specs.Calls.{callRefusal}
-use Rattle.statement.specs.Examples.{allItems, noPackages, figure1, emptyTable, PaperExamples, WideExamples, OptionalExamples, OrderExamples, JoinExamples}
+use Rattle.statement.specs.Examples.{allItems, noPackages, figure1, emptyTable, PaperExamples, WideExamples, OptionalExamples, OrderExamples, JoinExamples, ClosestExamples}
 use Rattle.statement.proofs.Admission.{fit-of, rows}
 use Rattle.statement.proofs.NoneOptional.{refusals-as-before}
 
@@ -134,4 +135,36 @@ join-examples = record {
   shared = refl;
   ends = refl;
   ends-short = refl;
+}
+
+pub closest-examples : ClosestExamples
+unfolding holds insideb without belowb lead earliest done countFrom times eachOnce nodesOf capacity families family order allSets sets filter soundb eqSet elem has
+    any keysFrom keysOf width noneBelow least lacking difference unknownPackage anyUnknown ascending
+    firstOf oversize stray strayOptional nothingCompulsory disordered unsound unknownAnswer notTimetable shortWork nothing shortPage closestRefusal
+closest-examples = record {
+  to-nothing = record { nearest = refl; by = refl };
+  to-part = record { nearest = refl; by = refl };
+  to-member = record { nearest = refl; by = refl };
+  to-stranger = record { nearest = refl; by = refl };
+  to-overlapping = record { nearest = refl; by = refl };
+  overlapping = refl;
+  tie = refl;
+  tie-by = refl;
+  tie-table = refl;
+  empty = refl;
+  empty-by = refl;
+  empty-page = refl;
+  out-of-precedence = refl;
+  repeating = refl;
+  unknown-package = refl;
+  before-words = refl;
+  unknown = refl;
+  plain = refl;
+  reversed = refl;
+  short = refl;
+  enough = refl;
+  nothing-short = refl;
+  nothing = refl;
+  short-page = refl;
+  page = refl;
 }

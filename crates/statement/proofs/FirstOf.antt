@@ -98,3 +98,18 @@ only-there xs ts n {b} m a c e = go (firstOf xs) refl b e
     go zero p true e = (p, refl)
     go zero p false e = absurd (avoided n ts c (sym (behind xs ((false, n) ∷ ts) m p) ∙ e))
     go (suc k) p b e = absurd (avoided n xs a (sym (front xs ((b, n) ∷ ts) (λ z. omega (arith, p, z))) ∙ e))
+
+-- a refusal that none of the tests behind says is that of the tests in front, whatever is behind them
+pub said-in-front : (xs ts us : List (Bool × ℕ)) {n : ℕ} → Numbered xs → firstOf (xs ++ ts) ≡ n → (firstOf ts ≡ n → ⊥) → firstOf (xs ++ us) ≡ n
+said-in-front xs ts us {n} c e f = go (firstOf xs) refl
+  where
+    go : (k : ℕ) → firstOf xs ≡ k → firstOf (xs ++ us) ≡ n
+    go zero z = absurd (f (sym (behind xs ts c z) ∙ e))
+    go (suc k) z = let g : firstOf xs ≡ 0 → ⊥ = λ y. omega (arith, y, z) in front xs us g ∙ sym (front xs ts g) ∙ e
+
+-- two tests say no other number than theirs
+pub neither : (b c : Bool) {i j n : ℕ} → (n ≡ 0 → ⊥) → (n ≡ i → ⊥) → (n ≡ j → ⊥) → firstOf ((b, i) ∷ (c, j) ∷ []) ≡ n → ⊥
+unfolding firstOf
+neither true c f g h e = g (sym e)
+neither false true f g h e = h (sym e)
+neither false false f g h e = f (sym e)

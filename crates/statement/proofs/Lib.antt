@@ -10,7 +10,8 @@ pub mod Determined
 pub mod Undo
 pub mod Measure
 pub mod Counts
-pub mod Cheapest
+pub mod Least
+pub mod Closest
 pub mod HalfWords
 pub mod PlainOrder
 pub mod NoneOptional

@@ -19,12 +19,12 @@ use Rattle.exact_cover.specs.Cover.{keysOf, covering}
 use Rattle.exact_cover.specs.Steps.{steps}
 use Rattle.exact_cover.proofs.Orders.{length-count, plain-once}
 use Rattle.exact_cover.proofs.PlainOrder.{plain, keysLow, coveringLow, stepsLow, keys-low, covering-low, steps-low}
-use Rattle.query.specs.Questions.{familyAt, nth, cheapest, anyUnknown, ascending}
+use Rattle.query.specs.Questions.{familyAt, nth, cheapest, closest, anyUnknown, ascending}
 use Rattle.statement.specs.declared.Call.{Call}
 use Rattle.statement.specs.declared.Call.the-variants.{Cover, Either, Both, Only, With, Without, Join}
 use Rattle.statement.specs.Refusals.{firstOf, oversize, stray, strayOptional, nothingCompulsory, disordered, packageTests, tableTests, Fit, unsound}
 use Rattle.statement.specs.Refusals.{unpriced, unknownAnswer, notTimetable, unknownItem, shortWork, places, spent, full, uncountable, pastEnd, nothing, absent}
-use Rattle.statement.specs.Refusals.{shortPage, checkRefusal, countRefusal, pickRefusal, measureRefusal, placeRefusal, cheapestRefusal}
+use Rattle.statement.specs.Refusals.{shortPage, checkRefusal, countRefusal, pickRefusal, measureRefusal, placeRefusal, cheapestRefusal, closestRefusal}
 use Rattle.statement.specs.Calls.{familyOf, pairTests, partTests, joinTests, callRefusal, coverRefusal}
 use Rattle.statement.proofs.FirstOf.{pass, exchanged}
 use Rattle.statement.proofs.Admission.{rows}
@@ -112,6 +112,12 @@ pub record RefusedBy (Q : Problem) (m : ℕ) (front : List (Bool × ℕ) → Lis
       ≡ firstOf (front (
       (unpriced Q C, 3) ∷ (unsoundBy B t, 4) ∷ (unknownAnswer t a, 5) ∷ (shortWork (a + 1) words, 8) ∷ (nothing a, 13) ∷
       (shortPage page (cheapest C (familyAt t a)), 15) ∷ []))
+  -- the given timetable is tested as in place
+  pub closest : (t : List ℕ) (a : ℕ) (s : List ℕ) (words : ℕ) (page : List ℕ)
+      → closestRefusal Q m t a s words page
+      ≡ firstOf (front (
+      (unsoundBy B t, 4) ∷ (unknownAnswer t a, 5) ∷ (anyUnknown (Q .packages) s || not (ascending (B .keys) s), 6) ∷ (shortWork (a + 1) words, 8) ∷
+      (nothing a, 13) ∷ (shortPage page (closest s (familyAt t a)), 15) ∷ []))
 
 -- behind the tests of the packages, own tests may be exchanged for others that decide the same where those pass
 abbrev pub Exchanges : Problem → ℕ → (List (Bool × ℕ) → List (Bool × ℕ)) → Type 0
@@ -155,8 +161,16 @@ module _ (Q : Problem) (m : ℕ) (front : List (Bool × ℕ) → List (Bool × �
   calls t (Without a p) words = tabled t _ _ (λ f. ap (λ (F : Family). firstOf (partTests (Q .packages) t a p F words)) (families f t (Without a p)))
   calls t (Join a b) words = tabled t _ _ (λ f. ap (λ (F : Family). firstOf (joinTests Q t a b F words)) (families f t (Join a b)))
 
+  -- the list that place and closest are given is tested by the keys, whatever tests are behind
+  listed : (t : List ℕ) (a : ℕ) (s : List ℕ) (words : ℕ) (ts : List (Bool × ℕ)) → keysOf Q ≡ B .keys
+      → firstOf ((unknownAnswer t a, 5) ∷ (notTimetable Q s, 6) ∷ (shortWork (a + 1) words, 8) ∷ ts)
+      ≡ firstOf ((unknownAnswer t a, 5) ∷ (anyUnknown (Q .packages) s || not (ascending (B .keys) s), 6) ∷ (shortWork (a + 1) words, 8) ∷ ts)
+  unfolding notTimetable
+  listed t a s words ts = ap (λ (K : List ℕ). firstOf (
+      (unknownAnswer t a, 5) ∷ (anyUnknown (Q .packages) s || not (ascending K s), 6) ∷ (shortWork (a + 1) words, 8) ∷ ts))
+
   pub refused-by : RefusedBy Q m front B
-  unfolding checkRefusal countRefusal pickRefusal measureRefusal placeRefusal notTimetable cheapestRefusal
+  unfolding checkRefusal countRefusal pickRefusal measureRefusal placeRefusal cheapestRefusal closestRefusal
   refused-by = record {
     check = λ t. tabled t _ _ (λ f. refl);
     family = families;
@@ -165,12 +179,11 @@ module _ (Q : Problem) (m : ℕ) (front : List (Bool × ℕ) → List (Bool × �
     count = λ t a words. tabled t _ _ (λ f. refl);
     pick = λ t a k words page. tabled t _ _ (λ f. refl);
     measure = λ t a k words. tabled t _ _ (λ f. refl);
-    place = λ t a s words. tabled t _ _ (λ f. ap (λ (K : List ℕ). firstOf (
-        (unknownAnswer t a, 5) ∷ (anyUnknown (Q .packages) s || not (ascending K s), 6) ∷ (shortWork (a + 1) words, 8) ∷ (uncountable (familyAt t a), 11) ∷
-        (absent (familyAt t a) s, 14) ∷ [])) (g f .same-keys));
+    place = λ t a s words. tabled t _ _ (λ f. listed t a s words _ (g f .same-keys));
     cheapest = λ C t a words page. x _ _ (λ f. ap (λ (b : Bool). firstOf (
         (unpriced Q C, 3) ∷ (b, 4) ∷ (unknownAnswer t a, 5) ∷ (shortWork (a + 1) words, 8) ∷ (nothing a, 13) ∷
         (shortPage page (cheapest C (familyAt t a)), 15) ∷ [])) (unsound-by f t));
+    closest = λ t a s words page. tabled t _ _ (λ f. listed t a s words _ (g f .same-keys));
   }
 
 -- ---- the plain order

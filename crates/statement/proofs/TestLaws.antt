@@ -1,22 +1,26 @@
 -- What each test of `specs/Refusals.antt` says where the facts are known, and what a call replies whose refusal is known. Assumes nothing.
-use mathlib.Core.Path.{_≡_, refl, sym, ap, ap₂}
+use mathlib.Core.Path.{_≡_, refl, sym, ap, ap₂, _∙_}
 use mathlib.Core.Bool.{Bool, true, false, not, _||_}
 use mathlib.Core.List.{List, [], _∷_, _++_}
 use Prim.Native.Nat.{ℕ, zero, suc, _+_, _≤_, _<_}
 use native.Mathlib.Nat.{not-suc-le-zero, le-of-suc-le-suc}
 use native.Mathlib.Omega.{arith}
 use lib.Dec.{ltb}
-use lib.ListN.{length, getD, drop}
+use lib.ListN.{length, getD, take, drop}
+use lib.Seq.{take-at, drop-at}
 use borrow.Author.Tests.{ltb-false, lt-ltb, le-ltb, le-leb, lt-leb, eq-eqb, ne-eqb}
 use Rattle.base.specs.Lists.{any}
 use Rattle.base.proofs.Bools.{or-neither}
 use Rattle.itemset.specs.Words.{width}
 use Rattle.zdd.specs.Table.{Family, count}
 use Rattle.exact_cover.specs.Problem.{Problem}
-use Rattle.query.specs.Questions.{unknownPackage}
+use Rattle.exact_cover.specs.Cover.{keysOf}
+use Rattle.exact_cover.proofs.Order.{length-keys}
+use Rattle.query.specs.Questions.{unknownPackage, ascending, inPrecedence}
+use Rattle.query.proofs.Precede.{unknown-length}
 use Rattle.statement.specs.Replies.{refused, gives, reply}
 use Rattle.statement.specs.Postconditions.{written}
-use Rattle.statement.specs.Refusals.{oversize, unpriced, unknownAnswer, shortWork, uncountable, pastEnd, nothing, shortPage}
+use Rattle.statement.specs.Refusals.{oversize, unpriced, unknownAnswer, notTimetable, shortWork, uncountable, pastEnd, nothing, shortPage}
 
 -- ---- replies
 
@@ -47,6 +51,14 @@ page-left (suc n) s page e f = sym (ap (λ (i : ℕ). written i s page) e)
 -- one that is not writes to its start
 pub page-written : {k : ℕ} (s page : List ℕ) → k ≡ 0 → s ++ drop (length s) page ≡ written k s page
 page-written s page e = sym (ap (λ (i : ℕ). written i s page) e)
+
+-- so that, c packages long, it stands there, with the rest behind it
+pub page-holds : {k c : ℕ} (s page : List ℕ) {page′ : List ℕ} → k ≡ 0 → c ≡ length s → page′ ≡ written k s page
+    → (take c page′ ≡ s) × (drop c page′ ≡ drop c page)
+page-holds {c = c} s page e n p =
+    let q = p ∙ sym (page-written s page e) in
+    let r : List ℕ = drop (length s) page in
+    (ap (take c) q ∙ take-at s r c (sym n), ap (drop c) q ∙ drop-at s r c (sym n) ∙ ap (λ (i : ℕ). drop i page) (sym n))
 
 -- ---- 1
 
@@ -144,3 +156,8 @@ page-fits page s h = le-ltb (length page) (length s) h
 pub page-short : (page s : List ℕ) → length page < length s → shortPage page s ≡ true
 unfolding shortPage
 page-short page s h = lt-ltb (length page) (length s) h
+
+-- 6 of a list: it is not in precedence
+pub listed-test : (Q : Problem) (s : List ℕ) → inPrecedence (keysOf Q) s ≡ not (notTimetable Q s)
+unfolding notTimetable inPrecedence
+listed-test Q s = ap (λ (b : Bool). not (b || not (ascending (keysOf Q) s))) (sym (unknown-length (Q .packages) (keysOf Q) s (sym (length-keys Q))))

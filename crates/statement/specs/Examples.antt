@@ -1,4 +1,4 @@
--- Document 01's examples P1 to P8, Figure 1 on items of three words, weeks with optional items, Figure 1 in other orders and joins, each as one record;
+-- Document 01's examples P1 to P8, Figure 1 on items of three words, weeks with optional items, Figure 1 in other orders, joins and the closest, each as one record;
 -- `proofs/Examples.antt` proves them by computation. Assumes nothing.
 use mathlib.Core.Path.{_≡_}
 use mathlib.Core.List.{List, [], _∷_}
@@ -10,9 +10,9 @@ use Rattle.zdd.specs.Branches.{missing}
 use Rattle.exact_cover.specs.Problem.{Problem, upTo}
 use Rattle.exact_cover.specs.Cover.{keysOf, covering}
 use Rattle.exact_cover.specs.Steps.{steps}
-use Rattle.query.specs.Questions.{familyAt}
+use Rattle.query.specs.Questions.{familyAt, difference, closest}
 use Rattle.statement.specs.declared.Call.the-variants.{Join}
-use Rattle.statement.specs.Refusals.{checkRefusal, placeRefusal, cheapestRefusal}
+use Rattle.statement.specs.Refusals.{checkRefusal, placeRefusal, cheapestRefusal, closestRefusal}
 use Rattle.statement.specs.Calls.{callRefusal, coverRefusal}
 
 -- all items below m
@@ -207,3 +207,59 @@ pub record JoinExamples : Type 0 where
   -- 0 and 1 have no package, and take two words
   pub ends : callRefusal fourSlots 4 (halvesTable 3) (Join 1 1) 2 ≡ 0
   pub ends-short : callRefusal fourSlots 4 (halvesTable 3) (Join 0 1) 1 ≡ 8
+
+-- ---- closest [document 02, No. 9]
+
+-- two equal packages {0}, {0}, and the table with their answer: 2 is the second's timetable, and 3 has both
+abbrev pub twins : Problem
+twins = record { packages = 1 ∷ 1 ∷ []; optional = 0; order = upTo 1 }
+
+abbrev pub twinsTable : List ℕ
+twinsTable = 2 ∷ 1 ∷ 0 ∷ 1 ∷ 0 ∷ 2 ∷ 1 ∷ []
+
+-- in Figure 1's answer: the closest to s is u, and they differ in d packages
+pub record ClosestTo (s u : List ℕ) (d : ℕ) : Type 0 where
+  pub nearest : closest s (familyAt figure1Table 5) ≡ u
+  pub by : difference s u ≡ d
+
+-- the refusal of one that asks for it, with so many working words and places on the page
+abbrev pub figure1Closest : List ℕ → ℕ → ℕ → ℕ
+figure1Closest s words room = closestRefusal figure1 6 figure1Table 5 s words (replicate room 0)
+
+pub record ClosestExamples : Type 0 where
+  -- to nothing: the one with fewer packages
+  pub to-nothing : ClosestTo [] (0 ∷ 2 ∷ []) 2
+  -- to a part of one, and to all of it
+  pub to-part : ClosestTo (1 ∷ 4 ∷ []) (1 ∷ 4 ∷ 2 ∷ []) 1
+  pub to-member : ClosestTo (1 ∷ 4 ∷ 2 ∷ []) (1 ∷ 4 ∷ 2 ∷ []) 0
+  -- to a package of neither: it counts against both
+  pub to-stranger : ClosestTo (3 ∷ []) (0 ∷ 2 ∷ []) 3
+  -- to two packages that share items
+  pub to-overlapping : ClosestTo (0 ∷ 1 ∷ []) (0 ∷ 2 ∷ []) 2
+  pub overlapping : figure1Closest (0 ∷ 1 ∷ []) 6 2 ≡ 0
+  -- of two that differ in as many the first listed
+  pub tie : closest [] (familyAt twinsTable 3) ≡ 0 ∷ []
+  pub tie-by : difference [] (0 ∷ []) ≡ difference [] (1 ∷ [])
+  pub tie-table : closestRefusal twins 1 twinsTable 3 [] 4 (0 ∷ []) ≡ 0
+  -- the answer 1 has the empty timetable alone, and an empty page will do
+  pub empty : closest (0 ∷ []) (familyAt figure1Table 1) ≡ []
+  pub empty-by : difference (0 ∷ []) [] ≡ 1
+  pub empty-page : closestRefusal figure1 6 figure1Table 1 (0 ∷ []) 2 [] ≡ 0
+  -- 6: out of precedence, repeating, an unknown package. It is said with no working words; 5 comes first
+  pub out-of-precedence : figure1Closest (2 ∷ 0 ∷ []) 6 2 ≡ 6
+  pub repeating : figure1Closest (0 ∷ 0 ∷ []) 6 2 ≡ 6
+  pub unknown-package : figure1Closest (5 ∷ []) 6 2 ≡ 6
+  pub before-words : figure1Closest (2 ∷ 0 ∷ []) 0 2 ≡ 6
+  pub unknown : closestRefusal figure1 6 figure1Table 6 (2 ∷ 0 ∷ []) 0 [] ≡ 5
+  -- precedence goes by the order
+  pub plain : closestRefusal figure1 6 (emptyTable 4) 1 (1 ∷ 4 ∷ []) 2 [] ≡ 0
+  pub reversed : closestRefusal (figure1In reversed) 6 (emptyTable 4) 1 (1 ∷ 4 ∷ []) 2 [] ≡ 6
+  -- a working words are one too few
+  pub short : figure1Closest [] 5 2 ≡ 8
+  pub enough : figure1Closest [] 6 2 ≡ 0
+  -- 13 for the answer 0, behind 8
+  pub nothing-short : closestRefusal figure1 6 figure1Table 0 [] 0 [] ≡ 8
+  pub nothing : closestRefusal figure1 6 figure1Table 0 [] 1 [] ≡ 13
+  -- the page goes by what is written, not by what is given
+  pub short-page : figure1Closest (1 ∷ 4 ∷ []) 6 2 ≡ 15
+  pub page : figure1Closest (1 ∷ 4 ∷ []) 6 3 ≡ 0

@@ -20,10 +20,11 @@ use Rattle.statement.specs.declared.Picked.{Picked}
 use Rattle.statement.specs.declared.Measured.{Measured}
 use Rattle.statement.specs.declared.Placed.{Placed}
 use Rattle.statement.specs.declared.Priced.{Priced}
-use Rattle.statement.specs.Replies.{refused, gives, reply, outcomeReply, soundnessReply, countReply, pickReply, measureReply, placeReply, cheapestReply}
-use Rattle.query.specs.Questions.{familyAt, nth, position, cost, cheapest}
+use Rattle.statement.specs.declared.Compared.{Compared}
+use Rattle.statement.specs.Replies.{refused, gives, reply, outcomeReply, soundnessReply, countReply, pickReply, measureReply, placeReply, cheapestReply, closestReply}
+use Rattle.query.specs.Questions.{familyAt, nth, position, cost, cheapest, difference, closest}
 use Rattle.statement.specs.Calls.{familyOf, stepsOf, callRefusal, coverRefusal}
-use Rattle.statement.specs.Refusals.{places, checkRefusal, countRefusal, pickRefusal, measureRefusal, placeRefusal, cheapestRefusal}
+use Rattle.statement.specs.Refusals.{places, checkRefusal, countRefusal, pickRefusal, measureRefusal, placeRefusal, cheapestRefusal, closestRefusal}
 
 -- ---- the calls that make an answer: cover, either, both, only, with, without, join
 
@@ -122,3 +123,11 @@ pub record CheapestPost (Q : Problem) (m : ℕ) (C t : List ℕ) (a words : ℕ)
       cheapestReply r
       ≡ reply (cheapestRefusal Q m C t a words page) (length (cheapest C (familyAt t a)), cost C (cheapest C (familyAt t a)))
   pub pages : page′ ≡ written (cheapestRefusal Q m C t a words page) (cheapest C (familyAt t a)) page
+
+-- closest: of the timetables of the answer a that differ from s in the fewest packages the first listed, written to the page; how many packages it has, and
+-- the difference
+pub record ClosestPost (Q : Problem) (m : ℕ) (t : List ℕ) (a : ℕ) (s : List ℕ) (words : ℕ) (page : List ℕ) (r : Compared) (page′ : List ℕ) : Type 0 where
+  pub result :
+      closestReply r
+      ≡ reply (closestRefusal Q m t a s words page) (length (closest s (familyAt t a)), difference s (closest s (familyAt t a)))
+  pub pages : page′ ≡ written (closestRefusal Q m t a s words page) (closest s (familyAt t a)) page

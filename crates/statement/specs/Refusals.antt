@@ -16,7 +16,7 @@ use Rattle.zdd.specs.Branches.{noRoom}
 use Rattle.exact_cover.specs.Problem.{Problem, row, eachOnce, done}
 use Rattle.exact_cover.specs.Cover.{keysOf}
 use Rattle.exact_cover.specs.Steps.{steps}
-use Rattle.query.specs.Questions.{familyAt, nth, cheapest, anyUnknown, ascending}
+use Rattle.query.specs.Questions.{familyAt, nth, cheapest, closest, anyUnknown, ascending}
 
 unfoldable pub firstOf : List (Bool × ℕ) → ℕ
 firstOf [] = 0
@@ -59,7 +59,7 @@ unsound Q t = not (soundb (keysOf Q) t)
 unfoldable pub unknownAnswer : List ℕ → ℕ → Bool
 unknownAnswer t a = leb (count t + 2) a
 
--- 6 unknown package: p of N or more is `unknownPackage` of `query`. In place: a package of N or more in the list, or the list out of precedence or
+-- 6 unknown package: p of N or more is `unknownPackage` of `query`. In place and closest: a package of N or more in the list, or the list out of precedence or
 -- repeating, so that some package does not come before the next
 unfoldable pub notTimetable : Problem → List ℕ → Bool
 notTimetable Q s = anyUnknown (Q .packages) s || not (ascending (keysOf Q) s)
@@ -129,6 +129,10 @@ tableTests Q m t ts = packageTests Q m ((unsound Q t, 4) ∷ ts)
 abbrev pub openTests : (Q : Problem) (m : ℕ) (t : List ℕ) (a : ℕ) → List (Bool × ℕ)
 openTests Q m t a = tableTests Q m t ((unknownAnswer t a, 5) ∷ [])
 
+-- and 6 and 8: of one that is lent the list s of packages
+abbrev pub listTests : (Q : Problem) (m : ℕ) (t : List ℕ) (a : ℕ) (s : List ℕ) (words : ℕ) → List (Bool × ℕ)
+listTests Q m t a s words = tableTests Q m t ((unknownAnswer t a, 5) ∷ (notTimetable Q s, 6) ∷ (shortWork (a + 1) words, 8) ∷ [])
+
 -- of one that is lent the costs C, 3 in its place
 abbrev pub pricedTests : (Q : Problem) (m : ℕ) (C t : List ℕ) (a : ℕ) → List (Bool × ℕ)
 pricedTests Q m C t a = packageTests Q m ((unpriced Q C, 3) ∷ (unsound Q t, 4) ∷ (unknownAnswer t a, 5) ∷ [])
@@ -194,4 +198,15 @@ cheapestRefusal Q m C t a words page =
     (shortWork (a + 1) words, 8) ∷
     (nothing a, 13) ∷
     (shortPage page (cheapest C (familyAt t a)), 15) ∷
+    []))
+
+-- s is the given timetable. Nothing is counted, so there is no 11 [document 02, No. 9]
+unfoldable pub closestRefusal : (Q : Problem) (m : ℕ) (t : List ℕ) (a : ℕ) (s : List ℕ) (words : ℕ) (page : List ℕ) → ℕ
+closestRefusal Q m t a s words page =
+    firstOf (tableTests Q m t (
+    (unknownAnswer t a, 5) ∷
+    (notTimetable Q s, 6) ∷
+    (shortWork (a + 1) words, 8) ∷
+    (nothing a, 13) ∷
+    (shortPage page (closest s (familyAt t a)), 15) ∷
     []))

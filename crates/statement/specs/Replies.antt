@@ -14,6 +14,8 @@ use Rattle.statement.specs.declared.Placed.{Placed}
 use Rattle.statement.specs.declared.Placed.the-variants.{Place, Refused as PlacedRefused}
 use Rattle.statement.specs.declared.Priced.{Priced}
 use Rattle.statement.specs.declared.Priced.the-variants.{Cheapest, Refused as PricedRefused}
+use Rattle.statement.specs.declared.Compared.{Compared}
+use Rattle.statement.specs.declared.Compared.the-variants.{Closest, Refused as ComparedRefused}
 
 -- how a call ended: refused with document 01's number, or with the values of type A that it returns
 pub data Reply (A : Type 0) : Type 0 where
@@ -59,3 +61,8 @@ placeReply (PlacedRefused n) = refused n
 abbrev pub cheapestReply : Priced → Reply (ℕ × ℕ)
 cheapestReply (Cheapest c x) = gives (c, x)
 cheapestReply (PricedRefused n) = refused n
+
+-- closest: how many packages were written, and the difference
+abbrev pub closestReply : Compared → Reply (ℕ × ℕ)
+closestReply (Closest c x) = gives (c, x)
+closestReply (ComparedRefused n) = refused n

@@ -66,6 +66,12 @@ pub enum Priced {
     Refused(u8),
 }
 
+// What closest returns: how many packages it wrote, and in how many packages they and the given timetable differ.
+pub enum Compared {
+    Closest { packages: usize, difference: u32 },
+    Refused(u8),
+}
+
 // The report of a refusal: with the table left alone it is what `Declined` asks.
 pub fn declined(number: u8) -> Report
     ensures { λ r. ⌜ ((t : List ℕ) → Declined number t r t) ⌝ }
