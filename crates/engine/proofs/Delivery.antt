@@ -1,6 +1,6 @@
 -- The calls that read an answer: what `query`'s functions ask, and what their answers make of the calls' refusals. Assumes nothing.
 use mathlib.Core.Path.{_≡_, sym, ap, ap₂, _∙_}
-use mathlib.Core.Bool.{Bool, true, false, not, _||_}
+use mathlib.Core.Bool.{Bool, true, false, not}
 use mathlib.Core.List.{List, [], _∷_, _++_}
 use Prim.Native.Nat.{ℕ, _+_, _≤_, _<_}
 use native.Mathlib.Omega.{arith}
@@ -11,18 +11,17 @@ use Rattle.zdd.specs.Table.{Family, count}
 use Rattle.exact_cover.specs.Problem.{Problem}
 use Rattle.exact_cover.specs.Cover.{keysOf}
 use Rattle.exact_cover.proofs.Order.{length-keys}
-use Rattle.query.specs.Questions.{familyAt, nth, position, cost, cheapest, ascending, inPrecedence}
+use Rattle.query.specs.Questions.{familyAt, nth, position, cost, cheapest, difference, closest, inPrecedence}
 use Rattle.query.specs.Reading.{Readable, Priceable, Filled, countWord}
-use Rattle.query.specs.Answers.{Told, Wrote, PlaceFound, Bought}
+use Rattle.query.specs.Answers.{Told, Wrote, PlaceFound, Weighed}
 use Rattle.query.specs.declared.Tally.{Tally}
 use Rattle.query.specs.declared.Tally.the-variants.{Exactly, TooMany}
 use Rattle.query.specs.declared.Written.{Written}
 use Rattle.query.specs.declared.Written.the-variants.{Packages, Short}
 use Rattle.query.specs.declared.Spot.{Spot}
 use Rattle.query.specs.declared.Spot.the-variants.{At, Absent}
-use Rattle.query.specs.declared.Cheap.{Cheap}
-use Rattle.query.specs.declared.Cheap.the-variants.{Found, NoRoom}
-use Rattle.query.proofs.Precede.{unknown-length}
+use Rattle.query.specs.declared.Chosen.{Chosen}
+use Rattle.query.specs.declared.Chosen.the-variants.{Found, NoRoom}
 use Rattle.statement.specs.declared.Counted.{Counted}
 use Rattle.statement.specs.declared.Counted.the-variants.{Refused as CountRefused}
 use Rattle.statement.specs.declared.Picked.{Picked}
@@ -32,17 +31,19 @@ use Rattle.statement.specs.declared.Placed.{Placed}
 use Rattle.statement.specs.declared.Placed.the-variants.{Refused as PlaceRefused}
 use Rattle.statement.specs.declared.Priced.{Priced}
 use Rattle.statement.specs.declared.Priced.the-variants.{Refused as PriceRefused}
-use Rattle.statement.specs.Replies.{gives, reply, countReply, pickReply, placeReply, cheapestReply}
-use Rattle.statement.specs.Refusals.{firstOf, packageTests, tableTests, openTests, pricedTests, unpriced, notTimetable, uncountable, pastEnd, absent, shortPage}
-use Rattle.statement.specs.Refusals.{countRefusal, measureRefusal, pickRefusal, placeRefusal, cheapestRefusal}
-use Rattle.statement.specs.Postconditions.{CountPost, MeasurePost, PickPost, PlacePost, CheapestPost}
+use Rattle.statement.specs.declared.Compared.{Compared}
+use Rattle.statement.specs.declared.Compared.the-variants.{Refused as CompareRefused}
+use Rattle.statement.specs.Replies.{gives, reply, countReply, pickReply, placeReply, cheapestReply, closestReply}
+use Rattle.statement.specs.Refusals.{firstOf, packageTests, tableTests, openTests, listTests, pricedTests, unpriced, notTimetable, uncountable, pastEnd, absent, shortPage}
+use Rattle.statement.specs.Refusals.{countRefusal, measureRefusal, pickRefusal, placeRefusal, cheapestRefusal, closestRefusal}
+use Rattle.statement.specs.Postconditions.{CountPost, MeasurePost, PickPost, PlacePost, CheapestPost, ClosestPost, written}
 use Rattle.statement.proofs.FirstOf.{pass, hit, none, passed, front, Numbered, behind}
 use Rattle.statement.proofs.Admission.{fit-passes, fit-of, fit-refused, table-passes}
 use Rattle.statement.proofs.TestLaws.{reply-refused, reply-gives, page-left, page-written, all-priced, not-priced, answer-known, answer-unknown, enough, too-few}
-use Rattle.statement.proofs.TestLaws.{countable, too-many, something, is-nothing, page-fits, page-short}
+use Rattle.statement.proofs.TestLaws.{countable, too-many, listed-test, something, is-nothing, page-fits, page-short}
 use Rattle.statement.proofs.Measure.{pick-before, pick-last}
-use Rattle.engine.specs.Answers.{tallyReply, endRefusal, writtenReply, placedReply, cheapReply}
-use Rattle.engine.specs.Opened.{Opened, Reachable, OpenedAt}
+use Rattle.engine.specs.Answers.{tallyReply, endRefusal, writtenReply, placedReply, chosenReply}
+use Rattle.engine.specs.Opened.{Opened, Reachable, OpenedAt, OpenedList}
 use Rattle.guard.specs.Admitted.{Usable, Admitted}
 use Rattle.guard.proofs.GuardLaws.{admit-refused}
 
@@ -93,12 +94,12 @@ module _ {Q : Problem} (C : List ℕ) {t keys : List ℕ} {a : ℕ} where
 
 -- ---- other tests stand behind them
 
-module _ {xs : List (Bool × ℕ)} {Q : Problem} {t keys : List ℕ} {a r : ℕ} (o : Opened xs Q t keys a r) (ts : List (Bool × ℕ)) where
+module _ (xs : List (Bool × ℕ)) {r : ℕ} (says : r ≡ firstOf xs) (ts : List (Bool × ℕ)) where
   refused-by : (r ≡ 0 → ⊥) → firstOf (xs ++ ts) ≡ r
-  refused-by f = front xs ts (λ z. f (o .says ∙ z)) ∙ sym (o .says)
+  refused-by f = front xs ts (λ z. f (says ∙ z)) ∙ sym says
 
   passed-by : Numbered xs → r ≡ 0 → firstOf (xs ++ ts) ≡ firstOf ts
-  passed-by n z = behind xs ts n (sym (o .says) ∙ z)
+  passed-by n z = behind xs ts n (sym says ∙ z)
 
 -- what `query::count` asks, of the answer as an index n
 pub counting : {ts : List (Bool × ℕ)} {Q : Problem} {t keys : List ℕ} {a r n words : ℕ} → Opened ts Q t keys a r → r ≡ 0 → n ≡ a → n < words
@@ -110,19 +111,19 @@ counting o ok e l = (readable (o .ready ok .usable), (omega (arith, o .ready ok 
 module _ {Q : Problem} {m : ℕ} {t keys : List ℕ} {a words r : ℕ} (o : Opened (openTests Q m t a) Q t keys a r) where
   pub count-refused : (r ≡ 0 → ⊥) → CountPost Q m t a words (CountRefused r)
   unfolding countRefusal
-  count-refused f = record { result = reply-refused r _ (refused-by o _ f) f }
+  count-refused f = record { result = reply-refused r _ (refused-by (openTests Q m t a) (o .says) _ f) f }
 
   module _ (ok : r ≡ 0) where
     pub count-words : words ≤ a → CountPost Q m t a words (CountRefused 8)
     unfolding countRefusal
-    count-words h = record { result = reply-refused 8 _ (passed-by o _ tt ok ∙ hit 8 _ (too-few (a + 1) words (omega arith))) (λ z. omega arith) }
+    count-words h = record { result = reply-refused 8 _ (passed-by (openTests Q m t a) (o .says) _ tt ok ∙ hit 8 _ (too-few (a + 1) words (omega arith))) (λ z. omega arith) }
 
     pub count-delivers : a < words → (x : Counted) (c : Tally) → countReply x ≡ tallyReply c → Told c (length (familyAt t a)) → CountPost Q m t a words x
     unfolding countRefusal
     count-delivers room x c d e = record { result = d ∙ go c e }
       where
         so-far : countRefusal Q m t a words ≡ firstOf ((uncountable (familyAt t a), 11) ∷ [])
-        so-far = passed-by o _ tt ok ∙ pass 8 _ (enough (a + 1) words (omega arith))
+        so-far = passed-by (openTests Q m t a) (o .says) _ tt ok ∙ pass 8 _ (enough (a + 1) words (omega arith))
 
         go : (c : Tally) → Told c (length (familyAt t a)) → tallyReply c ≡ reply (countRefusal Q m t a words) (length (familyAt t a))
         go (Exactly n) e = ap gives (e .0) ∙ reply-gives _ (so-far ∙ pass 11 _ (countable (familyAt t a) (e .1)) ∙ none)
@@ -138,17 +139,17 @@ below-end F k TooMany d e = absurd (omega arith)
 module _ {Q : Problem} {m : ℕ} {t keys : List ℕ} {a k words q : ℕ} {w : List ℕ} (o : Opened (openTests Q m t a) Q t keys a q) where
   pub at-refused : (q ≡ 0 → ⊥) → OpenedAt Q m t a k words w q
   unfolding measureRefusal
-  at-refused f = record { says = sym (refused-by o _ f); ready = λ z. absurd (f z) }
+  at-refused f = record { says = sym (refused-by (openTests Q m t a) (o .says) _ f); ready = λ z. absurd (f z) }
 
   module _ (ok : q ≡ 0) where
     pub at-words : words ≤ a → OpenedAt Q m t a k words w 8
     unfolding measureRefusal
-    at-words h = record { says = sym (passed-by o _ tt ok ∙ hit 8 _ (too-few (a + 1) words (omega arith))); ready = λ z. absurd (omega arith) }
+    at-words h = record { says = sym (passed-by (openTests Q m t a) (o .says) _ tt ok ∙ hit 8 _ (too-few (a + 1) words (omega arith))); ready = λ z. absurd (omega arith) }
 
     pub at-counted : {r : ℕ} → a < words → (c : Tally) → Told c (length (familyAt t a)) → Filled (countWord t) (a + 1) w → r ≡ endRefusal c k → OpenedAt Q m t a k words w r
     unfolding measureRefusal pastEnd
     at-counted room c told filled e = record {
-      says = e ∙ sym (passed-by o _ tt ok ∙ pass 8 _ (enough (a + 1) words (omega arith)) ∙ go c told);
+      says = e ∙ sym (passed-by (openTests Q m t a) (o .says) _ tt ok ∙ pass 8 _ (enough (a + 1) words (omega arith)) ∙ go c told);
       ready = λ z. record {
         readable = readable (o .ready ok .usable);
         known = o .ready ok .known;
@@ -196,52 +197,82 @@ module _ {Q : Problem} {m : ℕ} {t : List ℕ} {a k words r : ℕ} {w : List �
           let z : pickRefusal Q m t a k words page ≡ 15 = so-far ∙ hit 15 _ (page-short page s (p .0)) in
           record { result = d ∙ reply-refused 15 _ z (λ y. omega arith); pages = p .1 ∙ page-left 15 s page z (λ y. omega arith) }
 
--- ---- place
-
-place-post : {Q : Problem} {m : ℕ} {t : List ℕ} {a : ℕ} {s : List ℕ} {words r : ℕ} → placeRefusal Q m t a s words ≡ r → (r ≡ 0 → ⊥)
-    → PlacePost Q m t a s words (PlaceRefused r)
-place-post {r = r} e f = record { result = reply-refused r _ e f }
+-- ---- a list of packages
 
 -- in_precedence tells refusal 6
 module _ (Q : Problem) (s : List ℕ) {b : Bool} (is : b ≡ inPrecedence (keysOf Q) s) where
   says : b ≡ not (notTimetable Q s)
-  unfolding notTimetable inPrecedence
-  says = is ∙ ap (λ (b : Bool). not (b || not (ascending (keysOf Q) s))) (sym (unknown-length (Q .packages) (keysOf Q) s (sym (length-keys Q))))
+  says = is ∙ listed-test Q s
 
-  pub no-list : b ≡ false → notTimetable Q s ≡ true
+  no-list : b ≡ false → notTimetable Q s ≡ true
   no-list e = not-false _ (sym says ∙ e)
 
-  pub is-list : b ≡ true → notTimetable Q s ≡ false
+  is-list : b ≡ true → notTimetable Q s ≡ false
   is-list e = not-true _ (sym says ∙ e)
 
 module _ {Q : Problem} {m : ℕ} {t keys : List ℕ} {a : ℕ} {s : List ℕ} {words r : ℕ} (o : Opened (openTests Q m t a) Q t keys a r) where
+  pub list-refused : (r ≡ 0 → ⊥) → OpenedList Q m t a s words r
+  list-refused f = record { says = sym (refused-by (openTests Q m t a) (o .says) _ f); ready = λ z. absurd (f z) }
+
+  module _ (ok : r ≡ 0) {b : Bool} (is : b ≡ inPrecedence (keysOf Q) s) where
+    pub list-disordered : b ≡ false → OpenedList Q m t a s words 6
+    list-disordered e = record {
+      says = sym (passed-by (openTests Q m t a) (o .says) _ tt ok ∙ hit 6 _ (no-list Q s is e));
+      ready = λ z. absurd (omega arith);
+    }
+
+    module _ (e : b ≡ true) where
+      pub list-words : words ≤ a → OpenedList Q m t a s words 8
+      list-words h = record { says = sym (passed-by (openTests Q m t a) (o .says) _ tt ok ∙ pass 6 _ (is-list Q s is e) ∙ hit 8 _ (too-few (a + 1) words (omega arith))); ready = λ z. absurd (omega arith) }
+
+      pub list-ready : a < words → OpenedList Q m t a s words 0
+      unfolding readable
+      list-ready h = record {
+        says = sym (passed-by (openTests Q m t a) (o .says) _ tt ok ∙ pass 6 _ (is-list Q s is e) ∙ pass 8 _ (enough (a + 1) words (omega arith)) ∙ none);
+        ready = λ z. record {
+          comparable = record {
+            table = readable (o .ready ok .usable);
+            few = omega (arith, length-keys Q, o .ready ok .usable .rows .few);
+            listed = sym is ∙ e;
+          };
+          known = o .ready ok .known;
+          room = h;
+        };
+      }
+
+-- ---- place
+
+module _ {Q : Problem} {m : ℕ} {t : List ℕ} {a : ℕ} {s : List ℕ} {words r : ℕ} (o : OpenedList Q m t a s words r) where
   pub place-refused : (r ≡ 0 → ⊥) → PlacePost Q m t a s words (PlaceRefused r)
   unfolding placeRefusal
-  place-refused f = place-post (refused-by o _ f) f
+  place-refused f = record { result = reply-refused r _ (refused-by (listTests Q m t a s words) (o .says) _ f) f }
 
-  pub place-unlisted : r ≡ 0 → notTimetable Q s ≡ true → PlacePost Q m t a s words (PlaceRefused 6)
-  unfolding placeRefusal
-  place-unlisted ok e = place-post (passed-by o _ tt ok ∙ hit 6 _ e) (λ z. omega arith)
+  pub place-delivers : r ≡ 0 → (x : Placed) (c : Tally) (p : Spot) → placeReply x ≡ placedReply c p
+      → Told c (length (familyAt t a)) → PlaceFound s (familyAt t a) p → PlacePost Q m t a s words x
+  unfolding placeRefusal absent
+  place-delivers ok x c p d e q = record { result = d ∙ go c e p q }
+    where
+      passed : placeRefusal Q m t a s words ≡ firstOf ((uncountable (familyAt t a), 11) ∷ (absent (familyAt t a) s, 14) ∷ [])
+      passed = passed-by (listTests Q m t a s words) (o .says) _ tt ok
 
-  module _ (ok : r ≡ 0) (listed : notTimetable Q s ≡ false) where
-    pub place-words : words ≤ a → PlacePost Q m t a s words (PlaceRefused 8)
-    unfolding placeRefusal
-    place-words h = place-post (passed-by o _ tt ok ∙ pass 6 _ listed ∙ hit 8 _ (too-few (a + 1) words (omega arith))) (λ z. omega arith)
+      go : (c : Tally) → Told c (length (familyAt t a)) → (p : Spot) → PlaceFound s (familyAt t a) p
+          → placedReply c p ≡ reply (placeRefusal Q m t a s words) (position s (familyAt t a))
+      go (Exactly n) e (At k) p =
+          ap gives (p .1 (e .1)) ∙ reply-gives _ (passed ∙ pass 11 _ (countable (familyAt t a) (e .1)) ∙ pass 14 _ (ap not (p .0)) ∙ none)
+      go (Exactly n) e Absent p = reply-refused 14 _ (passed ∙ pass 11 _ (countable (familyAt t a) (e .1)) ∙ hit 14 _ (ap not p)) (λ z. omega arith)
+      go TooMany e p q = reply-refused 11 _ (passed ∙ hit 11 _ (too-many (familyAt t a) e)) (λ z. omega arith)
 
-    pub place-delivers : a < words → (x : Placed) (c : Tally) (p : Spot) → placeReply x ≡ placedReply c p
-        → Told c (length (familyAt t a)) → PlaceFound s (familyAt t a) p → PlacePost Q m t a s words x
-    unfolding placeRefusal absent
-    place-delivers room x c p d e q = record { result = d ∙ go c e p q }
-      where
-        so-far : placeRefusal Q m t a s words ≡ firstOf ((uncountable (familyAt t a), 11) ∷ (absent (familyAt t a) s, 14) ∷ [])
-        so-far = passed-by o _ tt ok ∙ pass 6 _ listed ∙ pass 8 _ (enough (a + 1) words (omega arith))
+-- ---- a chosen timetable
 
-        go : (c : Tally) → Told c (length (familyAt t a)) → (p : Spot) → PlaceFound s (familyAt t a) p
-            → placedReply c p ≡ reply (placeRefusal Q m t a s words) (position s (familyAt t a))
-        go (Exactly n) e (At k) p =
-            ap gives (p .1 (e .1)) ∙ reply-gives _ (so-far ∙ pass 11 _ (countable (familyAt t a) (e .1)) ∙ pass 14 _ (ap not (p .0)) ∙ none)
-        go (Exactly n) e Absent p = reply-refused 14 _ (so-far ∙ pass 11 _ (countable (familyAt t a) (e .1)) ∙ hit 14 _ (ap not p)) (λ z. omega arith)
-        go TooMany e p q = reply-refused 11 _ (so-far ∙ hit 11 _ (too-many (familyAt t a) e)) (λ z. omega arith)
+-- where only 15 is left, the call's reply and its page
+module _ (n : ℕ) (s : List ℕ) (x : ℕ) (page : List ℕ) (last : n ≡ firstOf ((shortPage page s, 15) ∷ [])) where
+  chosen-delivers : {page′ : List ℕ} (b : Chosen) → Weighed s x page page′ b → (chosenReply b ≡ reply n (length s, x)) × (page′ ≡ written n s page)
+  chosen-delivers (Found c w) p =
+      let z : n ≡ 0 = last ∙ pass 15 _ (page-fits page s (p .2)) ∙ none in
+      (ap₂ (λ (i j : ℕ). gives (i, j)) (p .0) (p .1) ∙ reply-gives (length s, x) z, p .3 ∙ page-written s page z)
+  chosen-delivers NoRoom p =
+      let z : n ≡ 15 = last ∙ hit 15 _ (page-short page s (p .0)) in
+      (reply-refused 15 _ z (λ y. omega arith), p .1 ∙ page-left 15 s page z (λ y. omega arith))
 
 -- ---- cheapest
 
@@ -261,37 +292,50 @@ module _ {Q : Problem} {m : ℕ} {C t : List ℕ} {a words : ℕ} {page : List �
 module _ {Q : Problem} {m : ℕ} {C t keys : List ℕ} {a words r : ℕ} {page : List ℕ} (o : Opened (pricedTests Q m C t a) Q t keys a r) where
   pub cheapest-refused : (r ≡ 0 → ⊥) → CheapestPost Q m C t a words page (PriceRefused r) page
   unfolding cheapestRefusal
-  cheapest-refused f = cheapest-post (refused-by o _ f) f
+  cheapest-refused f = cheapest-post (refused-by (pricedTests Q m C t a) (o .says) _ f) f
 
   module _ (ok : r ≡ 0) where
     pub cheapest-words : words < a + 1 → CheapestPost Q m C t a words page (PriceRefused 8) page
     unfolding cheapestRefusal
-    cheapest-words h = cheapest-post (passed-by o _ tt ok ∙ hit 8 _ (too-few (a + 1) words h)) (λ z. omega arith)
+    cheapest-words h = cheapest-post (passed-by (pricedTests Q m C t a) (o .says) _ tt ok ∙ hit 8 _ (too-few (a + 1) words h)) (λ z. omega arith)
 
     module _ (room : a + 1 ≤ words) where
       pub cheapest-nothing : a ≡ 0 → CheapestPost Q m C t a words page (PriceRefused 13) page
       unfolding cheapestRefusal
       cheapest-nothing e =
-          cheapest-post (passed-by o _ tt ok ∙ pass 8 _ (enough (a + 1) words room) ∙ hit 13 _ (is-nothing a e)) (λ z. omega arith)
+          cheapest-post (passed-by (pricedTests Q m C t a) (o .says) _ tt ok ∙ pass 8 _ (enough (a + 1) words room) ∙ hit 13 _ (is-nothing a e)) (λ z. omega arith)
 
-      pub cheapest-delivers : {page′ : List ℕ} → (a ≡ 0 → ⊥) → (x : Priced) (b : Cheap) → cheapestReply x ≡ cheapReply b
-          → Bought (cheapest C (familyAt t a)) (cost C (cheapest C (familyAt t a))) page page′ b → CheapestPost Q m C t a words page x page′
+      pub cheapest-delivers : {page′ : List ℕ} → (a ≡ 0 → ⊥) → (x : Priced) (b : Chosen) → cheapestReply x ≡ chosenReply b
+          → Weighed (cheapest C (familyAt t a)) (cost C (cheapest C (familyAt t a))) page page′ b → CheapestPost Q m C t a words page x page′
       unfolding cheapestRefusal
-      cheapest-delivers {page′} some x b d p = go b d p
-        where
-          s : List ℕ
-          s = cheapest C (familyAt t a)
+      cheapest-delivers some x b d p =
+          let s : List ℕ = cheapest C (familyAt t a) in
+          let r =
+          chosen-delivers (cheapestRefusal Q m C t a words page) s (cost C s) page
+          (passed-by (pricedTests Q m C t a) (o .says) _ tt ok ∙ pass 8 _ (enough (a + 1) words room) ∙ pass 13 _ (something a some)) b p in
+          record { result = d ∙ r .0; pages = r .1 }
 
-          so-far : cheapestRefusal Q m C t a words page ≡ firstOf ((shortPage page s, 15) ∷ [])
-          so-far = passed-by o _ tt ok ∙ pass 8 _ (enough (a + 1) words room) ∙ pass 13 _ (something a some)
+-- ---- closest
 
-          go : (b : Cheap) → cheapestReply x ≡ cheapReply b → Bought s (cost C s) page page′ b → CheapestPost Q m C t a words page x page′
-          go (Found n c) d p =
-              let z : cheapestRefusal Q m C t a words page ≡ 0 = so-far ∙ pass 15 _ (page-fits page s (p .2)) ∙ none in
-              record {
-                result = d ∙ ap₂ (λ (i j : ℕ). gives (i, j)) (p .0) (p .1) ∙ reply-gives (length s, cost C s) z;
-                pages = p .3 ∙ page-written s page z;
-              }
-          go NoRoom d p =
-              let z : cheapestRefusal Q m C t a words page ≡ 15 = so-far ∙ hit 15 _ (page-short page s (p .0)) in
-              record { result = d ∙ reply-refused 15 _ z (λ y. omega arith); pages = p .1 ∙ page-left 15 s page z (λ y. omega arith) }
+module _ {Q : Problem} {m : ℕ} {t : List ℕ} {a : ℕ} {s : List ℕ} {words r : ℕ} {page : List ℕ} (o : OpenedList Q m t a s words r) where
+  closest-post : {n : ℕ} → closestRefusal Q m t a s words page ≡ n → (n ≡ 0 → ⊥) → ClosestPost Q m t a s words page (CompareRefused n) page
+  closest-post {n} e f = record { result = reply-refused n _ e f; pages = page-left n _ page e f }
+
+  pub closest-refused : (r ≡ 0 → ⊥) → ClosestPost Q m t a s words page (CompareRefused r) page
+  unfolding closestRefusal
+  closest-refused f = closest-post (refused-by (listTests Q m t a s words) (o .says) _ f) f
+
+  module _ (ok : r ≡ 0) where
+    pub closest-nothing : a ≡ 0 → ClosestPost Q m t a s words page (CompareRefused 13) page
+    unfolding closestRefusal
+    closest-nothing e = closest-post (passed-by (listTests Q m t a s words) (o .says) _ tt ok ∙ hit 13 _ (is-nothing a e)) (λ z. omega arith)
+
+    pub closest-delivers : {page′ : List ℕ} → (a ≡ 0 → ⊥) → (x : Compared) (b : Chosen) → closestReply x ≡ chosenReply b
+        → Weighed (closest s (familyAt t a)) (difference s (closest s (familyAt t a))) page page′ b → ClosestPost Q m t a s words page x page′
+    unfolding closestRefusal
+    closest-delivers some x b d p =
+        let u : List ℕ = closest s (familyAt t a) in
+        let r =
+        chosen-delivers (closestRefusal Q m t a s words page) u (difference s u) page
+        (passed-by (listTests Q m t a s words) (o .says) _ tt ok ∙ pass 13 _ (something a some)) b p in
+        record { result = d ∙ r .0; pages = r .1 }

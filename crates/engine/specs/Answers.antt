@@ -8,8 +8,8 @@ use Rattle.query.specs.declared.Written.{Written}
 use Rattle.query.specs.declared.Written.the-variants.{Packages, Short}
 use Rattle.query.specs.declared.Spot.{Spot}
 use Rattle.query.specs.declared.Spot.the-variants.{At, Absent}
-use Rattle.query.specs.declared.Cheap.{Cheap}
-use Rattle.query.specs.declared.Cheap.the-variants.{Found, NoRoom}
+use Rattle.query.specs.declared.Chosen.{Chosen}
+use Rattle.query.specs.declared.Chosen.the-variants.{Found, NoRoom}
 use Rattle.statement.specs.Replies.{Reply, refused, gives}
 use Rattle.statement.specs.Refusals.{firstOf}
 
@@ -39,6 +39,6 @@ placedReply (Exactly n) s = spotReply s
 placedReply TooMany s = refused 11
 
 -- 15: longer than the page
-abbrev pub cheapReply : Cheap → Reply (ℕ × ℕ)
-cheapReply (Found n c) = gives (n, c)
-cheapReply NoRoom = refused 15
+abbrev pub chosenReply : Chosen → Reply (ℕ × ℕ)
+chosenReply (Found n w) = gives (n, w)
+chosenReply NoRoom = refused 15

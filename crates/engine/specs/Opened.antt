@@ -8,8 +8,8 @@ use lib.ListN.{length}
 use Rattle.zdd.specs.Table.{count}
 use Rattle.exact_cover.specs.Problem.{Problem}
 use Rattle.query.specs.Questions.{familyAt}
-use Rattle.query.specs.Reading.{Readable, Filled, countWord}
-use Rattle.statement.specs.Refusals.{firstOf, pricedTests, measureRefusal}
+use Rattle.query.specs.Reading.{Readable, Comparable, Filled, countWord}
+use Rattle.statement.specs.Refusals.{firstOf, listTests, pricedTests, measureRefusal}
 use Rattle.guard.specs.Admitted.{Usable}
 
 -- the table is good, the keys are computed, and the table knows the answer
@@ -40,3 +40,16 @@ pub record Reachable (t : List ℕ) (a k : ℕ) (w : List ℕ) : Type 0 where
 pub record OpenedAt (Q : Problem) (m : ℕ) (t : List ℕ) (a k words : ℕ) (w : List ℕ) (r : ℕ) : Type 0 where
   pub says : r ≡ measureRefusal Q m t a k words
   pub ready : r ≡ 0 → Reachable t a k w
+
+-- ---- a list of packages
+
+-- it can be compared with the timetables of the answer: the table is good and knows the answer, the list is in precedence, and the working words have room
+pub record Ready (t : List ℕ) (a : ℕ) (s : List ℕ) (words : ℕ) : Type 0 where
+  pub comparable : Comparable t s
+  pub known : a < count t + 2
+  pub room : a < words
+
+-- r is the refusal by the tests of a list; where it is 0, none, the list can be compared
+pub record OpenedList (Q : Problem) (m : ℕ) (t : List ℕ) (a : ℕ) (s : List ℕ) (words r : ℕ) : Type 0 where
+  pub says : r ≡ firstOf (listTests Q m t a s words)
+  pub ready : r ≡ 0 → Ready t a s words

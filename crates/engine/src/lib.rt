@@ -10,20 +10,21 @@ ghost use lib.ListN.{length};
 ghost use Rattle.itemset.specs.Words.{value, setsOf};
 ghost use Rattle.zdd.specs.Table.{count as nodes};
 ghost use Rattle.exact_cover.specs.Problem.{problemOf};
-ghost use Rattle.statement.specs.Replies.{countReply, pickReply, placeReply, cheapestReply};
+ghost use Rattle.statement.specs.Replies.{countReply, pickReply, placeReply, cheapestReply, closestReply};
 ghost use Rattle.statement.specs.Refusals.{firstOf, openTests};
-ghost use Rattle.statement.specs.Postconditions.{CheckPost, CountPost, MeasurePost, PickPost, PlacePost, CheapestPost};
+ghost use Rattle.statement.specs.Postconditions.{CheckPost, CountPost, MeasurePost, PickPost, PlacePost, CheapestPost, ClosestPost};
 ghost use Rattle.statement.specs.Postconditions.{AnswerPost, CoverPost, EitherPost, BothPost, OnlyPost, WithPost, WithoutPost, JoinPost};
 ghost use Rattle.support.specs.Support.{Labelled};
-ghost use Rattle.engine.specs.Answers.{tallyReply, endRefusal, writtenReply, placedReply, cheapReply};
-ghost use Rattle.engine.specs.Opened.{Opened, OpenedAt, OpenedPriced};
+ghost use Rattle.engine.specs.Answers.{tallyReply, endRefusal, writtenReply, placedReply, chosenReply};
+ghost use Rattle.engine.specs.Opened.{Opened, OpenedAt, OpenedList, OpenedPriced};
 ghost use Rattle.engine.specs.Reports.{Reported, pairCall, joinFront, PairTested, partCall};
 use itemset::Items;
-use query::Cheap;
+use query::Chosen;
 use query::Spot;
 use query::Tally;
 use query::Written;
 use statement::Call;
+use statement::Compared;
 use statement::Counted;
 use statement::Measured;
 use statement::Outcome;
@@ -212,6 +213,36 @@ fn placed(c: Tally, s: Spot) -> Placed
     }
 }
 
+// Refusal 1, 2, 29, 30, 34, 4, 5, 6 or 8 of a call that is lent a list of packages; 0 where none applies, and then the list is in precedence.
+fn opened_list(
+    m: u32,
+    packages: &[u64],
+    optional: Items,
+    order: &[u8],
+    t: &[u32],
+    answer: u32,
+    list: &[u16],
+    words: usize,
+) -> u8
+    ensures { λ r. ⌜ OpenedList (problemOf (now (packages .entry)) (value optional) (now (order .entry))) m (now (t .entry)) answer (now (list .entry)) words r ⌝ }
+{
+    let mut keys = [0u32; 512];
+    let r = opened(m, packages, optional, order, t, answer, &mut keys);
+    if r != 0 {
+        return r;
+    }
+    let n = exact_cover::number(packages);
+    let listed = query::in_precedence(list, &keys[..n]);
+    let a = base::wide(answer);
+    if !listed {
+        return 6;
+    }
+    if words <= a {
+        return 8;
+    }
+    0
+}
+
 // Where the list stands in the listing of the answer.
 pub fn place(
     m: u32,
@@ -225,21 +256,12 @@ pub fn place(
 ) -> Placed
     ensures { λ r. ⌜ PlacePost (problemOf (now (packages .entry)) (value optional) (now (order .entry))) m (now (t .entry)) answer (now (list .entry)) (length (now (work .entry))) r ⌝ }
 {
-    let mut keys = [0u32; 512];
-    let r = opened(m, packages, optional, order, t, answer, &mut keys);
+    let words = work.len();
+    let r = opened_list(m, packages, optional, order, t, answer, list, words);
     if r != 0 {
         return Placed::Refused(r);
     }
-    let n = exact_cover::number(packages);
-    let listed = query::in_precedence(list, &keys[..n]);
     let a = base::wide(answer);
-    let words = work.len();
-    if !listed {
-        return Placed::Refused(6);
-    }
-    if words <= a {
-        return Placed::Refused(8);
-    }
     let c = query::count(t, a, work);
     let s = query::place(t, a, list, work);
     placed(c, s)
@@ -269,12 +291,15 @@ fn opened_priced(
     opened(m, packages, optional, order, t, answer, keys)
 }
 
-fn priced(c: Cheap) -> Priced
-    ensures { λ r. ⌜ cheapestReply r ≡ cheapReply c ⌝ }
+fn priced(c: Chosen) -> Priced
+    ensures { λ r. ⌜ cheapestReply r ≡ chosenReply c ⌝ }
 {
     match c {
-        Cheap::Found { packages, cost } => Priced::Cheapest { packages, cost },
-        Cheap::NoRoom => Priced::Refused(15),
+        Chosen::Found { packages, weight } => Priced::Cheapest {
+            packages,
+            cost: weight,
+        },
+        Chosen::NoRoom => Priced::Refused(15),
     }
 }
 
@@ -307,6 +332,46 @@ pub fn cheapest(
     }
     let c = query::cheapest(costs, t, a, work, page);
     priced(c)
+}
+
+fn compared(c: Chosen) -> Compared
+    ensures { λ r. ⌜ closestReply r ≡ chosenReply c ⌝ }
+{
+    match c {
+        Chosen::Found { packages, weight } => Compared::Closest {
+            packages,
+            difference: weight,
+        },
+        Chosen::NoRoom => Compared::Refused(15),
+    }
+}
+
+// Of the timetables of the answer that differ from the list in the fewest packages the first listed, to the start of the page.
+pub fn closest(
+    m: u32,
+    packages: &[u64],
+    optional: Items,
+    order: &[u8],
+    t: &[u32],
+    answer: u32,
+    list: &[u16],
+    work: &mut [u64],
+    page: &mut [u16],
+) -> Compared
+    ensures { λ r. ⌜ ClosestPost (problemOf (now (packages .entry)) (value optional) (now (order .entry))) m (now (t .entry)) answer (now (list .entry))
+        (length (now (work .entry))) (now (page .entry)) r (now (page .exit)) ⌝ }
+{
+    let words = work.len();
+    let r = opened_list(m, packages, optional, order, t, answer, list, words);
+    if r != 0 {
+        return Compared::Refused(r);
+    }
+    let a = base::wide(answer);
+    if a == 0 {
+        return Compared::Refused(13);
+    }
+    let c = query::closest(list, t, a, work, page);
+    compared(c)
 }
 
 // The report of a call whose answer has the number k, or 65536 where there was no room for it. The table had `before` nodes before the call.
