@@ -1,7 +1,7 @@
 # What a caller from C needs. The gate is .ci/run; nothing here is part of it. `rt`, a C compiler, for test-c one of C++ and, for test-rust
 # and bench, cargo are on the path.
 PREFIX ?= /usr/local
-VERSION = 0.5.0
+VERSION = 0.6.0
 CC ?= cc
 CXX ?= c++
 CFLAGS ?= -O2
@@ -62,7 +62,7 @@ bench_run = MOGEDORN_LIB='$(abspath target/staticlib)' $(if $(OLD),MOGEDORN_OLD=
 bench: $(archive)
 	$(bench_run)
 
-# What thousands of picks in a row cost, and of what.
+# What thousands of picks in a row cost, and of what; and as many calls of cheapest and closest.
 picks: $(archive)
 	$(bench_run) --bin picks
 

@@ -1,6 +1,6 @@
 /* A week at the pool: two schools and two slots, six packages, as document 01's example has them. Builds the bids file, reads it, covers all items, and
-   asks what the desk would ask; joins the two schools planned apart; then once more with a slot that may go to the public, and once with the slots first.
-   `make example` builds and runs it. */
+   asks what the desk would ask; joins the two schools planned apart; then once more with a slot that may go to the public, where it looks for the timetable
+   closest to last term's, and once with the slots first. `make example` builds and runs it. */
 #include <stdint.h>
 #include <stdio.h>
 #include <stdlib.h>
@@ -111,6 +111,15 @@ static void one_programme(const mogedorn_week *week, uint32_t all) {
     printf("join with the whole week: refused %u\n", (unsigned)mogedorn_week_join(week, table, TABLE, a, all, work, WORK).refusal);
 }
 
+/* Last term's timetable was 4 5, and package 4 has fallen out: school 1 keeps its package, and school 0 gets another. */
+static void little_change(const mogedorn_week *week, uint32_t all) {
+    static const uint16_t last_term[] = {4, 5};
+    uint32_t rest = answer("without 4", mogedorn_week_without(week, public_table, TABLE, all, 4, work, WORK));
+    mogedorn_comparison nearest = mogedorn_week_closest(week, public_table, TABLE, rest, last_term, 2, work, WORK, page, PAGE);
+    timetable("closest to 4 5", (mogedorn_timetable){.refusal = nearest.refusal, .packages = nearest.packages});
+    printf("  difference %u\n", (unsigned)nearest.difference);
+}
+
 /* The same bids where slot 1 may go to the public: at most one package has it. Another optional set, so another table. */
 static void open_swimming(const mogedorn_week *school_week, const uint64_t everything[3]) {
     mogedorn_week week = *school_week;
@@ -118,6 +127,7 @@ static void open_swimming(const mogedorn_week *school_week, const uint64_t every
     week.optional[slot / 64] |= 1ull << slot % 64;
     uint32_t all = answer("cover with slot 1 optional", mogedorn_week_cover(&week, public_table, TABLE, everything, 1000000, work, WORK));
     list(&week, public_table, all); /* new is 0 5: neither school takes slot 1 */
+    little_change(&week, all);
     /* a package must have a compulsory item, here its school */
     memcpy(week.optional, everything, sizeof week.optional);
     printf("all items optional: refused %u\n", (unsigned)mogedorn_week_check(&week, public_table, TABLE));
@@ -199,6 +209,9 @@ cover with slot 1 optional: answer 7, 9 steps, 6 nodes made
   packages: 0 5
   packages: 1 3
   packages: 4 5
+without 4: answer 9, 0 steps, 2 nodes made
+closest to 4 5: 0 5
+  difference 2
 all items optional: refused 30
 cover with the slots first: answer 7, 7 steps, 6 nodes made
   3 timetables

@@ -12,7 +12,7 @@
  *
  * Ownership. Everything is lent for the time of the call. Nothing is kept, allocated or freed, and there is no state between calls but the table.
  * Threads. The entries are reentrant. Any number of calls may run at once on different tables; calls that only read (check, count, measure, pick, place,
- * cheapest) may share a table, each with its own working words and page.
+ * cheapest, closest) may share a table, each with its own working words and page.
  *
  * An item set is three 64-bit words, lowest first: item i is bit i % 64 of word i / 64.
  *
@@ -50,9 +50,9 @@
  *
  * Stack and time are not proved, only that every call ends. Stack: measured by `make stack`: each entry on a stack filled with a pattern, on inputs that make
  * it go deepest, the lowest changed byte counted; here rounded up. Lend a thread that much and what its own code takes. The recursion is bounded: by 192 items in
- * cover, by 512 packages in the others. Time: cover is bounded by its step limit; count, measure, pick, place, cheapest, with and without go through the table;
- * either, both and only may take very long where too few words are lent for large answers, see there, which was not met with join. A table made on purpose to
- * fill one bucket of the node index is checked in quadratic time: 65,534 nodes in 4.5 s.
+ * cover, by 512 packages in the others. Time: cover is bounded by its step limit; count, measure, pick, place, cheapest, closest, with and without go through the
+ * table; either, both and only may take very long where too few words are lent for large answers, see there, which was not met with join. A table made on
+ * purpose to fill one bucket of the node index is checked in quadratic time: 65,534 nodes in 4.5 s.
  */
 #ifndef MOGEDORN_H
 #define MOGEDORN_H
@@ -77,7 +77,7 @@ enum {
     MOGEDORN_COST_LIST = 3,        /* its length is not N */
     MOGEDORN_SPOILT = 4,           /* the table is not sound */
     MOGEDORN_UNKNOWN_ANSWER = 5,   /* an operand that the table does not know */
-    MOGEDORN_UNKNOWN_PACKAGE = 6,  /* a package of N or more; in place also a list out of precedence or repeating */
+    MOGEDORN_UNKNOWN_PACKAGE = 6,  /* a package of N or more; in place and closest also a list out of precedence or repeating */
     MOGEDORN_UNKNOWN_ITEM = 7,     /* an item of M or above in the set to cover */
     MOGEDORN_OVERLAP = 35,         /* join: a package on a node below one answer, its own included, shares an item with one below the other */
     MOGEDORN_SHORT_WORK = 8,       /* too few working words */
@@ -85,7 +85,7 @@ enum {
     MOGEDORN_FULL = 10,            /* the answer's nodes that are not yet in the table outnumber the free places */
     MOGEDORN_UNCOUNTABLE = 11,     /* more than 18446744073709551615 timetables */
     MOGEDORN_PAST_THE_END = 12,    /* pick or measure of k at or above the count */
-    MOGEDORN_NOTHING = 13,         /* cheapest of 0 */
+    MOGEDORN_NOTHING = 13,         /* cheapest or closest of 0 */
     MOGEDORN_ABSENT = 14,          /* place of a timetable not in the answer */
     MOGEDORN_SHORT_PAGE = 15,      /* the timetable is longer than the page; of read_bids: room for fewer than N packages or costs */
     MOGEDORN_BIDS_CUT = 20,        /* under 13 bytes, or not the length that its header asks */
@@ -120,6 +120,13 @@ typedef struct {
     uint32_t cost;     /* of cheapest; 0 of pick */
     uint64_t packages; /* how many packages were written to the page */
 } mogedorn_timetable;
+
+/* Of closest. */
+typedef struct {
+    uint32_t refusal;
+    uint32_t difference; /* the packages that only one of the two has, the list or what was written */
+    uint64_t packages;   /* how many packages were written to the page */
+} mogedorn_comparison;
 
 /* Of read_bids. */
 typedef struct {
@@ -169,9 +176,9 @@ mogedorn_report mogedorn_without(uint32_t m, const uint64_t *packages, size_t pa
 /* Join: every union of a timetable of a and one of b. Two halves of a week, or two pools, are planned on separate items and become one programme: no package on
    a node below a, its own node included, may share an item with one below b (35). Optional items count too; 0 and 1 have no nodes. 35 is told whatever working
    words are lent. Join with 1 is the other answer, with 0 it is 0. The count of a join is the product of the two counts. It may exceed 64 bits: then count,
-   measure, pick and place say 11, and cheapest still answers. At least one working word more than the larger of the two numbers, and at least 2. Results of pairs
-   are remembered as by either; but each pair that meets is a node of the join, so that there are never more than 65,534, and more words were not faster: by `make
-   words` 57,055 nodes are made in 0.002 s with 6,000 words. Refusals 1, 2, 29, 30, 34, 4, 5, 35, 8, 10. Stack: 642 KB. */
+   measure, pick and place say 11; cheapest and closest still answer. At least one working word more than the larger of the two numbers, and at least 2. Results of
+   pairs are remembered as by either; but each pair that meets is a node of the join, so that there are never more than 65,534, and more words were not faster: by
+   `make words` 57,055 nodes are made in 0.002 s with 6,000 words. Refusals 1, 2, 29, 30, 34, 4, 5, 35, 8, 10. Stack: 642 KB. */
 mogedorn_report mogedorn_join(uint32_t m, const uint64_t *packages, size_t packages_len, const uint64_t optional[3], const uint8_t *order, size_t order_len,
                               uint32_t *table, size_t table_len, uint32_t a, uint32_t b, uint64_t *work, size_t work_len);
 
@@ -200,6 +207,15 @@ mogedorn_number mogedorn_place(uint32_t m, const uint64_t *packages, size_t pack
    Refusals 1, 2, 29, 30, 34, 3, 4, 5, 8, 13, 15. Stack: 266 KB. */
 mogedorn_timetable mogedorn_cheapest(uint32_t m, const uint64_t *packages, size_t packages_len, const uint64_t optional[3], const uint8_t *order,
                                      size_t order_len, const uint16_t *costs, size_t costs_len, const uint32_t *table, size_t table_len, uint32_t answer,
+                                     uint64_t *work, size_t work_len, uint16_t *page, size_t page_len);
+
+/* The timetable of the answer that is closest to a list of packages, such as last term's timetable: of those that differ from the list in the fewest packages,
+   counting those in one but not in the other, the first listed, written to the page. The list has packages below N in precedence, none twice (6), and no more is
+   asked of it: it need not be a timetable of the answer, may leave items out or cover them twice, and may be empty. A timetable of the answer gives itself, with
+   the difference 0. The page must not overlap the list. It answers also where count says 11. At least answer + 1 working words.
+   Refusals 1, 2, 29, 30, 34, 4, 5, 6, 8, 13, 15. Stack: 266 KB. */
+mogedorn_comparison mogedorn_closest(uint32_t m, const uint64_t *packages, size_t packages_len, const uint64_t optional[3], const uint8_t *order,
+                                     size_t order_len, const uint32_t *table, size_t table_len, uint32_t answer, const uint16_t *list, size_t list_len,
                                      uint64_t *work, size_t work_len, uint16_t *page, size_t page_len);
 
 /* Reads a bids file: its N packages as item sets, three words each, and their costs, to the start of the buffers, whose rest is unchanged. The buffers have at
@@ -319,6 +335,12 @@ static inline mogedorn_timetable mogedorn_week_cheapest(const mogedorn_week *wee
                                                         size_t table_len, uint32_t answer, uint64_t *work, size_t work_len, uint16_t *page,
                                                         size_t page_len) {
     return mogedorn_cheapest(MOGEDORN_LENT(week), costs, costs_len, table, table_len, answer, work, work_len, page, page_len);
+}
+
+static inline mogedorn_comparison mogedorn_week_closest(const mogedorn_week *week, const uint32_t *table, size_t table_len, uint32_t answer,
+                                                        const uint16_t *list, size_t list_len, uint64_t *work, size_t work_len, uint16_t *page,
+                                                        size_t page_len) {
+    return mogedorn_closest(MOGEDORN_LENT(week), table, table_len, answer, list, list_len, work, work_len, page, page_len);
 }
 
 #undef MOGEDORN_LENT

@@ -90,6 +90,9 @@ static void do_place(void) {
 static void do_cheapest(void) {
     refused |= mogedorn_cheapest(M, packages, 3 * N, optional, order, M, costs, N, table, sizeof table / 4, all, work, 4 * NODES, page, N).refusal;
 }
+static void do_closest(void) {
+    refused |= mogedorn_closest(M, packages, 3 * N, optional, order, M, table, sizeof table / 4, all, list, N, work, 4 * NODES, page, N).refusal;
+}
 static void do_read_bids(void) { refused |= mogedorn_read_bids(file, sizeof file, packages, 3 * N, costs, N).refusal; }
 
 /* A file of 64 schools with one package each. */
@@ -118,7 +121,7 @@ int main(void) {
     static const struct { const char *name; void (*call)(void); } calls[] = {
         {"check", do_check}, {"all_items", do_all_items}, {"cover", do_cover}, {"either", do_either}, {"both", do_both}, {"only", do_only},
         {"with", do_with}, {"without", do_without}, {"join", do_join}, {"count", do_count}, {"measure", do_measure}, {"pick", do_pick},
-        {"place", do_place}, {"cheapest", do_cheapest}, {"read_bids", do_read_bids},
+        {"place", do_place}, {"cheapest", do_cheapest}, {"closest", do_closest}, {"read_bids", do_read_bids},
     };
     for (size_t i = 0; i < sizeof calls / sizeof *calls; i++) {
         refused = 0;

@@ -89,6 +89,40 @@ static void joins(uint32_t all) {
     expect("join of an unknown answer", join(a, table[0] + 2, 0).refusal == MOGEDORN_UNKNOWN_ANSWER);
 }
 
+/* Closest on a page that both sides have alike; a refusal leaves it as it was. */
+static mogedorn_comparison closest(uint32_t a, const uint16_t *list, size_t list_len, size_t words, size_t page_len) {
+    uint16_t before[PAGE];
+    memcpy(entry_page, page, sizeof page);
+    memcpy(before, page, sizeof page);
+    mogedorn_comparison x = mogedorn_week_closest(&week, table, TABLE, a, list, list_len, work, words, page, page_len);
+    mogedorn_comparison entry = mogedorn_closest(LENT, table, TABLE, a, list, list_len, work, words, entry_page, page_len);
+    expect("closest", x.refusal == entry.refusal && x.difference == entry.difference && x.packages == entry.packages);
+    expect("closest", memcmp(page, entry_page, sizeof page) == 0);
+    if (x.refusal) expect("closest refused", x.difference == 0 && x.packages == 0 && memcmp(page, before, sizeof page) == 0);
+    return x;
+}
+
+/* A timetable is closest to itself; to no package they are all as close, and the first is given. A list is turned round, repeats, or has a package of N. */
+static void closest_ones(uint32_t all, const uint16_t second[2]) {
+    const uint16_t turned[2] = {second[1], second[0]}, twice[2] = {second[0], second[0]}, unknown[1] = {4};
+    mogedorn_comparison x = closest(all, second, 2, all + 1, 2);
+    expect("closest to itself", x.refusal == 0 && x.difference == 0 && x.packages == 2 && page[0] == second[0] && page[1] == second[1]);
+    mogedorn_week_pick(&week, table, TABLE, all, 0, work, WORK, page, PAGE);
+    const uint16_t first[2] = {page[0], page[1]};
+    page[0] = page[1] = 9;
+    x = closest(all, second, 0, WORK, PAGE);
+    expect("closest to nothing", x.refusal == 0 && x.difference == 2 && x.packages == 2 && page[0] == first[0] && page[1] == first[1]);
+    x = closest(1, second, 1, 2, 0);
+    expect("closest of 1", x.refusal == 0 && x.difference == 1 && x.packages == 0);
+    expect("closest of an unknown answer", closest(table[0] + 2, turned, 2, 0, 0).refusal == MOGEDORN_UNKNOWN_ANSWER);
+    expect("closest to a list turned round", closest(all, turned, 2, 0, 0).refusal == MOGEDORN_UNKNOWN_PACKAGE);
+    expect("closest to a list that repeats", closest(all, twice, 2, 0, 0).refusal == MOGEDORN_UNKNOWN_PACKAGE);
+    expect("closest to an unknown package", closest(0, unknown, 1, 0, 0).refusal == MOGEDORN_UNKNOWN_PACKAGE);
+    expect("closest with few words", closest(all, second, 2, all, 0).refusal == MOGEDORN_SHORT_WORK && closest(0, second, 2, 0, 0).refusal == MOGEDORN_SHORT_WORK);
+    expect("closest of nothing", closest(0, second, 2, 1, 0).refusal == MOGEDORN_NOTHING);
+    expect("closest on a short page", closest(all, second, 2, all + 1, 1).refusal == MOGEDORN_SHORT_PAGE);
+}
+
 /* The second timetable and the cheapest. */
 static void questions(uint32_t all, const uint16_t second[2], const uint16_t least[2]) {
     expect("check", mogedorn_week_check(&week, table, TABLE) == 0 && mogedorn_check(LENT, table, TABLE) == 0);
@@ -99,6 +133,7 @@ static void questions(uint32_t all, const uint16_t second[2], const uint16_t lea
               mogedorn_pick(LENT, table, TABLE, all, 1, work, WORK, entry_page, PAGE), second[0], second[1]);
     timetable("cheapest", mogedorn_week_cheapest(&week, costs, 4, table, TABLE, all, work, WORK, page, PAGE),
               mogedorn_cheapest(LENT, costs, 4, table, TABLE, all, work, WORK, entry_page, PAGE), least[0], least[1]);
+    closest_ones(all, second);
 }
 
 /* Every call, on empty tables. The week has the order that the entries are lent, or null for the plain one. */
@@ -138,6 +173,7 @@ static void disordered(const uint8_t *bad, size_t bad_len) {
     report("cover in a bad order", x, mogedorn_cover(3, packages, 13, week.optional, bad, bad_len, entry_table, TABLE, d, 6, work, WORK));
     /* before the length of the cost list */
     expect("cheapest in a bad order", mogedorn_week_cheapest(&week, costs, 3, table, TABLE, 1, work, WORK, page, PAGE).refusal == MOGEDORN_DISORDERED);
+    expect("closest in a bad order", mogedorn_week_closest(&week, table, TABLE, 1, page, 0, work, WORK, entry_page, PAGE).refusal == MOGEDORN_DISORDERED);
 }
 
 static void bad_orders(void) {

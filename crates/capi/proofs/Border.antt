@@ -17,19 +17,21 @@ use Rattle.statement.specs.declared.Picked.{Picked}
 use Rattle.statement.specs.declared.Measured.{Measured}
 use Rattle.statement.specs.declared.Placed.{Placed}
 use Rattle.statement.specs.declared.Priced.{Priced}
-use Rattle.statement.specs.Replies.{Reply, refused, soundnessReply, countReply, measureReply, pickReply, placeReply, cheapestReply}
-use Rattle.statement.specs.Refusals.{checkRefusal, countRefusal, measureRefusal, pickRefusal, placeRefusal, cheapestRefusal}
-use Rattle.statement.specs.Postconditions.{Makes, CheckPost, CountPost, MeasurePost, PickPost, PlacePost, CheapestPost}
+use Rattle.statement.specs.declared.Compared.{Compared}
+use Rattle.statement.specs.Replies.{Reply, refused, soundnessReply, countReply, measureReply, pickReply, placeReply, cheapestReply, closestReply}
+use Rattle.statement.specs.Refusals.{checkRefusal, countRefusal, measureRefusal, pickRefusal, placeRefusal, cheapestRefusal, closestRefusal}
+use Rattle.statement.specs.Postconditions.{Makes, CheckPost, CountPost, MeasurePost, PickPost, PlacePost, CheapestPost, ClosestPost}
 use Rattle.statement.proofs.TestLaws.{reply-refused}
-use Rattle.query.specs.Questions.{familyAt, nth, position, cost, cheapest}
+use Rattle.query.specs.Questions.{familyAt, nth, position, cost, cheapest, difference, closest}
 use Rattle.bids.specs.declared.Reading.{Reading}
 use Rattle.bids.specs.Format as F
 use Rattle.bids.specs.Contract.{readReply, readRefusal, ReadPost}
 use Rattle.capi.specs.declared.Report.{Report}
 use Rattle.capi.specs.declared.Number.{Number}
 use Rattle.capi.specs.declared.Timetable.{Timetable}
+use Rattle.capi.specs.declared.Comparison.{Comparison}
 use Rattle.capi.specs.declared.Bids.{Bids}
-use Rattle.capi.specs.Structs.{soundnessOf, reportOf, countedOf, measuredOf, pickedOf, placedOf, pricedOf, readingOf, Says, Shows}
+use Rattle.capi.specs.Structs.{soundnessOf, reportOf, countedOf, measuredOf, pickedOf, placedOf, pricedOf, comparedOf, readingOf, Says, Shows}
 
 -- x is `gives`, and the struct says so
 pub says-gives : {A : Type 0} {x y : Reply A} → x ≡ y → Says x y
@@ -91,6 +93,13 @@ pub shows-cheapest : {Q : Problem} {m : ℕ} {C t : List ℕ} {a w : ℕ} {g g�
     → CheapestPost Q m C t a w g e g′ → CheapestPost Q m C t a w g (pricedOf r) g′
 shows-cheapest {Q} {m} {C} {t} {a} {w} {g} r h p = record {
   result = h (cheapestRefusal Q m C t a w g) (length (cheapest C (familyAt t a)), cost C (cheapest C (familyAt t a))) (p .result);
+  pages = p .pages;
+}
+
+pub shows-closest : {Q : Problem} {m : ℕ} {t : List ℕ} {a : ℕ} {s : List ℕ} {w : ℕ} {g g′ : List ℕ} {e : Compared} (r : Comparison)
+    → Says (closestReply e) (closestReply (comparedOf r)) → ClosestPost Q m t a s w g e g′ → ClosestPost Q m t a s w g (comparedOf r) g′
+shows-closest {Q} {m} {t} {a} {s} {w} {g} r h p = record {
+  result = h (closestRefusal Q m t a s w g) (length (closest s (familyAt t a)), difference s (closest s (familyAt t a))) (p .result);
   pages = p .pages;
 }
 

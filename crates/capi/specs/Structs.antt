@@ -19,11 +19,14 @@ use Rattle.statement.specs.declared.Placed.{Placed}
 use Rattle.statement.specs.declared.Placed.the-variants.{Place, Refused as PlacedRefused}
 use Rattle.statement.specs.declared.Priced.{Priced}
 use Rattle.statement.specs.declared.Priced.the-variants.{Cheapest, Refused as PricedRefused}
+use Rattle.statement.specs.declared.Compared.{Compared}
+use Rattle.statement.specs.declared.Compared.the-variants.{Closest, Refused as ComparedRefused}
 use Rattle.bids.specs.declared.Reading.{Reading}
 use Rattle.bids.specs.declared.Reading.the-variants.{Accepted, Refused as ReadingRefused}
 use Rattle.capi.specs.declared.Report.{Report}
 use Rattle.capi.specs.declared.Number.{Number}
 use Rattle.capi.specs.declared.Timetable.{Timetable}
+use Rattle.capi.specs.declared.Comparison.{Comparison}
 use Rattle.capi.specs.declared.Bids.{Bids}
 
 -- the soundness check returns its refusal, 0: sound
@@ -76,6 +79,13 @@ priceOf (suc n) c x = PricedRefused (suc n)
 abbrev pub pricedOf : Timetable → Priced
 pricedOf r = priceOf (r .refusal) (r .packages) (r .cost)
 
+abbrev pub compareOf : (refusal packages difference : ℕ) → Compared
+compareOf zero c x = Closest c x
+compareOf (suc n) c x = ComparedRefused (suc n)
+
+abbrev pub comparedOf : Comparison → Compared
+comparedOf r = compareOf (r .refusal) (r .packages) (r .difference)
+
 abbrev pub readOf : (refusal schools slots packages : ℕ) → Reading
 readOf zero s t n = Accepted s t n
 readOf (suc r) s t n = ReadingRefused (suc r)
@@ -97,6 +107,9 @@ BlankTimetable r = 0 < r .refusal → (r .packages ≡ 0) × (r .cost ≡ 0)
 -- pick has no cost
 abbrev pub BlankPick : Timetable → Type 0
 BlankPick r = (r .cost ≡ 0) × (0 < r .refusal → r .packages ≡ 0)
+
+abbrev pub BlankComparison : Comparison → Type 0
+BlankComparison r = 0 < r .refusal → (r .packages ≡ 0) × (r .difference ≡ 0)
 
 abbrev pub BlankBids : Bids → Type 0
 BlankBids r = 0 < r .refusal → (r .schools ≡ 0) × (r .slots ≡ 0) × (r .packages ≡ 0)

@@ -5,13 +5,15 @@ ghost use Prim.Native.Nat.{min};
 ghost use lib.ListN.{length};
 ghost use Rattle.itemset.specs.Words.{width, valueOf};
 ghost use Rattle.exact_cover.specs.Problem.{problemOf};
-ghost use Rattle.statement.specs.Replies.{soundnessReply, countReply, measureReply, pickReply, placeReply, cheapestReply};
-ghost use Rattle.statement.specs.Postconditions.{CheckPost, CountPost, MeasurePost, PickPost, PlacePost, CheapestPost, CoverPost, EitherPost, BothPost, OnlyPost, WithPost, WithoutPost, JoinPost};
+ghost use Rattle.statement.specs.Replies.{soundnessReply, countReply, measureReply, pickReply, placeReply, cheapestReply, closestReply};
+ghost use Rattle.statement.specs.Postconditions.{CheckPost, CountPost, MeasurePost, PickPost, PlacePost, CheapestPost, ClosestPost};
+ghost use Rattle.statement.specs.Postconditions.{CoverPost, EitherPost, BothPost, OnlyPost, WithPost, WithoutPost, JoinPost};
 ghost use Rattle.statement.specs.Examples.{allItems};
 ghost use Rattle.bids.specs.Contract.{readReply, ReadPost};
-ghost use Rattle.capi.specs.Structs.{soundnessOf, engineReport, reportOf, countedOf, measuredOf, pickedOf, placedOf, pricedOf, readingOf, BlankReport};
-ghost use Rattle.capi.specs.Structs.{BlankNumber, BlankPick, BlankTimetable, BlankBids, Says, Shows};
+ghost use Rattle.capi.specs.Structs.{soundnessOf, engineReport, reportOf, countedOf, measuredOf, pickedOf, placedOf, pricedOf, comparedOf, readingOf};
+ghost use Rattle.capi.specs.Structs.{BlankReport, BlankNumber, BlankPick, BlankTimetable, BlankComparison, BlankBids, Says, Shows};
 use bids::Reading;
+use statement::Compared;
 use statement::Counted;
 use statement::Measured;
 use statement::Outcome;
@@ -41,6 +43,14 @@ pub struct Number {
 pub struct Timetable {
     pub refusal: u32,
     pub cost: u32,
+    pub packages: u64,
+}
+
+// What closest returns: how many packages it wrote, and in how many they and the given timetable differ.
+#[repr(C)]
+pub struct Comparison {
+    pub refusal: u32,
+    pub difference: u32,
     pub packages: u64,
 }
 
@@ -169,6 +179,27 @@ fn priced(p: Priced) -> Timetable
         Priced::Refused(n) => Timetable {
             refusal: n as u32,
             cost: 0,
+            packages: 0,
+        },
+    }
+}
+
+fn compared(p: Compared) -> Comparison
+    ensures { λ r. ⌜ Says (closestReply p) (closestReply (comparedOf r)) ⌝ }
+    ensures { λ r. ⌜ BlankComparison r ⌝ }
+{
+    match p {
+        Compared::Closest {
+            packages,
+            difference,
+        } => Comparison {
+            refusal: 0,
+            difference,
+            packages: packages as u64,
+        },
+        Compared::Refused(n) => Comparison {
+            refusal: n as u32,
+            difference: 0,
             packages: 0,
         },
     }
@@ -312,6 +343,28 @@ pub extern "C" fn mogedorn_cheapest(
     let o = itemset::of_words(optional);
     let p = engine::cheapest(m, packages, o, order, costs, t, answer, work, page);
     priced(p)
+}
+
+// Of the timetables of the answer that differ from the list in the fewest packages the first listed.
+#[no_mangle]
+pub extern "C" fn mogedorn_closest(
+    m: u32,
+    packages: &[u64],
+    optional: &[u64; 3],
+    order: &[u8],
+    t: &[u32],
+    answer: u32,
+    list: &[u16],
+    work: &mut [u64],
+    page: &mut [u16],
+) -> Comparison
+    ensures { λ r. ⌜ ClosestPost (problemOf (now (packages .entry)) (valueOf (now (optional .entry))) (now (order .entry))) m (now (t .entry)) answer
+        (now (list .entry)) (length (now (work .entry))) (now (page .entry)) (comparedOf r) (now (page .exit)) ⌝ }
+    ensures { λ r. ⌜ BlankComparison r ⌝ }
+{
+    let o = itemset::of_words(optional);
+    let p = engine::closest(m, packages, o, order, t, answer, list, work, page);
+    compared(p)
 }
 
 #[no_mangle]
