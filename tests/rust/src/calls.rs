@@ -12,7 +12,36 @@ const STEPS: u64 = 20_000;
 
 /// How often each number was said, 0 for an answer.
 pub type Outcomes = [u64; 40];
-pub const NO_OUTCOME: Outcomes = [0; 40];
+const NO_OUTCOME: Outcomes = [0; 40];
+
+/// What was said in some calls.
+#[derive(Clone, Copy)]
+pub struct Tally {
+    pub calls: u64,
+    pub outcomes: Outcomes,
+    /// Those of joins alone, and how many of these answered for two answers above 1.
+    pub joins: Outcomes,
+    pub joined: u64,
+    /// Those of closest alone, how many of these answered with the difference 0, and how many chose the first of several that differ in the fewest packages.
+    pub closest: Outcomes,
+    pub kept: u64,
+    pub tied: u64,
+}
+
+impl Tally {
+    pub const NONE: Tally = Tally { calls: 0, outcomes: NO_OUTCOME, joins: NO_OUTCOME, joined: 0, closest: NO_OUTCOME, kept: 0, tied: 0 };
+
+    pub fn add(&mut self, more: &Tally) {
+        let add = |all: &mut Outcomes, more: &Outcomes| all.iter_mut().zip(more).for_each(|(a, b)| *a += b);
+        add(&mut self.outcomes, &more.outcomes);
+        add(&mut self.joins, &more.joins);
+        add(&mut self.closest, &more.closest);
+        self.calls += more.calls;
+        self.joined += more.joined;
+        self.kept += more.kept;
+        self.tied += more.tied;
+    }
+}
 
 /// What the calls of a history are lent besides the table.
 #[derive(Clone)]
@@ -49,11 +78,7 @@ pub struct History {
     ledger: Vec<(u32, Family)>,
     /// Whether operands are, but for a few, answers given, as in document 01's histories; otherwise they are any numbers of the table.
     strict: bool,
-    pub calls: u64,
-    pub outcomes: Outcomes,
-    /// Those of joins alone, and how many of these answered for two answers above 1.
-    pub joins: Outcomes,
-    pub joined: u64,
+    pub tally: Tally,
 }
 
 /// What a call that makes an answer should say.
@@ -87,8 +112,7 @@ impl History {
         let order = random_order(&mut rng, m, 60);
         let lent = Lent { m, sets, words, optional, order, halves };
         let (known, ledger, left) = (Vec::new(), Vec::new(), Vec::new());
-        let (outcomes, joins) = (NO_OUTCOME, NO_OUTCOME);
-        let mut history = History { rng, lent, table, left, known, ledger, strict, calls: 0, outcomes, joins, joined: 0 };
+        let mut history = History { rng, lent, table, left, known, ledger, strict, tally: Tally::NONE };
         history.learn();
         history
     }
@@ -96,7 +120,7 @@ impl History {
     pub fn run(&mut self) {
         let halves = self.lent.halves.is_some();
         for _ in 0..self.rng.from(20, if self.strict || halves { 160 } else { 60 }) {
-            match self.rng.below(if halves { 22 } else { 18 }) {
+            match self.rng.below(if halves { 24 } else { 20 }) {
                 0 => self.cover(),
                 1..=3 if halves || !self.strict => self.cover(),
                 1..=8 => self.combine(),
@@ -107,6 +131,7 @@ impl History {
                 14 => self.cheapest(),
                 15 => self.measure(),
                 16 => self.damaged(),
+                17 | 18 => self.closest(),
                 _ => self.join(),
             }
         }
@@ -121,8 +146,8 @@ impl History {
     }
 
     fn told(&mut self, refusal: u32) {
-        self.calls += 1;
-        self.outcomes[refusal as usize] += 1;
+        self.tally.calls += 1;
+        self.tally.outcomes[refusal as usize] += 1;
     }
 
     /// 1, 2, 29, 30, 34, 4, or 0.
@@ -343,8 +368,8 @@ impl History {
         let before = self.table.clone();
         let got = ffi::join(self.lent.week(), &mut self.table[..end], a, b, &mut work);
         self.compare(&format!("join of {a} and {b}, words {}", work.len()), &before, expected, got);
-        self.joins[got.refusal as usize] += 1;
-        self.joined += (got.refusal == 0 && a > 1 && b > 1) as u64;
+        self.tally.joins[got.refusal as usize] += 1;
+        self.tally.joined += (got.refusal == 0 && a > 1 && b > 1) as u64;
     }
 
     /// The call makes f in the first words of the table, up to `end`: full, or an answer.
@@ -433,7 +458,7 @@ impl History {
         match self.first_refusal() {
             0 | 4 if !cost_list => 3,
             0 if a as u64 >= self.nodes() + 2 => 5,
-            0 if list.is_some_and(|l| l.iter().any(|&p| p as usize >= s.n()) || l.windows(2).any(|w| !s.before(w[0] as usize, w[1] as usize))) => 6,
+            0 if list.is_some_and(|l| !s.in_precedence(l)) => 6,
             0 if (work.len() as u64) < a as u64 + 1 => 8,
             r => r,
         }
@@ -479,7 +504,7 @@ impl History {
         let got = ffi::pick(self.lent.week(), &self.table, a, k, &mut work, &mut page);
         self.told(got.refusal);
         let refusal = if refusal == 0 && list.len() > before.len() { 15 } else { refusal };
-        compare_page(&format!("pick {k} of {a}"), refusal, &list, 0, &before, &page, got);
+        compare_page(&format!("pick {k} of {a}"), refusal, &list, 0, [&before, &page], (got.refusal, got.cost, got.packages));
     }
 
     /// measure, and with the same working words pick on a page with just that many places and on one with one less.
@@ -556,7 +581,73 @@ impl History {
             r => r,
         };
         let call = format!("cheapest of {a}");
-        compare_page(&call, refusal, &list, least.unwrap_or(0), &before, &page, got);
+        compare_page(&call, refusal, &list, least.unwrap_or(0), [&before, &page], (got.refusal, got.cost, got.packages));
+    }
+
+    /// A list to be compared with the answer's timetables: one of them, or with a package dropped, added or changed, or any, none or all packages; sometimes
+    /// spoilt.
+    fn given(&mut self, listing: &[u32]) -> Vec<u16> {
+        let s = self.lent.model();
+        let n = (s.n() as u64).min(MOST);
+        let any = self.rng.below(1 << n) as u32;
+        let member = if listing.is_empty() { any } else { listing[self.rng.below(listing.len() as u64) as usize] };
+        let (one, other) = (self.rng.below(n.max(1)), self.rng.below(n.max(1)));
+        let mask = match self.rng.below(12) {
+            0..=2 => member,
+            3..=5 => member ^ 1 << one,
+            6 | 7 => member ^ 1 << one ^ 1 << other,
+            8 => 0,
+            9 => (1 << n) - 1,
+            _ => any,
+        };
+        let mut list = s.written(mask);
+        if self.rng.once_in(5) {
+            spoil_list(&mut self.rng, &mut list, s.n() as u64);
+        }
+        list
+    }
+
+    fn closest(&mut self) {
+        // mostly not 0 or 1, which have no choice
+        let a = match self.operand() {
+            0 | 1 if !self.rng.once_in(4) => self.operand(),
+            a => a,
+        };
+        let lent = self.lent.clone();
+        let s = lent.model();
+        let family = self.known.get(a as usize).cloned().unwrap_or(Family::none(s.n().min(MOST as usize)));
+        let given = self.given(&s.listing(&family));
+        let mask = given.iter().fold(0u32, |t, &p| t | 1u32.checked_shl(p as u32).unwrap_or(0));
+        let closest = s.closest(&family, mask);
+        let difference = closest.map_or(0, |t| s.difference(mask, t));
+        let list = closest.map(|t| s.written(t)).unwrap_or_default();
+        let mut work = self.work((a as u64 + 1).min(2000));
+        let mut page = self.page(list.len());
+        let before = page.clone();
+        let got = ffi::closest(self.lent.week(), &self.table, a, &given, &mut work, &mut page);
+        self.told(got.refusal);
+        let refusal = match self.question_refusal(a, &work, true, Some(&given)) {
+            0 if a == 0 => 13,
+            0 if list.len() > before.len() => 15,
+            r => r,
+        };
+        let call = format!("closest to {given:?} of {a}");
+        compare_page(&call, refusal, &list, difference, [&before, &page], (got.refusal, got.difference, got.packages));
+        self.tally.closest[got.refusal as usize] += 1;
+        if got.refusal == 0 {
+            let as_close = family.members().into_iter().filter(|&t| s.difference(mask, t) == difference).count();
+            self.tally.kept += (difference == 0) as u64;
+            self.tally.tied += (as_close > 1) as u64;
+            self.closest_to_itself(a, &list, &mut work);
+        }
+    }
+
+    /// A timetable of the answer is closest to itself.
+    fn closest_to_itself(&self, a: u32, list: &[u16], work: &mut [u64]) {
+        let mut page = vec![9999; list.len()];
+        let got = ffi::closest(self.lent.week(), &self.table, a, list, work, &mut page);
+        assert_eq!(got, ffi::Comparison { refusal: 0, difference: 0, packages: list.len() as u64 }, "closest to {list:?}, a timetable of {a}");
+        assert_eq!(page, list, "closest to {list:?}, a timetable of {a}");
     }
 
     // ---- damaged tables
@@ -577,7 +668,7 @@ impl History {
         self.learn();
         self.ledger.clear();
         for _ in 0..self.rng.from(1, 3) {
-            match self.rng.below(9) {
+            match self.rng.below(10) {
                 0 => self.cover(),
                 1 => self.combine(),
                 2 => self.count(),
@@ -586,6 +677,7 @@ impl History {
                 5 => self.cheapest(),
                 6 => self.measure(),
                 7 => self.join(),
+                8 => self.closest(),
                 _ => self.check(),
             }
         }
@@ -615,14 +707,14 @@ impl History {
     }
 }
 
-/// The result and the page of pick or cheapest.
-fn compare_page(call: &str, refusal: u32, list: &[u16], cost: u32, before: &[u16], page: &[u16], got: ffi::Timetable) {
+/// The result of pick, cheapest or closest, with its cost or difference and how many packages it wrote, and the page before and after it.
+fn compare_page(call: &str, refusal: u32, list: &[u16], value: u32, [before, page]: [&[u16]; 2], got: (u32, u32, u64)) {
     if refusal != 0 {
-        assert_eq!(got, ffi::Timetable { refusal, cost: 0, packages: 0 }, "{call}");
+        assert_eq!(got, (refusal, 0, 0), "{call}");
         assert_eq!(page, before, "{call}: refused, and the page changed");
         return;
     }
-    assert_eq!(got, ffi::Timetable { refusal, cost, packages: list.len() as u64 }, "{call}");
+    assert_eq!(got, (0, value, list.len() as u64), "{call}");
     assert_eq!(&page[..list.len()], list, "{call}");
     assert_eq!(page[list.len()..], before[list.len()..], "{call}: the rest of the page");
 }
@@ -743,6 +835,22 @@ fn spoil(rng: &mut Rng, order: &mut Vec<u8>) {
         4 => order.push(m as u8),
         5 => order.clear(),
         _ => order.extend((0..rng.from(1, 400)).map(|_| rng.next() as u8)),
+    }
+}
+
+/// Makes a list of packages that is mostly not in precedence: turned round, two neighbours exchanged, a package twice in a row or later again, a package of n or
+/// more anywhere, or far too many.
+fn spoil_list(rng: &mut Rng, list: &mut Vec<u16>, n: u64) {
+    let long = list.len() as u64;
+    let at = rng.below(long.max(1)) as usize;
+    match rng.below(7) {
+        0 => list.reverse(),
+        1 if long > 1 => list.swap(at, (at + 1) % long as usize),
+        2 if long > 0 => list.insert(at, list[at]),
+        3 if long > 0 => list.push(list[at]),
+        4 => list.insert(at, (n + rng.below(3)) as u16),
+        5 => list.push([n, 512, 65535, rng.below(65536)][rng.below(4) as usize] as u16),
+        _ => list.extend((0..rng.from(1, 600)).map(|_| rng.below(n.max(1)) as u16)),
     }
 }
 

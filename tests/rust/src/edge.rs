@@ -1,7 +1,7 @@
 //! Edges that the random histories reach seldom or never: each M with the items around it, list lengths around a package and around the longest list, Figure 1
 //! over the words of a set with the memo's places counted out, 192 items one by one; 2^64 timetables, by two packages for each of 64 items; a timetable of 512
 //! packages at the greatest cost; and a table of 65534 nodes, whose last number is the one result that is not remembered. Optional items have
-//! theirs in optional.rs, orders in order.rs, joins in join.rs.
+//! theirs in optional.rs, orders in order.rs, joins in join.rs, closest in closest.rs.
 
 use crate::ffi;
 use crate::model::{lent, Set, Week, ITEMS};

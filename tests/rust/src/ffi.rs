@@ -26,6 +26,14 @@ pub struct Timetable {
 
 #[repr(C)]
 #[derive(Clone, Copy, Debug, PartialEq, Eq)]
+pub struct Comparison {
+    pub refusal: u32,
+    pub difference: u32,
+    pub packages: u64,
+}
+
+#[repr(C)]
+#[derive(Clone, Copy, Debug, PartialEq, Eq)]
 pub struct Bids {
     pub refusal: u32,
     pub schools: u32,
@@ -87,6 +95,7 @@ entries! {
     mogedorn_measure(t: *const u32, tn: usize, a: u32, k: u64, w: *mut u64, wn: usize) -> Number;
     mogedorn_place(t: *const u32, tn: usize, a: u32, l: *const u16, ln: usize, w: *mut u64, wn: usize) -> Number;
     mogedorn_cheapest(c: *const u16, cn: usize, t: *const u32, tn: usize, a: u32, w: *mut u64, wn: usize, g: *mut u16, gn: usize) -> Timetable;
+    mogedorn_closest(t: *const u32, tn: usize, a: u32, l: *const u16, ln: usize, w: *mut u64, wn: usize, g: *mut u16, gn: usize) -> Comparison;
 }
 
 extern "C" {
@@ -141,6 +150,11 @@ pub fn place(week: Week, t: &[u32], a: u32, list: &[u16], w: &mut [u64]) -> Numb
 pub fn cheapest(week: Week, costs: &[u16], t: &[u32], a: u32, w: &mut [u64], page: &mut [u16]) -> Timetable {
     let (cn, tn, wn, gn) = (costs.len(), t.len(), w.len(), page.len());
     call!(mogedorn_cheapest, week, costs.as_ptr(), cn, t.as_ptr(), tn, a, w.as_mut_ptr(), wn, page.as_mut_ptr(), gn)
+}
+
+pub fn closest(week: Week, t: &[u32], a: u32, list: &[u16], w: &mut [u64], page: &mut [u16]) -> Comparison {
+    let (tn, ln, wn, gn) = (t.len(), list.len(), w.len(), page.len());
+    call!(mogedorn_closest, week, t.as_ptr(), tn, a, list.as_ptr(), ln, w.as_mut_ptr(), wn, page.as_mut_ptr(), gn)
 }
 
 /// Three words that held something else.

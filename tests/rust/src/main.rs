@@ -3,6 +3,7 @@
 
 mod bids;
 mod calls;
+mod closest;
 mod edge;
 mod ffi;
 mod join;
@@ -11,7 +12,7 @@ mod optional;
 mod order;
 mod rng;
 
-use calls::{History, Outcomes, NO_OUTCOME};
+use calls::{History, Outcomes, Tally};
 use rng::Rng;
 use std::panic;
 
@@ -46,10 +47,13 @@ fn edges() {
     join::sixty_four_bits();
     join::deepest();
     join::last_number();
-}
-
-fn add(all: &mut Outcomes, more: Outcomes) {
-    all.iter_mut().zip(more).for_each(|(a, b)| *a += b);
+    closest::figure_one();
+    closest::equals();
+    closest::zero_and_one();
+    closest::longest();
+    closest::sixty_four_bits();
+    closest::refusal_order();
+    closest::last_number();
 }
 
 /// Each number that was said, and how often.
@@ -63,23 +67,20 @@ fn main() {
     let first = args.next().unwrap_or(1);
     let most = args.next().unwrap_or(120_000);
     edges();
-    let (mut calls, mut files, mut joined, mut seed) = (0, 0, 0, first);
-    let (mut outcomes, mut joins) = (NO_OUTCOME, NO_OUTCOME);
-    while calls < most {
+    let (mut all, mut files, mut seed) = (Tally::NONE, 0, first);
+    while all.calls < most {
         let run = panic::catch_unwind(|| {
             let mut history = History::new(Rng(seed));
             history.run();
-            let mut counts = history.outcomes;
-            let read = bids::some_files(&mut Rng(!seed), &mut counts);
-            (history.calls, read, counts, history.joins, history.joined)
+            let mut tally = history.tally;
+            let read = bids::some_files(&mut Rng(!seed), &mut tally.outcomes);
+            tally.calls += read;
+            (tally, read)
         });
         match run {
-            Ok((c, f, counts, of_joins, j)) => {
-                calls += c + f;
-                files += f;
-                joined += j;
-                add(&mut outcomes, counts);
-                add(&mut joins, of_joins);
+            Ok((tally, read)) => {
+                all.add(&tally);
+                files += read;
             }
             Err(_) => {
                 eprintln!("a difference, seed {seed}");
@@ -88,7 +89,8 @@ fn main() {
         }
         seed += 1;
     }
-    println!("{calls} calls in {} histories, {files} of them on bids files: no difference (seeds {first} to {})", seed - first, seed - 1);
-    println!("outcomes (0: answered): {}", said(&outcomes));
-    println!("of joins: {}; {joined} answered for two answers above 1", said(&joins));
+    println!("{} calls in {} histories, {files} of them on bids files: no difference (seeds {first} to {})", all.calls, seed - first, seed - 1);
+    println!("outcomes (0: answered): {}", said(&all.outcomes));
+    println!("of joins: {}; {} answered for two answers above 1", said(&all.joins), all.joined);
+    println!("of closest: {}; {} with the difference 0, {} the first of several as close", said(&all.closest), all.kept, all.tied);
 }

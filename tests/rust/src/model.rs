@@ -176,6 +176,23 @@ impl<'a> Week<'a> {
         all
     }
 
+    /// In how many packages two timetables differ, "counting those in one but not in the other".
+    pub fn difference(&self, s: u32, t: u32) -> u32 {
+        (0..self.n()).filter(|&p| (s >> p & 1) != (t >> p & 1)).count() as u32
+    }
+
+    /// The timetable of f that differs from s in the fewest packages. "Every other member differs in as many or more, and those with as many are listed later."
+    pub fn closest(&self, f: &Family, s: u32) -> Option<u32> {
+        let all = self.listing(f);
+        let fewest = all.iter().map(|&t| self.difference(s, t)).min();
+        all.into_iter().find(|&t| Some(self.difference(s, t)) == fewest)
+    }
+
+    /// A list of packages is in precedence, without repetition and without an unknown one.
+    pub fn in_precedence(&self, list: &[u16]) -> bool {
+        list.iter().all(|&p| (p as usize) < self.n()) && list.windows(2).all(|w| self.before(w[0] as usize, w[1] as usize))
+    }
+
     /// Inside d, each compulsory item of d in just one package, each optional one in at most one.
     fn covers(&self, t: u32, d: Set) -> bool {
         let chosen: Vec<Set> = (0..self.n()).filter(|&p| t >> p & 1 == 1).map(|p| self.sets[p]).collect();
