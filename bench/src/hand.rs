@@ -634,11 +634,10 @@ pub fn hand_join(week: Week, t: &mut [u32], a: u32, b: u32, work: &mut [u64]) ->
     r.ok_or(10)
 }
 
-/// What a question does first: the table is checked, and it knows the answer.
-fn opened(week: Week, t: &[u32], a: u32) -> Result<(), u32> {
-    let mut keys = [0; 512];
+/// What a question does first: the table is checked, and it knows the answer. It makes the keys.
+fn opened(week: Week, t: &[u32], a: u32, keys: &mut [u32; 512]) -> Result<(), u32> {
     let mut index = Index([0; 131072]);
-    week.admit(t, &mut keys, &mut index)?;
+    week.admit(t, keys, &mut index)?;
     if a >= t[0] + 2 {
         return Err(5);
     }
@@ -698,19 +697,19 @@ pub fn hand_check(week: Week, t: &[u32]) -> u32 {
 
 #[inline(never)]
 pub fn hand_count(week: Week, t: &[u32], a: u32, work: &mut [u64]) -> Result<u64, u32> {
-    opened(week, t, a)?;
+    opened(week, t, a, &mut [0; 512])?;
     counts(t, a as usize, work)
 }
 
 #[inline(never)]
 pub fn hand_measure(week: Week, t: &[u32], a: u32, k: u64, work: &mut [u64]) -> Result<usize, u32> {
-    opened(week, t, a)?;
+    opened(week, t, a, &mut [0; 512])?;
     length(t, a as usize, k, work)
 }
 
 #[inline(never)]
 pub fn hand_pick(week: Week, t: &[u32], a: u32, k: u64, work: &mut [u64], page: &mut [u16]) -> Result<usize, u32> {
-    opened(week, t, a)?;
+    opened(week, t, a, &mut [0; 512])?;
     let a = a as usize;
     if page.len() < length(t, a, k, work)? {
         return Err(15);
@@ -721,4 +720,75 @@ pub fn hand_pick(week: Week, t: &[u32], a: u32, k: u64, work: &mut [u64], page: 
         n += 1;
     });
     Ok(n)
+}
+
+/// The walk to the lightest timetable, by the weights of the numbers up to a; its packages are told on the way.
+fn descend(t: &[u32], a: usize, takes_hi: impl Fn(usize) -> bool, mut package: impl FnMut(u32)) {
+    let mut node = a;
+    while node != 1 {
+        let w = 3 * node - 5;
+        node = if takes_hi(node) {
+            package(t[w]);
+            t[w + 2] as usize
+        } else {
+            t[w + 1] as usize
+        };
+    }
+}
+
+/// The first listed of the lightest timetables, and its weight: a timetable weighs `start` and what its packages weigh, modulo 2^64 since one may weigh -1. A word
+/// for each number up to a has the least weight of its timetables, that of 0 the greatest word.
+#[inline(always)]
+fn lightest(t: &[u32], a: usize, start: u64, weight: impl Fn(u32) -> u64, work: &mut [u64], page: &mut [u16]) -> Result<(usize, u32), u32> {
+    if work.len() <= a {
+        return Err(8);
+    }
+    if a == 0 {
+        return Err(13);
+    }
+    let by_hi = |node: &[u32], work: &[u64]| work[node[2] as usize].wrapping_add(weight(node[0]));
+    work[0] = u64::MAX;
+    work[1] = start;
+    for (k, node) in t[1..].chunks_exact(3).take(a - 1).enumerate() {
+        work[k + 2] = by_hi(node, work).min(work[node[1] as usize]);
+    }
+    let takes_hi = |k: usize| {
+        let node = &t[3 * k - 5..3 * k - 2];
+        by_hi(node, work) <= work[node[1] as usize]
+    };
+    let (mut long, mut n) = (0, 0);
+    descend(t, a, takes_hi, |_| long += 1);
+    if page.len() < long {
+        return Err(15);
+    }
+    descend(t, a, takes_hi, |p| {
+        page[n] = p as u16;
+        n += 1;
+    });
+    Ok((n, work[a] as u32))
+}
+
+/// The packages and the cost.
+#[inline(never)]
+pub fn hand_cheapest(week: Week, costs: &[u16], t: &[u32], a: u32, work: &mut [u64], page: &mut [u16]) -> Result<(usize, u32), u32> {
+    if week.packages_refusal().is_none() && Positions::new(week.m, week.order).is_some() && costs.len() != week.packs.len() {
+        return Err(3);
+    }
+    opened(week, t, a, &mut [0; 512])?;
+    lightest(t, a as usize, 0, |p| costs[p as usize] as u64, work, page)
+}
+
+/// The packages and in how many they and the list differ.
+#[inline(never)]
+pub fn hand_closest(week: Week, t: &[u32], a: u32, list: &[u16], work: &mut [u64], page: &mut [u16]) -> Result<(usize, u32), u32> {
+    let mut keys = [0; 512];
+    opened(week, t, a, &mut keys)?;
+    let key = |p: u16| keys[p as usize];
+    if list.iter().any(|&p| p as usize >= week.packs.len()) || list.windows(2).any(|w| key(w[0]) >= key(w[1])) {
+        return Err(6);
+    }
+    // one less for a package of the list, which the empty timetable lacks; one more for another
+    let mut weights = [1u64; 512];
+    list.iter().for_each(|&p| weights[p as usize] = u64::MAX);
+    lightest(t, a as usize, list.len() as u64, |p| weights[p as usize], work, page)
 }

@@ -1,4 +1,4 @@
-//! The entries of an earlier archive, one without join, that the benchmark calls (see build.rs).
+//! The entries of an earlier archive, one without join and closest, that the benchmark calls (see build.rs).
 
 use crate::ffi::{Number, Report, Timetable, Week};
 
@@ -24,6 +24,7 @@ entries! {
     old_mogedorn_count(t: *const u32, tn: usize, a: u32, w: *mut u64, wn: usize) -> Number;
     old_mogedorn_pick(t: *const u32, tn: usize, a: u32, k: u64, w: *mut u64, wn: usize, g: *mut u16, gn: usize) -> Timetable;
     old_mogedorn_measure(t: *const u32, tn: usize, a: u32, k: u64, w: *mut u64, wn: usize) -> Number;
+    old_mogedorn_cheapest(c: *const u16, cn: usize, t: *const u32, tn: usize, a: u32, w: *mut u64, wn: usize, g: *mut u16, gn: usize) -> Timetable;
 }
 
 /// A call of an entry, with the arguments that the week stands for.
@@ -60,4 +61,9 @@ pub fn pick(week: Week, t: &[u32], a: u32, k: u64, w: &mut [u64], page: &mut [u1
 
 pub fn measure(week: Week, t: &[u32], a: u32, k: u64, w: &mut [u64]) -> Number {
     call!(old_mogedorn_measure, week, t.as_ptr(), t.len(), a, k, w.as_mut_ptr(), w.len())
+}
+
+pub fn cheapest(week: Week, costs: &[u16], t: &[u32], a: u32, w: &mut [u64], page: &mut [u16]) -> Timetable {
+    let (cn, tn, wn, gn) = (costs.len(), t.len(), w.len(), page.len());
+    call!(old_mogedorn_cheapest, week, costs.as_ptr(), cn, t.as_ptr(), tn, a, w.as_mut_ptr(), wn, page.as_mut_ptr(), gn)
 }
