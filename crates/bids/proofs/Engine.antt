@@ -18,10 +18,14 @@ use Rattle.statement.proofs.TestLaws.{was-refused}
 use Rattle.engine.proofs.check.Kinds as check
 use Rattle.engine.proofs.check.Reads as check-reads
 use Rattle.base.proofs.Bools.{never}
-use Rattle.bids.specs.Format.{schools, slots, unfit, refusal, packagesOf}
-use Rattle.bids.proofs.Fit.{fit}
+use Rattle.bids.specs.Contents.{itemCount, packagesOf, unfit}
+use Rattle.bids.specs.Format.{schools, slots, contents, refusal}
+use Rattle.bids.specs.Contract.{Legible}
+use Rattle.bids.specs.declared.Layout.{Layout}
+use Rattle.bids.proofs.Fit.{fit, few-items, few-bids}
 use Rattle.bids.proofs.Packed.{packed-sets}
-use Rattle.bids.proofs.Refused.{accepted-sized, accepted-listed}
+use Rattle.bids.proofs.Records.{school-count}
+use Rattle.bids.proofs.Accepted.{accepted-sized, accepted-listed}
 
 -- what `engine::check` ensures is `CheckPost` of M, the packages, the optional set, the order and the table that it is lent
 check-ensures : (κs : Lfts 3) (a : Dens κs check.ps) (r : resT check.r κs .Denot) (e : AtExit (endedOf 3 check.ps check.r) κs)
@@ -39,16 +43,24 @@ one-or-two false false ts x f g q = (λ z. absurd (never z refl), λ z. absurd (
     other : (n : ℕ) → Avoids n ts → x ≡ refused n → ⊥
     other n v y = avoided n ts v (was-refused n (firstOf ts) tt (sym y ∙ q) .0)
 
-module _ (b : List ℕ) (κs : Lfts 3) (a : Dens κs check.ps) (r : resT check.r κs .Denot) (e : AtExit (endedOf 3 check.ps check.r) κs) (said : check-reads.Learnt κs a r e)
-    (items : a .0 ≡ schools b + slots b) where
+module _ (L : Layout) (b : List ℕ) (κs : Lfts 3) (a : Dens κs check.ps) (r : resT check.r κs .Denot) (e : AtExit (endedOf 3 check.ps check.r) κs)
+    (said : check-reads.Learnt κs a r e) (items : a .0 ≡ schools b + slots b) where
+  -- M is S + T
+  counted : a .0 ≡ itemCount (contents L b)
+  counted = items ∙ rw (school-count L b)
+
   -- THEOREM: lent words whose sets are the file's packages, any optional set and any order
-  pub unfit-is-one-or-two : setsOf (a .1 .0 .now) ≡ packagesOf b → (unfit b ≡ true) ↔ ((soundnessReply r ≡ refused 1) ⊎ (soundnessReply r ≡ refused 2))
+  pub unfit-is-one-or-two : setsOf (a .1 .0 .now) ≡ packagesOf (contents L b)
+      → (unfit (contents L b) ≡ true) ↔ ((soundnessReply r ≡ refused 1) ⊎ (soundnessReply r ≡ refused 2))
   unfolding unfit checkRefusal
   unfit-is-one-or-two lent =
-      one-or-two (oversize (schools b + slots b) (packagesOf b)) (stray (schools b + slots b) (packagesOf b)) _ (soundnessReply r) tt tt
-      (rw (items, lent) at (check-ensures κs a r e said .result))
+      let x = contents L b in
+      one-or-two (oversize (itemCount x) (packagesOf x)) (stray (itemCount x) (packagesOf x)) _ (soundnessReply r) tt tt
+      (rw (counted, lent) at (check-ensures κs a r e said .result))
 
   -- THEOREM: lent the words that the reader writes
-  pub accepted-is-neither : refusal b ≡ 0 → a .1 .0 .now ≡ spread 3 (packagesOf b) → (soundnessReply r ≡ refused 1) ⊎ (soundnessReply r ≡ refused 2) → ⊥
-  accepted-is-neither z lent y =
-      never (unfit-is-one-or-two (ap setsOf lent ∙ packed-sets b z) .1 y) (fit b (accepted-listed b z) (accepted-sized b z refl refl refl))
+  pub accepted-is-neither : Legible L → refusal L b ≡ 0 → a .1 .0 .now ≡ spread 3 (packagesOf (contents L b))
+      → (soundnessReply r ≡ refused 1) ⊎ (soundnessReply r ≡ refused 2) → ⊥
+  accepted-is-neither l z lent y =
+      let p = accepted-sized L b z l refl refl refl in
+      never (unfit-is-one-or-two (ap setsOf lent ∙ packed-sets L b l z) .1 y) (fit (contents L b) (accepted-listed L b z) (few-items p) (few-bids p))

@@ -1,18 +1,18 @@
 -- The laws of the definitions that the loops go by. Assumes nothing.
 use mathlib.Core.Path.{_≡_, refl, sym, ap, _∙_}
 use mathlib.Core.Bool.{Bool, true, false}
-use mathlib.Core.List.{List, [], _∷_, _++_}
+use mathlib.Core.List.{List, [], _∷_, _++_, map, map-append}
 use Prim.Native.Nat.{ℕ, zero, suc, _+_, _*_, _%_, _^_, _<_, _≤_}
 use native.Mathlib.Numerals.{add-one}
 use native.Mathlib.Decide.{ℕ-discrete}
 use native.Mathlib.Omega.{arith}
-use borrow.Author.Tests.{lt-ltb, le-ltb, ltb-false}
+use borrow.Author.Tests.{lt-ltb, le-ltb, ltb-true, ltb-false}
 use lib.Dec.{ltb}
 use lib.Bits.{bitXor}
-use lib.ListN.{length, getD, take, drop, set, length-append}
-use lib.Seq.{take-suc, sets, sets-eq, length-sets}
+use lib.ListN.{length, getD, take, drop, set, length-append, List·getD-append}
+use lib.Seq.{take-suc, sets, sets-eq, length-sets, getD-at}
 use native.Mathlib.Nat.{add-zero, zero-add}
-use Rattle.base.proofs.Bools.{by-test}
+use Rattle.base.proofs.Bools.{by-test, is-false, never}
 use Rattle.itemset.specs.Words.{spread}
 use Rattle.itemset.proofs.Stored.{length-spread, spread-more, words-one}
 use Rattle.bids.specs.Bytes.{fnvFrom, fnv}
@@ -95,6 +95,13 @@ module _ (f : ℕ → Bool) where
       go (yes q) ih = rw q (last n e .0)
       go (no q) ih = ih (omega arith)
 
+  -- where it is below n, it holds of it
+  pub first-holds : (n : ℕ) → first f n < n → f (first f n) ≡ true
+  first-holds zero p = absurd (omega arith)
+  first-holds (suc n) p =
+      by-test (ltb (first f n) n) (λ e. rw (kept n e) (first-holds n (ltb-true (first f n) n e)))
+      (λ e. by-test (f n) (λ g. rw (here n e g) g) (λ g. absurd (omega (arith, none n e g))))
+
   pub some-hit : (n i : ℕ) → i < n → first f i ≡ i → f i ≡ true → some f n ≡ true
   unfolding some
   some-hit n i p e g = lt-ltb (first f n) n (omega (arith, first-hit n i p e g))
@@ -107,21 +114,18 @@ module _ (f : ℕ → Bool) where
   unfolding some
   none-some n i e p = first-none n i p (omega (arith, ltb-false (first f n) n e, first-le n))
 
--- the test whether the record at a place is among the first i, by what g said of it where it was read
-module _ (g : ℕ → ℕ) {at place r i : ℕ} (e : at ≡ place) (f : r ≡ g at) where
-  pub among : r < i → ltb (g place) i ≡ true
-  among h = rw (← e, ← f) (lt-ltb r i h)
+  pub all-none : (n : ℕ) → ((i : ℕ) → i < n → f i ≡ false) → some f n ≡ false
+  unfolding some
+  all-none n h =
+      is-false (ltb (first f n) n) (λ e. let l = ltb-true (first f n) n e in never (first-holds n l) (h (first f n) l))
 
-  pub not-among : i ≤ r → ltb (g place) i ≡ false
-  not-among h = rw (← e, ← f) (le-ltb r i h)
-
--- ---- a list by its places, and stored
+-- ---- a list stored at the start of another
 
 -- l with vs stored at its start, one after the other
 unfoldable pub over : List ℕ → List ℕ → List ℕ
 over vs l = sets l 0 vs
 
-sets-more : (vs ws l : List ℕ) (i : ℕ) → sets l i (vs ++ ws) ≡ sets (sets l i vs) (i + length vs) ws
+pub sets-more : (vs ws l : List ℕ) (i : ℕ) → sets l i (vs ++ ws) ≡ sets (sets l i vs) (i + length vs) ws
 sets-more [] ws l i = rw add-zero
 sets-more (v ∷ vs) ws l i = sets-more vs ws (set l i v) (suc i) ∙ ap (λ (k : ℕ). sets (sets (set l i v) (suc i) vs) k ws) (omega arith)
 
@@ -138,12 +142,31 @@ over-behind : (vs ws l : List ℕ) (n : ℕ) → length vs ≡ n → sets (over 
 unfolding over
 over-behind vs ws l n e = sym (sets-more vs ws l 0 ∙ ap (λ (k : ℕ). sets (sets l 0 vs) k ws) (omega arith))
 
-module _ (f : ℕ → ℕ) where
+-- ---- lists by their places
+
+module _ {A : Type 0} (f : ℕ → A) where
   pub length-listed : (n : ℕ) → length (listed f n) ≡ n
   unfolding listed
   length-listed zero = refl
   length-listed (suc n) = simp (length-append, length-listed n) (omega arith)
 
+  pub getD-listed : (n k : ℕ) (d : A) → k < n → getD (listed f n) k d ≡ f k
+  unfolding listed
+  getD-listed zero k d p = absurd (omega arith)
+  getD-listed (suc n) k d p = go (ℕ-discrete k n) (λ q. getD-listed n k d q)
+    where
+      go : Dec (k ≡ n) → (k < n → getD (listed f n) k d ≡ f k) → getD (listed f n ++ (f n ∷ [])) k d ≡ f k
+      go (yes e) ih = rw e (getD-at (listed f n) (f n) [] d n (length-listed n))
+      go (no e) ih = List·getD-append (listed f n) (f n ∷ []) d k (omega (arith, length-listed n)) ∙ ih (omega arith)
+
+  pub map-listed : {B : Type 0} (g : A → B) (n : ℕ) → map g (listed f n) ≡ listed (λ i. g (f i)) n
+  unfolding listed
+  map-listed g zero = refl
+  map-listed g (suc n) = map-append g (listed f n) (f n ∷ []) ∙ rw (map-listed g n)
+
+-- ---- stored one after the other
+
+module _ (f : ℕ → ℕ) where
   pub over-zero : (l : List ℕ) → l ≡ over (listed f 0) l
   unfolding over listed
   over-zero l = refl
@@ -151,12 +174,12 @@ module _ (f : ℕ → ℕ) where
   -- one store more
   pub over-more : (l : List ℕ) (n v : ℕ) → v ≡ f n → set (over (listed f n) l) n v ≡ over (listed f (n + 1)) l
   unfolding listed
-  over-more l n v e = rw (add-one, e) (over-behind (listed f n) (f n ∷ []) l n (length-listed n))
+  over-more l n v e = rw (add-one, e) (over-behind (listed f n) (f n ∷ []) l n (length-listed f n))
 
   -- ---- the same of sets, three words each
 
   pub length-packed : (n : ℕ) → length (spread 3 (listed f n)) ≡ 3 * n
-  length-packed n = rw (length-spread, length-listed n)
+  length-packed n = rw (length-spread, length-listed f n)
 
   pub packed-zero : (l : List ℕ) → l ≡ over (spread 3 (listed f 0)) l
   unfolding over listed spread

@@ -1,31 +1,54 @@
--- THEOREM: of an accepted file the words that the reader writes, three a package, are the packages: a call that is lent them has the problem that the
--- file states. Assumes nothing.
-use mathlib.Core.Path.{_≡_, refl, ap}
+-- THEOREM: of an accepted file the words that the reader writes, three a package, are the packages: a call that is lent them, with the optional items that
+-- the reader gives, has the problem that the file states. Assumes nothing.
+use mathlib.Core.Path.{_≡_, refl, sym, ap₂, _∙_}
 use mathlib.Core.List.{List}
 use Prim.Native.Nat.{ℕ, _+_, _*_, _≤_}
-use native.Mathlib.Nat.{lt-of-lt-of-le}
+use native.Mathlib.Nat.{lt-of-lt-of-le, zero-mul}
 use native.Mathlib.Omega.{arith}
-use lib.ListN.{length}
+use lib.ListN.{length, length-map}
 use lib.Pow.{pow-mono}
 use Rattle.exact_cover.specs.Problem.{problemOf, upTo}
 use Rattle.itemset.specs.Words.{width, setsOf, spread}
 use Rattle.itemset.proofs.Lists.{width-is}
-use Rattle.itemset.proofs.Stored.{setsOf-spread}
-use Rattle.bids.specs.Format.{schools, slots, packages, itemsOf, refusal, packagesOf, problemIn}
-use Rattle.bids.proofs.Laws.{length-packed}
-use Rattle.bids.proofs.Fit.{package-fits}
-use Rattle.bids.proofs.Refused.{accepted-sized, accepted-listed}
+use Rattle.itemset.proofs.Stored.{setsOf-spread, length-spread}
+use Rattle.bids.specs.Bytes.{numberAt}
+use Rattle.bids.specs.Contents.{itemsOf, itemCount, packagesOf, costsOf, optionalOf, problemIn}
+use Rattle.bids.specs.Format.{version1, schools, slots, packages, schoolsIn, packagesIn, optionalSlots, contents, refusal}
+use Rattle.bids.specs.Contract.{Legible}
+use Rattle.bids.specs.declared.Layout.{Layout}
+use Rattle.bids.specs.declared.Package.{Package}
+use Rattle.bids.proofs.Fit.{package-fits, few-items}
+use Rattle.bids.proofs.Records.{school-count, package-count}
+use Rattle.bids.proofs.Accepted.{accepted-sized, accepted-listed}
 
--- how many words: three for each of N packages
-pub packed-long : (b : List ℕ) → length (spread 3 (packagesOf b)) ≡ 3 * packages b
-unfolding packagesOf
-packed-long b = length-packed (itemsOf b (schools b)) (packages b)
+module _ (L : Layout) (b : List ℕ) where
+  pub count-packed : length (packagesOf (contents L b)) ≡ packages b
+  unfolding packagesOf
+  count-packed = length-map (packagesIn L b) (itemsOf (schoolsIn L b)) ∙ package-count L b
 
-module _ (b : List ℕ) (z : refusal b ≡ 0) where
-  pub packed-sets : setsOf (spread 3 (packagesOf b)) ≡ packagesOf b
-  packed-sets =
-      let h : schools b + slots b ≤ width = omega (arith, width-is, accepted-sized b z refl refl refl .items) in
-      setsOf-spread (packagesOf b) (λ k q. lt-of-lt-of-le (package-fits b (accepted-listed b z) k q .1) (pow-mono h))
+  pub count-costs : length (costsOf (contents L b)) ≡ packages b
+  unfolding costsOf
+  count-costs = length-map (packagesIn L b) (λ (p : Package). p .cost) ∙ package-count L b
 
-  pub packed-problem : problemOf (spread 3 (packagesOf b)) 0 (upTo (schools b + slots b)) ≡ problemIn b
-  packed-problem = ap (λ (xs : List ℕ). record { packages = xs; optional = 0; order = upTo (schools b + slots b) }) packed-sets
+  -- how many words: three for each of N packages
+  pub packed-long : length (spread 3 (packagesOf (contents L b))) ≡ 3 * packages b
+  packed-long = rw (length-spread, count-packed)
+
+  module _ (l : Legible L) (z : refusal L b ≡ 0) where
+    pub packed-sets : setsOf (spread 3 (packagesOf (contents L b))) ≡ packagesOf (contents L b)
+    packed-sets =
+        let h : itemCount (contents L b) ≤ width = omega (arith, width-is, few-items (accepted-sized L b z l refl refl refl)) in
+        setsOf-spread (packagesOf (contents L b)) (λ k q. lt-of-lt-of-le (package-fits (contents L b) (accepted-listed L b z) k q .1) (pow-mono h))
+
+    pub packed-problem : problemOf (spread 3 (packagesOf (contents L b))) (optionalOf (contents L b)) (upTo (schools b + slots b)) ≡ problemIn (contents L b)
+    packed-problem =
+        ap₂ (λ (xs : List ℕ) (s : ℕ). record { packages = xs; optional = optionalOf (contents L b); order = upTo (s + slots b) }) packed-sets (sym (school-count L b))
+
+-- a version 1 file has no optional item
+pub none-optional : (b : List ℕ) → optionalOf (contents version1 b) ≡ 0
+unfolding optionalOf optionalSlots numberAt
+none-optional b = zero-mul _
+
+pub plain-problem : (b : List ℕ) → problemIn (contents version1 b) ≡ record { packages = packagesOf (contents version1 b); optional = 0; order = upTo (schools b + slots b) }
+plain-problem b =
+    ap₂ (λ (o s : ℕ). record { packages = packagesOf (contents version1 b); optional = o; order = upTo (s + slots b) }) (none-optional b) (school-count version1 b)

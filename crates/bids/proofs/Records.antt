@@ -1,36 +1,27 @@
--- Two records that were read are the same where the definitions say so. Assumes nothing.
-use mathlib.Core.Path.{_≡_, sym, subst}
+-- What was read at a record's place is what the lists have there. Assumes nothing.
+use mathlib.Core.Path.{_≡_, sym, ap, subst, _∙_}
 use mathlib.Core.Bool.{Bool, true, not, _&&_}
 use mathlib.Core.List.{List}
 use Prim.Native.Nat.{ℕ, _+_, _*_, _^_, _<_, _≤_}
 use native.Mathlib.Omega.{arith}
 use borrow.Author.Tests.{lt-ltb, le-ltb}
 use lib.Dec.{eqb}
+use lib.ListN.{length}
 use Rattle.itemset.specs.Items.{belowb}
-use Rattle.bids.specs.Bytes.{byteAt, word16At, word64At}
-use Rattle.bids.specs.Format.{markb, packageAt, sameSchool, samePackage, schoolIn, schoolOf, slotsOf, costOf, itemsOf, strayb}
+use Rattle.bids.specs.Bytes.{byteAt}
+use Rattle.bids.specs.Contents.{nthSchool, nthPackage, schoolIn, itemsOf, strayb}
+use Rattle.bids.specs.Format.{markb, schools, packages, schoolPlace, packagePlace, schoolAt, packageAt, schoolsIn, packagesIn}
 use Rattle.bids.specs.Contract.{FieldPost, SchoolPost, PackagePost}
+use Rattle.bids.specs.declared.Layout.{Layout}
 use Rattle.bids.specs.declared.School.{School}
+use Rattle.bids.specs.declared.Package.{Package}
 use Rattle.bids.specs.declared.SchoolRecord.{SchoolRecord}
 use Rattle.bids.specs.declared.PackageRecord.{PackageRecord}
+use Rattle.bids.proofs.Laws.{length-listed, getD-listed}
 
--- the record at x names the school w
-pub record Names (b : List ℕ) (x : ℕ) (w : School) : Type 0 where
-  pub site : w .site ≡ byteAt b x
-  pub number : w .number ≡ byteAt b (x + 1)
-
-pub names : {b : List ℕ} {x : ℕ} {r : SchoolRecord} → SchoolPost b x r → Names b x (r .school)
-names p = record { site = p .site; number = p .number }
-
-pub same-school : {b : List ℕ} {at y x : ℕ} {s : SchoolRecord} {w : School} {r : Bool} → at ≡ y → SchoolPost b at s → Names b x w
-    → r ≡ (eqb (s .school .site) (w .site) && eqb (s .school .number) (w .number)) → sameSchool b y x ≡ r
-unfolding sameSchool
-same-school e p q f = rw (← e, ← p .site, ← p .number, ← q .site, ← q .number) (sym f)
-
-pub same-package : {b : List ℕ} {at y x : ℕ} {s w : PackageRecord} {r : Bool} → at ≡ y → PackagePost b at s → PackagePost b x w
-    → r ≡ ((eqb (s .school .site) (w .school .site) && eqb (s .school .number) (w .school .number)) && eqb (s .slots) (w .slots)) → samePackage b y x ≡ r
-unfolding sameSchool samePackage
-same-package e p q f = rw (← e, ← p .site, ← p .number, ← p .slots, ← q .site, ← q .number, ← q .slots) (sym f)
+-- what t says of x, which is y
+pub told : {A B : Type 0} (t : A → B) {x y : A} {r : B} → x ≡ y → r ≡ t x → t y ≡ r
+told t e f = sym (f ∙ ap t e)
 
 -- a field whose place is known
 pub field-at : (g : ℕ → ℕ) {at at′ w v n : ℕ} → at ≡ at′ → FieldPost (g at) at w v n → FieldPost (g at′) at′ w v n
@@ -41,28 +32,47 @@ pub mark-read : (b : List ℕ) {x y z : ℕ} {r : Bool} → x ≡ byteAt b 0 →
 unfolding markb
 mark-read b e f g p = rw (e, f, g) at p
 
--- ---- package k, whose record at the place `at` was read
-module _ (b : List ℕ) (s k at : ℕ) (e : at ≡ packageAt s k) where
-  pub items-read : {j w : ℕ} → j ≡ schoolIn b s at → w ≡ word64At b (at + 2) → 2 ^ j + w * 2 ^ s ≡ itemsOf b s k
-  unfolding itemsOf schoolOf slotsOf
-  items-read p q = rw (p, q, e)
+-- ---- the records in their order
 
-  pub school-read : {j : ℕ} → j ≡ schoolIn b s at → j ≡ schoolOf b s k
-  unfolding schoolOf
-  school-read p = rw e at p
+module _ (L : Layout) (b : List ℕ) where
+  pub school-count : length (schoolsIn L b) ≡ schools b
+  unfolding schoolsIn
+  school-count = length-listed (λ j. schoolAt L b (schoolPlace L j)) (schools b)
 
-  pub cost-read : {w : ℕ} → w ≡ word16At b (at + 10) → w ≡ costOf b s k
-  unfolding costOf
-  cost-read p = rw e at p
+  pub package-count : length (packagesIn L b) ≡ packages b
+  unfolding packagesIn
+  package-count = length-listed (λ k. packageAt L b (packagePlace L (schools b) k)) (packages b)
 
-  pub unlisted : (t : ℕ) {j : ℕ} → j ≡ schoolIn b s at → s ≤ j → strayb b s t k ≡ true
+  pub school-there : (j : ℕ) → j < schools b → nthSchool (schoolsIn L b) j ≡ schoolAt L b (schoolPlace L j)
+  unfolding schoolsIn
+  school-there j h = getD-listed (λ i. schoolAt L b (schoolPlace L i)) (schools b) j _ h
+
+  pub package-there : (k : ℕ) → k < packages b → nthPackage (packagesIn L b) k ≡ packageAt L b (packagePlace L (schools b) k)
+  unfolding packagesIn
+  package-there k h = getD-listed (λ i. packageAt L b (packagePlace L (schools b) i)) (packages b) k _ h
+
+  pub school-read : {at : ℕ} {r : SchoolRecord} (j : ℕ) → at ≡ schoolPlace L j → j < schools b → SchoolPost L b at r → r .school ≡ nthSchool (schoolsIn L b) j
+  school-read j e h p = p .school ∙ ap (schoolAt L b) e ∙ sym (school-there j h)
+
+  pub package-read : {at : ℕ} {r : PackageRecord} {s : ℕ} (k : ℕ) → s ≡ schools b → at ≡ packagePlace L s k → k < packages b → PackagePost L b at r
+      → r .bid ≡ nthPackage (packagesIn L b) k
+  package-read k f e h p = p .bid ∙ ap (packageAt L b) (rw f at e) ∙ sym (package-there k h)
+
+-- the items of a package whose school was sought among all
+pub items-read : (us : List School) {s j : ℕ} (p : Package) → s ≡ length us → j ≡ schoolIn us s (p .school) → 2 ^ j + p .slots * 2 ^ s ≡ itemsOf us p
+unfolding itemsOf
+items-read us p e f = rw (f, e)
+
+-- ---- 26, of such a package
+
+module _ (us : List School) {s : ℕ} (t : ℕ) (p : Package) {j : ℕ} (count : s ≡ length us) (sought : j ≡ schoolIn us s (p .school)) where
+  among-all : j ≡ schoolIn us (length us) (p .school)
+  among-all = rw count at sought
+
+  pub unlisted : s ≤ j → strayb us t p ≡ true
   unfolding strayb
-  unlisted t p q = rw (le-ltb (schoolOf b s k) s (omega (arith, school-read p)))
+  unlisted h = rw (le-ltb (schoolIn us (length us) (p .school)) (length us) (omega (arith, among-all)))
 
-  slots-below : (t : ℕ) {w : ℕ} {r : Bool} → w ≡ word64At b (at + 2) → r ≡ belowb w t → belowb (slotsOf b s k) t ≡ r
-  unfolding slotsOf
-  slots-below t p q = rw (← e, ← p) (sym q)
-
-  pub outside : (t : ℕ) {j w : ℕ} {r : Bool} → j ≡ schoolIn b s at → j < s → w ≡ word64At b (at + 2) → r ≡ belowb w t → strayb b s t k ≡ not r
+  pub outside : {r : Bool} → j < s → r ≡ belowb (p .slots) t → strayb us t p ≡ not r
   unfolding strayb
-  outside t p q f g = rw (lt-ltb (schoolOf b s k) s (omega (arith, school-read p)), slots-below t f g)
+  outside h e = rw (lt-ltb (schoolIn us (length us) (p .school)) (length us) (omega (arith, among-all)), ← e)

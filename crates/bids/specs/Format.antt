@@ -1,16 +1,26 @@
--- The bids file (document 01): PSB in ASCII, version (16 bits, 1), S schools (8 bits), T slots (8 bits), N (16 bits); S records of site and number
--- (8 bits each); N records of site, number, slot set (64 bits), cost (16 bits); a 32-bit check. b is the list of the file's bytes. Assumes nothing.
-use Rattle.exact_cover.specs.Problem.{Problem, upTo}
+-- The bids file (document 01; version 2: document 02, No. 2): PSB in ASCII, version (16 bits), S schools (8 bits), T slots (8 bits), N (16 bits), in version 2
+-- the set of optional slots (64 bits); S records of site (8 bits, in version 2 16) and number (8 bits); N records of site, number, slot set (64 bits), cost
+-- (16 bits); a 32-bit check. One layout, in which the versions differ by three numbers. b is the list of the file's bytes. Assumes nothing.
 use mathlib.Core.Bool.{Bool, not, _&&_, _||_}
 use mathlib.Core.List.{List, [], _∷_, _++_}
-use Prim.Native.Nat.{ℕ, _+_, _-_, _*_, _^_}
+use Prim.Native.Nat.{ℕ, _+_, _-_, _*_}
 use lib.Dec.{eqb, ltb}
 use lib.ListN.{length, take}
-use Rattle.itemset.specs.Items.{belowb}
 use Rattle.statement.specs.Refusals.{firstOf}
-use Rattle.statement.specs.Refusals as engine
-use Rattle.bids.specs.Bytes.{byteAt, word16At, word32At, word64At, fnv}
-use Rattle.bids.specs.Ranges.{first, some, listed}
+use Rattle.bids.specs.Bytes.{byteAt, numberAt, fnv}
+use Rattle.bids.specs.Ranges.{listed}
+use Rattle.bids.specs.Contents.{Contents, strayOptional, schoolTwice, stray, packageTwice, unfit}
+use Rattle.bids.specs.declared.Layout.{Layout}
+use Rattle.bids.specs.declared.School.{School}
+use Rattle.bids.specs.declared.Package.{Package}
+
+-- ---- the layouts: the version's number, how many bytes stand before the first school's record, and how many a site has
+
+abbrev pub version1 : Layout
+version1 = record { version = 1; header = 9; site = 1 }
+
+abbrev pub version2 : Layout
+version2 = record { version = 2; header = 17; site = 2 }
 
 -- ---- the header
 
@@ -19,7 +29,7 @@ unfoldable pub markb : List ℕ → Bool
 markb b = eqb (byteAt b 0) 80 && (eqb (byteAt b 1) 83 && eqb (byteAt b 2) 66)
 
 abbrev pub version : List ℕ → ℕ
-version b = word16At b 3
+version b = numberAt b 3 2
 
 -- S, T and N
 abbrev pub schools : List ℕ → ℕ
@@ -29,58 +39,42 @@ abbrev pub slots : List ℕ → ℕ
 slots b = byteAt b 6
 
 abbrev pub packages : List ℕ → ℕ
-packages b = word16At b 7
+packages b = numberAt b 7 2
+
+-- the set of optional slots is the number between N and the first school; where no byte stands there, as in version 1, it is 0, the empty set
+unfoldable pub optionalSlots : Layout → List ℕ → ℕ
+optionalSlots L b = numberAt b 9 (L .header - 9)
 
 -- ---- the records, in a file of s schools
 
 -- where the record of school j starts, and that of package k
-abbrev pub schoolAt : ℕ → ℕ
-schoolAt j = 9 + 2 * j
+unfoldable pub schoolPlace : Layout → ℕ → ℕ
+schoolPlace L j = L .header + (L .site + 1) * j
 
-abbrev pub packageAt : ℕ → ℕ → ℕ
-packageAt s k = 9 + 2 * s + 12 * k
+unfoldable pub packagePlace : Layout → ℕ → ℕ → ℕ
+packagePlace L s k = schoolPlace L s + (L .site + 11) * k
 
--- the records that start at i and at j name the same school: the same site and the same number
-unfoldable pub sameSchool : List ℕ → ℕ → ℕ → Bool
-sameSchool b i j = eqb (byteAt b i) (byteAt b j) && eqb (byteAt b (i + 1)) (byteAt b (j + 1))
+-- the length of a file of s schools and n packages: 13 + 2 s + 12 n in version 1, 21 + 3 s + 13 n in version 2
+abbrev pub fileLength : Layout → ℕ → ℕ → ℕ
+fileLength L s n = packagePlace L s n + 4
 
--- the package records that start at i and at j have the same school and the same slots
-unfoldable pub samePackage : List ℕ → ℕ → ℕ → Bool
-samePackage b i j = sameSchool b i j && eqb (word64At b (i + 2)) (word64At b (j + 2))
+-- the school of the record that starts at i, and the package
+abbrev pub schoolAt : Layout → List ℕ → ℕ → School
+schoolAt L b i = record { site = numberAt b i (L .site); number = byteAt b (i + L .site) }
 
--- which of the first n schools is that of the record at i; n where none of them is
-unfoldable pub schoolIn : List ℕ → ℕ → ℕ → ℕ
-schoolIn b n i = first (λ j. sameSchool b (schoolAt j) i) n
+abbrev pub packageAt : Layout → List ℕ → ℕ → Package
+packageAt L b i = record { school = schoolAt L b i; slots = numberAt b (i + L .site + 1) 8; cost = numberAt b (i + L .site + 9) 2 }
 
--- which of the first n packages is the one at i; n where none of them is
-unfoldable pub packageIn : List ℕ → ℕ → ℕ → ℕ → ℕ
-packageIn b s n i = first (λ k. samePackage b (packageAt s k) i) n
+-- ---- what the file says
 
--- the school, the slot set and the cost of package k
-unfoldable pub schoolOf : List ℕ → ℕ → ℕ → ℕ
-schoolOf b s k = schoolIn b s (packageAt s k)
+unfoldable pub schoolsIn : Layout → List ℕ → List School
+schoolsIn L b = listed (λ j. schoolAt L b (schoolPlace L j)) (schools b)
 
-unfoldable pub slotsOf : List ℕ → ℕ → ℕ → ℕ
-slotsOf b s k = word64At b (packageAt s k + 2)
+unfoldable pub packagesIn : Layout → List ℕ → List Package
+packagesIn L b = listed (λ k. packageAt L b (packagePlace L (schools b) k)) (packages b)
 
-unfoldable pub costOf : List ℕ → ℕ → ℕ → ℕ
-costOf b s k = word16At b (packageAt s k + 10)
-
--- the items of package k, its school and its slots: school j is item j, slot t is item S + t
-unfoldable pub itemsOf : List ℕ → ℕ → ℕ → ℕ
-itemsOf b s k = 2 ^ schoolOf b s k + slotsOf b s k * 2 ^ s
-
--- ---- what an accepted file says, beside S, T and N: the packages' item sets and their costs
-
-unfoldable pub packagesOf : List ℕ → List ℕ
-packagesOf b = listed (itemsOf b (schools b)) (packages b)
-
-unfoldable pub costsOf : List ℕ → List ℕ
-costsOf b = listed (costOf b (schools b)) (packages b)
-
--- the problem that the file states: its packages' item sets; no item is optional, and the order is plain
-abbrev pub problemIn : List ℕ → Problem
-problemIn b = record { packages = packagesOf b; optional = 0; order = upTo (schools b + slots b) }
+abbrev pub contents : Layout → List ℕ → Contents
+contents L b = record { slots = slots b; optional = optionalSlots L b; schools = schoolsIn L b; packages = packagesIn L b }
 
 -- ---- refusals
 
@@ -92,60 +86,45 @@ cut b = ltb (length b) 13
 unfoldable pub unmarked : List ℕ → Bool
 unmarked b = not (markb b)
 
--- 22 version: the version is not 1
-unfoldable pub otherVersion : List ℕ → Bool
-otherVersion b = not (eqb (version b) 1)
+-- 22 version: another version than the layout's
+unfoldable pub otherVersion : Layout → List ℕ → Bool
+otherVersion L b = not (eqb (version b) (L .version))
 
 -- 24 size: S + T above 64 or N above 512
 unfoldable pub oversize : List ℕ → Bool
 oversize b = ltb 64 (schools b + slots b) || ltb 512 (packages b)
 
--- 20 again: the length is not 13 + 2 S + 12 N
-unfoldable pub wrongLength : List ℕ → Bool
-wrongLength b = not (eqb (length b) (13 + 2 * schools b + 12 * packages b))
+-- 20 again: the length is not that of S schools and N packages
+unfoldable pub wrongLength : Layout → List ℕ → Bool
+wrongLength L b = not (eqb (length b) (fileLength L (schools b) (packages b)))
 
 -- 23 check: the last four bytes are not the check of those before
 unfoldable pub wrongCheck : List ℕ → Bool
-wrongCheck b = not (eqb (fnv (take (length b - 4) b)) (word32At b (length b - 4)))
-
--- 25 school twice: some school is among those before it
-unfoldable pub schoolTwice : List ℕ → ℕ → Bool
-schoolTwice b s = some (λ j. ltb (schoolIn b j (schoolAt j)) j) s
-
--- 26 stray: a package's school is not listed, or it has a slot of T or above
-unfoldable pub strayb : List ℕ → ℕ → ℕ → ℕ → Bool
-strayb b s t k = not (ltb (schoolOf b s k) s) || not (belowb (slotsOf b s k) t)
-
-unfoldable pub stray : List ℕ → ℕ → ℕ → ℕ → Bool
-stray b s t n = some (λ k. strayb b s t k) n
-
--- 27 package twice: some package is among those before it
-unfoldable pub packageTwice : List ℕ → ℕ → ℕ → Bool
-packageTwice b s n = some (λ k. ltb (packageIn b s k (packageAt s k)) k) n
-
--- 28 unfit: the engine says 1 or 2, with M = S + T. These are its own two tests; proofs/Engine: `engine::check` says 1 or 2 exactly where they hold
-unfoldable pub unfit : List ℕ → Bool
-unfit b = engine.oversize (schools b + slots b) (packagesOf b) || engine.stray (schools b + slots b) (packagesOf b)
+wrongCheck b = not (eqb (fnv (take (length b - 4) b)) (numberAt b (length b - 4) 4))
 
 -- the tests of the header
-abbrev pub headerTests : List ℕ → List (Bool × ℕ)
-headerTests b =
+abbrev pub headerTests : Layout → List ℕ → List (Bool × ℕ)
+headerTests L b =
     (unmarked b, 21) ∷
-    (otherVersion b, 22) ∷
+    (otherVersion L b, 22) ∷
     (oversize b, 24) ∷
-    (wrongLength b, 20) ∷
+    (wrongLength L b, 20) ∷
     []
 
--- the tests of the check and of the records
-abbrev pub recordTests : List ℕ → List (Bool × ℕ)
-recordTests b =
-    (wrongCheck b, 23) ∷
-    (schoolTwice b (schools b), 25) ∷
-    (stray b (schools b) (slots b) (packages b), 26) ∷
-    (packageTwice b (schools b) (packages b), 27) ∷
-    (unfit b, 28) ∷
+-- the tests of what the file says. No version 1 file is 31, since it has no optional slot
+abbrev pub contentTests : Contents → List (Bool × ℕ)
+contentTests x =
+    (strayOptional x, 31) ∷
+    (schoolTwice (x .schools), 25) ∷
+    (stray x, 26) ∷
+    (packageTwice (x .packages), 27) ∷
+    (unfit x, 28) ∷
     []
 
--- the number of the first test that holds, in document 01's order; 0: the file is accepted
-unfoldable pub refusal : List ℕ → ℕ
-refusal b = firstOf ((cut b, 20) ∷ (headerTests b ++ recordTests b))
+-- the tests behind the header's
+abbrev pub recordTests : Layout → List ℕ → List (Bool × ℕ)
+recordTests L b = (wrongCheck b, 23) ∷ contentTests (contents L b)
+
+-- the number of the first test that holds, in the documents' order; 0: the file is accepted as one of this version
+unfoldable pub refusal : Layout → List ℕ → ℕ
+refusal L b = firstOf ((cut b, 20) ∷ (headerTests L b ++ recordTests L b))

@@ -14,6 +14,6 @@ unfoldable pub some : (ℕ → Bool) → ℕ → Bool
 some f n = ltb (first f n) n
 
 -- f 0, f 1, .., f (n - 1)
-unfoldable pub listed : (ℕ → ℕ) → ℕ → List ℕ
+unfoldable pub listed : {A : Type 0} → (ℕ → A) → ℕ → List A
 listed f zero = []
 listed f (suc n) = listed f n ++ (f n ∷ [])

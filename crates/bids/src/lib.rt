@@ -1,5 +1,5 @@
-// The reader of bids files. It stands above the engine and knows its contracts only. A cursor is a place in the file; its methods return what stands
-// there and the place past it. The tests for doubles compare each record with those before it: at most 64 schools and 512 packages.
+// The reader of bids files of both versions. It stands above the engine and knows its contracts only. A cursor is a place in the file; its methods return
+// what stands there and the place past it. The tests for doubles compare each record with those before it: at most 64 schools and 512 packages.
 ghost use mathlib.Core.Path.{_≡_};
 ghost use mathlib.Core.Bool.{_&&_};
 ghost use Prim.Native.Nat.{_+_, _*_, _%_, _^_, _<_, _≤_};
@@ -8,12 +8,20 @@ ghost use lib.ListN.{length, take};
 ghost use Rattle.itemset.specs.Words.{spread};
 ghost use Rattle.statement.specs.Refusals.{firstOf};
 ghost use Rattle.statement.specs.Postconditions.{written};
-ghost use Rattle.bids.specs.Bytes.{byteAt, word16At, word32At, word64At, fnv};
-ghost use Rattle.bids.specs.Ranges.{listed};
-ghost use Rattle.bids.specs.Format.{headerTests, recordTests, schoolIn, packageIn, schoolTwice, packageTwice, itemsOf, costOf};
+ghost use Rattle.bids.specs.Bytes.{byteAt, numberAt, fnv};
+ghost use Rattle.bids.specs.Contents.{sameSchool, samePackage, schoolIn, packageIn, schoolTwice, packageTwice, packagesOf, costsOf};
+ghost use Rattle.bids.specs.Contents as C;
+ghost use Rattle.bids.specs.Format.{headerTests, recordTests, schoolPlace, packagePlace, optionalSlots, schoolsIn, packagesIn, contents};
 ghost use Rattle.bids.specs.Format as F;
-ghost use Rattle.bids.specs.Contract.{FieldPost, SchoolPost, PackagePost, HeaderPost, Sized, Fillable, ReadPost};
+ghost use Rattle.bids.specs.Contract.{Legible, FieldPost, SchoolPost, PackagePost, HeaderPost, Sized, Fillable, ReadPost};
 use itemset::Items;
+
+// What the versions differ in: the version's number, the bytes before the first school's record, and the bytes of a site.
+pub struct Layout {
+    pub version: u64,
+    pub header: usize,
+    pub site: usize,
+}
 
 // The reader's place in the file.
 pub struct Cursor {
@@ -40,26 +48,52 @@ pub struct School {
     pub number: u64,
 }
 
+pub struct Package {
+    pub school: School,
+    pub slots: u64,
+    pub cost: u64,
+}
+
 pub struct SchoolRecord {
     pub school: School,
     pub next: Cursor,
 }
 
 pub struct PackageRecord {
-    pub school: School,
-    pub slots: u64,
-    pub cost: u64,
+    pub bid: Package,
     pub next: Cursor,
 }
 
-// What the reader returns: S, T and N, or the number of the refusal.
+// What the reader returns: S, T, N and the optional items, or the number of the refusal.
 pub enum Reading {
     Accepted {
         schools: u32,
         slots: u32,
         packages: usize,
+        optional: Items,
     },
     Refused(u8),
+}
+
+// The layout of version 1, and that of version 2, which has a set of optional slots behind N and wider sites.
+pub fn version1() -> Layout
+    ensures { λ r. ⌜ r ≡ F.version1 ⌝ }
+{
+    Layout {
+        version: 1,
+        header: 9,
+        site: 1,
+    }
+}
+
+pub fn version2() -> Layout
+    ensures { λ r. ⌜ r ≡ F.version2 ⌝ }
+{
+    Layout {
+        version: 2,
+        header: 17,
+        site: 2,
+    }
 }
 
 fn wide(x: u8) -> u64
@@ -86,53 +120,31 @@ impl Cursor {
         }
     }
 
-    fn word16(self, file: &[u8]) -> Field
-        requires { ⌜ self .at + 2 ≤ length (now file) ⌝ }
-        ensures { λ r. ⌜ FieldPost (word16At (now (file .entry)) (self .at)) (self .at) 2 (r .value) (r .next .at) ⌝ }
+    // A number of `width` bytes, the lowest first.
+    pub fn number(self, file: &[u8], width: usize) -> Field
+        requires { ⌜ self .at + width ≤ length (now file) ⌝ }
+        requires { ⌜ width ≤ 8 ⌝ }
+        ensures { λ r. ⌜ FieldPost (numberAt (now (file .entry)) (self .at) width) (self .at) width (r .value) (r .next .at) ⌝ }
     {
-        let low = self.byte(file);
-        let middle = low.next;
-        let high = middle.byte(file);
-        let next = high.next;
+        let at = self.at;
+        let mut value: u64 = 0;
+        let mut i = width;
+        while 0 < i {
+            i -= 1;
+            value = 256 * value + wide(file[at + i]);
+        }
         Field {
-            value: low.value + 256 * high.value,
-            next,
+            value,
+            next: Cursor { at: at + width },
         }
     }
 
-    fn word32(self, file: &[u8]) -> Field
-        requires { ⌜ self .at + 4 ≤ length (now file) ⌝ }
-        ensures { λ r. ⌜ FieldPost (word32At (now (file .entry)) (self .at)) (self .at) 4 (r .value) (r .next .at) ⌝ }
+    pub fn school_record(self, file: &[u8], layout: Layout) -> SchoolRecord
+        requires { ⌜ self .at + (layout .site + 1) ≤ length (now file) ⌝ }
+        requires { ⌜ Legible layout ⌝ }
+        ensures { λ r. ⌜ SchoolPost layout (now (file .entry)) (self .at) r ⌝ }
     {
-        let low = self.word16(file);
-        let middle = low.next;
-        let high = middle.word16(file);
-        let next = high.next;
-        Field {
-            value: low.value + 65536 * high.value,
-            next,
-        }
-    }
-
-    fn word64(self, file: &[u8]) -> Field
-        requires { ⌜ self .at + 8 ≤ length (now file) ⌝ }
-        ensures { λ r. ⌜ FieldPost (word64At (now (file .entry)) (self .at)) (self .at) 8 (r .value) (r .next .at) ⌝ }
-    {
-        let low = self.word32(file);
-        let middle = low.next;
-        let high = middle.word32(file);
-        let next = high.next;
-        Field {
-            value: low.value + 4294967296 * high.value,
-            next,
-        }
-    }
-
-    fn school_record(self, file: &[u8]) -> SchoolRecord
-        requires { ⌜ self .at + 2 ≤ length (now file) ⌝ }
-        ensures { λ r. ⌜ SchoolPost (now (file .entry)) (self .at) r ⌝ }
-    {
-        let site = self.byte(file);
+        let site = self.number(file, layout.site);
         let second = site.next;
         let number = second.byte(file);
         let next = number.next;
@@ -145,21 +157,24 @@ impl Cursor {
         }
     }
 
-    fn package_record(self, file: &[u8]) -> PackageRecord
-        requires { ⌜ self .at + 12 ≤ length (now file) ⌝ }
-        ensures { λ r. ⌜ PackagePost (now (file .entry)) (self .at) r ⌝ }
+    pub fn package_record(self, file: &[u8], layout: Layout) -> PackageRecord
+        requires { ⌜ self .at + (layout .site + 11) ≤ length (now file) ⌝ }
+        requires { ⌜ Legible layout ⌝ }
+        ensures { λ r. ⌜ PackagePost layout (now (file .entry)) (self .at) r ⌝ }
     {
-        let record = self.school_record(file);
+        let record = self.school_record(file, layout);
         let school = record.school;
         let third = record.next;
-        let slots = third.word64(file);
+        let slots = third.number(file, 8);
         let fourth = slots.next;
-        let cost = fourth.word16(file);
+        let cost = fourth.number(file, 2);
         let next = cost.next;
         PackageRecord {
-            school,
-            slots: slots.value,
-            cost: cost.value,
+            bid: Package {
+                school,
+                slots: slots.value,
+                cost: cost.value,
+            },
             next,
         }
     }
@@ -173,7 +188,7 @@ fn wrapping_mul(a: u32, b: u32) -> u32
 }
 
 // The check of the first n bytes.
-fn check(file: &[u8], n: usize) -> u32
+pub fn check(file: &[u8], n: usize) -> u32
     requires { ⌜ n ≤ length (now file) ⌝ }
     ensures { λ r. ⌜ r ≡ fnv (take n (now (file .entry))) ⌝ }
 {
@@ -198,7 +213,7 @@ fn is_mark(a: u64, b: u64, c: u64) -> bool
     c == 66
 }
 
-fn read_header(file: &[u8]) -> Header
+pub fn read_header(file: &[u8]) -> Header
     requires { ⌜ 13 ≤ length (now file) ⌝ }
     ensures { λ r. ⌜ HeaderPost (now (file .entry)) r ⌝ }
 {
@@ -209,13 +224,13 @@ fn read_header(file: &[u8]) -> Header
     let after_s = s.next;
     let b = after_s.byte(file);
     let after_mark = b.next;
-    let version = after_mark.word16(file);
+    let version = after_mark.number(file, 2);
     let after_version = version.next;
     let schools = after_version.byte(file);
     let after_schools = schools.next;
     let slots = after_schools.byte(file);
     let after_slots = slots.next;
-    let packages = after_slots.word16(file);
+    let packages = after_slots.number(file, 2);
     Header {
         marked: is_mark(p.value, s.value, b.value),
         version: version.value,
@@ -225,8 +240,19 @@ fn read_header(file: &[u8]) -> Header
     }
 }
 
+// The set of optional slots, which stands between N and the first school: none where no byte does.
+pub fn optional_slots(file: &[u8], layout: Layout) -> u64
+    requires { ⌜ layout .header ≤ length (now file) ⌝ }
+    requires { ⌜ Legible layout ⌝ }
+    ensures { λ r. ⌜ r ≡ optionalSlots layout (now (file .entry)) ⌝ }
+{
+    let after_packages = Cursor { at: 9 };
+    let slots = after_packages.number(file, layout.header - 9);
+    slots.value
+}
+
 fn same_school(a: School, b: School) -> bool
-    ensures { λ r. ⌜ r ≡ (eqb (a .site) (b .site) && eqb (a .number) (b .number)) ⌝ }
+    ensures { λ r. ⌜ r ≡ sameSchool a b ⌝ }
 {
     if a.site != b.site {
         return false;
@@ -234,8 +260,8 @@ fn same_school(a: School, b: School) -> bool
     a.number == b.number
 }
 
-fn same_package(a: PackageRecord, b: PackageRecord) -> bool
-    ensures { λ r. ⌜ r ≡ ((eqb (a .school .site) (b .school .site) && eqb (a .school .number) (b .school .number)) && eqb (a .slots) (b .slots)) ⌝ }
+fn same_package(a: Package, b: Package) -> bool
+    ensures { λ r. ⌜ r ≡ samePackage a b ⌝ }
 {
     let x = a.school;
     let y = b.school;
@@ -245,18 +271,16 @@ fn same_package(a: PackageRecord, b: PackageRecord) -> bool
     a.slots == b.slots
 }
 
-// Which of the first n schools is that of the record at key, n where none is.
-fn school_index(file: &[u8], n: usize, key: Cursor) -> usize
-    requires { ⌜ 9 + 2 * n ≤ length (now file) ⌝ }
-    requires { ⌜ key .at + 2 ≤ length (now file) ⌝ }
-    ensures { λ r. ⌜ r ≡ schoolIn (now (file .entry)) n (key .at) ⌝ }
+// Which of the first n schools it is, n where none of them is.
+fn school_index(file: &[u8], layout: Layout, n: usize, wanted: School) -> usize
+    requires { ⌜ (schoolPlace layout n ≤ length (now file)) × (n ≤ F.schools (now file)) ⌝ }
+    requires { ⌜ Legible layout ⌝ }
+    ensures { λ r. ⌜ r ≡ schoolIn (schoolsIn layout (now (file .entry))) n wanted ⌝ }
 {
-    let sought = key.school_record(file);
-    let wanted = sought.school;
-    let mut c = Cursor { at: 9 };
+    let mut c = Cursor { at: layout.header };
     let mut j: usize = 0;
     while j < n {
-        let record = c.school_record(file);
+        let record = c.school_record(file, layout);
         let school = record.school;
         if same_school(school, wanted) {
             return j;
@@ -267,39 +291,51 @@ fn school_index(file: &[u8], n: usize, key: Cursor) -> usize
     n
 }
 
-// Which of the first n packages is the one at key, n where none is. The file has s schools.
-fn package_index(file: &[u8], s: usize, n: usize, key: Cursor) -> usize
-    requires { ⌜ 9 + 2 * s + 12 * n ≤ length (now file) ⌝ }
-    requires { ⌜ key .at + 12 ≤ length (now file) ⌝ }
-    ensures { λ r. ⌜ r ≡ packageIn (now (file .entry)) s n (key .at) ⌝ }
+// Where the record of the first package starts, behind s schools.
+pub fn first_package(layout: Layout, s: usize) -> Cursor
+    requires { ⌜ (s ≤ 64) × Legible layout ⌝ }
+    ensures { λ r. ⌜ r .at ≡ packagePlace layout s 0 ⌝ }
 {
-    let wanted = key.package_record(file);
-    let mut c = Cursor { at: 9 + 2 * s };
+    Cursor {
+        at: layout.header + (layout.site + 1) * s,
+    }
+}
+
+// Which of the first n packages it is, n where none of them is. The file has s schools.
+fn package_index(file: &[u8], layout: Layout, s: usize, n: usize, wanted: Package) -> usize
+    requires { ⌜ (packagePlace layout s n ≤ length (now file)) × (n ≤ F.packages (now file)) ⌝ }
+    requires { ⌜ (s ≡ F.schools (now file)) × ((s ≤ 64) × Legible layout) ⌝ }
+    ensures { λ r. ⌜ r ≡ packageIn (packagesIn layout (now (file .entry))) n wanted ⌝ }
+{
+    let mut c = first_package(layout, s);
     let mut k: usize = 0;
     while k < n {
-        let p = c.package_record(file);
-        if same_package(p, wanted) {
+        let record = c.package_record(file, layout);
+        let bid = record.bid;
+        if same_package(bid, wanted) {
             return k;
         }
-        c = p.next;
+        c = record.next;
         k += 1;
     }
     n
 }
 
 // Whether one of the s schools is among those before it.
-fn school_twice(file: &[u8], s: usize) -> bool
-    requires { ⌜ 9 + 2 * s ≤ length (now file) ⌝ }
-    ensures { λ r. ⌜ r ≡ schoolTwice (now (file .entry)) s ⌝ }
+fn school_twice(file: &[u8], layout: Layout, s: usize) -> bool
+    requires { ⌜ schoolPlace layout s ≤ length (now file) ⌝ }
+    requires { ⌜ (s ≡ F.schools (now file)) × Legible layout ⌝ }
+    ensures { λ r. ⌜ r ≡ schoolTwice (schoolsIn layout (now (file .entry))) ⌝ }
 {
-    let mut c = Cursor { at: 9 };
+    let mut c = Cursor { at: layout.header };
     let mut j: usize = 0;
     while j < s {
-        let before = school_index(file, j, c);
+        let record = c.school_record(file, layout);
+        let school = record.school;
+        let before = school_index(file, layout, j, school);
         if before < j {
             return true;
         }
-        let record = c.school_record(file);
         c = record.next;
         j += 1;
     }
@@ -307,20 +343,21 @@ fn school_twice(file: &[u8], s: usize) -> bool
 }
 
 // Whether one of the n packages has a school that is not listed, or a slot of t or above.
-fn stray(file: &[u8], s: usize, t: u32, n: usize) -> bool
-    requires { ⌜ 9 + 2 * s + 12 * n ≤ length (now file) ⌝ }
-    requires { ⌜ t ≤ 64 ⌝ }
-    ensures { λ r. ⌜ r ≡ F.stray (now (file .entry)) s t n ⌝ }
+fn stray(file: &[u8], layout: Layout, s: usize, t: u32, n: usize) -> bool
+    requires { ⌜ Sized layout (now file) s t n ⌝ }
+    ensures { λ r. ⌜ r ≡ C.stray (contents layout (now (file .entry))) ⌝ }
 {
-    let mut c = Cursor { at: 9 + 2 * s };
+    let mut c = first_package(layout, s);
     let mut k: usize = 0;
     while k < n {
-        let j = school_index(file, s, c);
+        let record = c.package_record(file, layout);
+        let bid = record.bid;
+        let school = bid.school;
+        let j = school_index(file, layout, s, school);
         if j >= s {
             return true;
         }
-        let record = c.package_record(file);
-        if !itemset::below_word(record.slots, t) {
+        if !itemset::below_word(bid.slots, t) {
             return true;
         }
         c = record.next;
@@ -330,33 +367,46 @@ fn stray(file: &[u8], s: usize, t: u32, n: usize) -> bool
 }
 
 // Whether one of the n packages is among those before it.
-fn package_twice(file: &[u8], s: usize, n: usize) -> bool
-    requires { ⌜ 9 + 2 * s + 12 * n ≤ length (now file) ⌝ }
-    ensures { λ r. ⌜ r ≡ packageTwice (now (file .entry)) s n ⌝ }
+fn package_twice(file: &[u8], layout: Layout, s: usize, n: usize) -> bool
+    requires { ⌜ packagePlace layout s n ≤ length (now file) ⌝ }
+    requires { ⌜ (s ≡ F.schools (now file)) × (n ≡ F.packages (now file)) ⌝ }
+    requires { ⌜ (s ≤ 64) × Legible layout ⌝ }
+    ensures { λ r. ⌜ r ≡ packageTwice (packagesIn layout (now (file .entry))) ⌝ }
 {
-    let mut c = Cursor { at: 9 + 2 * s };
+    let mut c = first_package(layout, s);
     let mut k: usize = 0;
     while k < n {
-        let before = package_index(file, s, k, c);
+        let record = c.package_record(file, layout);
+        let bid = record.bid;
+        let before = package_index(file, layout, s, k, bid);
         if before < k {
             return true;
         }
-        let record = c.package_record(file);
         c = record.next;
         k += 1;
     }
     false
 }
 
+// The length of a file of s schools and n packages.
+pub fn file_length(layout: Layout, s: u64, n: u64) -> u64
+    requires { ⌜ ((s < 256) × (n < 65536)) × Legible layout ⌝ }
+    ensures { λ r. ⌜ r ≡ F.fileLength layout s n ⌝ }
+{
+    let header = layout.header as u64;
+    let site = layout.site as u64;
+    header + (site + 1) * s + (site + 11) * n + 4
+}
+
 // The first refusal of a header, 0 where it has none.
-fn header_refusal(file: &[u8], h: Header) -> u8
-    requires { ⌜ HeaderPost (now file) h ⌝ }
-    ensures { λ r. ⌜ r ≡ firstOf (headerTests (now (file .entry))) ⌝ }
+fn header_refusal(file: &[u8], layout: Layout, h: Header) -> u8
+    requires { ⌜ HeaderPost (now file) h × Legible layout ⌝ }
+    ensures { λ r. ⌜ r ≡ firstOf (headerTests layout (now (file .entry))) ⌝ }
 {
     if !h.marked {
         return 21;
     }
-    if h.version != 1 {
+    if h.version != layout.version {
         return 22;
     }
     if h.schools + h.slots > 64 {
@@ -365,7 +415,7 @@ fn header_refusal(file: &[u8], h: Header) -> u8
     if h.packages > 512 {
         return 24;
     }
-    if file.len() as u64 != 13 + 2 * h.schools + 12 * h.packages {
+    if file.len() as u64 != file_length(layout, h.schools, h.packages) {
         return 20;
     }
     0
@@ -373,94 +423,117 @@ fn header_refusal(file: &[u8], h: Header) -> u8
 
 // The first refusal of the check and the records of s schools and n packages with t slots, 0 where they have none. There is no test for 28: a file that
 // passes the others is fit for the engine (proofs/Fit).
-fn record_refusal(file: &[u8], s: usize, t: u32, n: usize) -> u8
-    requires { ⌜ Sized (now file) s t n ⌝ }
-    ensures { λ r. ⌜ r ≡ firstOf (recordTests (now (file .entry))) ⌝ }
+fn record_refusal(file: &[u8], layout: Layout, s: usize, t: u32, n: usize) -> u8
+    requires { ⌜ Sized layout (now file) s t n ⌝ }
+    ensures { λ r. ⌜ r ≡ firstOf (recordTests layout (now (file .entry))) ⌝ }
 {
     let end = file.len() - 4;
     let tail = Cursor { at: end };
-    let stored = tail.word32(file);
+    let stored = tail.number(file, 4);
     if check(file, end) as u64 != stored.value {
         return 23;
     }
-    if school_twice(file, s) {
+    if !itemset::below_word(optional_slots(file, layout), t) {
+        return 31;
+    }
+    if school_twice(file, layout, s) {
         return 25;
     }
-    if stray(file, s, t, n) {
+    if stray(file, layout, s, t, n) {
         return 26;
     }
-    if package_twice(file, s, n) {
+    if package_twice(file, layout, s, n) {
         return 27;
     }
     0
 }
 
-// The number of the file's refusal, 0 where it is accepted.
-fn refusal(file: &[u8]) -> u8
-    ensures { λ r. ⌜ r ≡ F.refusal (now (file .entry)) ⌝ }
+// The number of the file's refusal as one of this version, 0 where it is accepted.
+pub fn refusal(file: &[u8], layout: Layout) -> u8
+    requires { ⌜ Legible layout ⌝ }
+    ensures { λ r. ⌜ r ≡ F.refusal layout (now (file .entry)) ⌝ }
 {
     if file.len() < 13 {
         return 20;
     }
     let h = read_header(file);
-    let r = header_refusal(file, h);
+    let r = header_refusal(file, layout, h);
     if r != 0 {
         return r;
     }
     record_refusal(
         file,
+        layout,
         h.schools as usize,
         h.slots as u32,
         h.packages as usize,
     )
 }
 
-// The items of a package of school j among s, with its slots above them: one word, since S + T is at most 64.
+// A set of slots, above s schools: one word, since S + T is at most 64.
+fn shifted(slots: u64, s: usize) -> u64
+    requires { ⌜ s ≤ 64 ⌝ }
+    requires { ⌜ slots * 2 ^ s < 2 ^ 64 ⌝ }
+    ensures { λ r. ⌜ r ≡ slots * 2 ^ s ⌝ }
+{
+    if slots == 0 {
+        return 0;
+    }
+    slots << s
+}
+
+// The items of a package of school j among s, with its slots above them.
 fn items_of(j: usize, slots: u64, s: usize) -> u64
     requires { ⌜ (j < s) × (s ≤ 64) ⌝ }
     requires { ⌜ 2 ^ j + slots * 2 ^ s < 2 ^ 64 ⌝ }
     ensures { λ r. ⌜ r ≡ 2 ^ j + slots * 2 ^ s ⌝ }
 {
-    let school = 1u64 << j;
-    if slots == 0 {
-        return school;
-    }
-    school + (slots << s)
+    (1u64 << j) + shifted(slots, s)
 }
 
 // Writes the n packages' items, three words a package, and their costs to the start of the buffers.
-fn fill(file: &[u8], s: usize, n: usize, packages: &mut [u64], costs: &mut [u16])
-    requires { ⌜ Fillable (now file) s n ⌝ }
+fn fill(
+    file: &[u8],
+    layout: Layout,
+    s: usize,
+    t: u32,
+    n: usize,
+    packages: &mut [u64],
+    costs: &mut [u16],
+)
+    requires { ⌜ Fillable layout (now file) s t n ⌝ }
     requires { ⌜ (3 * n ≤ length (now packages)) × (n ≤ length (now costs)) ⌝ }
-    ensures { λ _. ⌜ now (packages .exit) ≡ written 0 (spread 3 (listed (itemsOf (now (file .entry)) s) n)) (now (packages .entry)) ⌝ }
-    ensures { λ _. ⌜ now (costs .exit) ≡ written 0 (listed (costOf (now (file .entry)) s) n) (now (costs .entry)) ⌝ }
+    ensures { λ _. ⌜ now (packages .exit) ≡ written 0 (spread 3 (packagesOf (contents layout (now (file .entry))))) (now (packages .entry)) ⌝ }
+    ensures { λ _. ⌜ now (costs .exit) ≡ written 0 (costsOf (contents layout (now (file .entry)))) (now (costs .entry)) ⌝ }
 {
-    let mut c = Cursor { at: 9 + 2 * s };
+    let mut c = first_package(layout, s);
     let mut k: usize = 0;
     while k < n {
-        let j = school_index(file, s, c);
-        let record = c.package_record(file);
+        let record = c.package_record(file, layout);
+        let bid = record.bid;
+        let school = bid.school;
+        let j = school_index(file, layout, s, school);
         itemset::write(
             packages,
             3 * k,
             Items {
-                w0: items_of(j, record.slots, s),
+                w0: items_of(j, bid.slots, s),
                 w1: 0,
                 w2: 0,
             },
         );
-        costs[k] = record.cost as u16;
+        costs[k] = bid.cost as u16;
         c = record.next;
         k += 1;
     }
 }
 
-// Reads a file. Of an accepted one the packages' item sets, three words a package, and costs stand at the start of the buffers. A refusal changes
-// nothing; a buffer without room for N is refused as a short page is, after all that the file itself is refused for.
-pub fn read(file: &[u8], packages: &mut [u64], costs: &mut [u16]) -> Reading
-    ensures { λ r. ⌜ ReadPost (now (file .entry)) r (now (packages .entry)) (now (packages .exit)) (now (costs .entry)) (now (costs .exit)) ⌝ }
+// Reads a file of the version whose layout this is.
+fn read_as(layout: Layout, file: &[u8], packages: &mut [u64], costs: &mut [u16]) -> Reading
+    requires { ⌜ Legible layout ⌝ }
+    ensures { λ r. ⌜ ReadPost layout (now (file .entry)) r (now (packages .entry)) (now (packages .exit)) (now (costs .entry)) (now (costs .exit)) ⌝ }
 {
-    let why = refusal(file);
+    let why = refusal(file, layout);
     if why != 0 {
         return Reading::Refused(why);
     }
@@ -474,10 +547,31 @@ pub fn read(file: &[u8], packages: &mut [u64], costs: &mut [u16]) -> Reading
     if costs.len() < n {
         return Reading::Refused(15);
     }
-    fill(file, base::wide(s), n, packages, costs);
+    fill(file, layout, base::wide(s), t, n, packages, costs);
+    let slots = optional_slots(file, layout);
     Reading::Accepted {
         schools: s,
         slots: t,
         packages: n,
+        optional: Items {
+            w0: shifted(slots, base::wide(s)),
+            w1: 0,
+            w2: 0,
+        },
     }
+}
+
+// Reads a file of version 1, which has no optional items. Of an accepted one the packages' item sets, three words a package, and costs stand at the start of
+// the buffers. A refusal changes nothing; a buffer without room for N is refused as a short page is, after all that the file itself is refused for.
+pub fn read(file: &[u8], packages: &mut [u64], costs: &mut [u16]) -> Reading
+    ensures { λ r. ⌜ ReadPost F.version1 (now (file .entry)) r (now (packages .entry)) (now (packages .exit)) (now (costs .entry)) (now (costs .exit)) ⌝ }
+{
+    read_as(version1(), file, packages, costs)
+}
+
+// The same of a file of version 2.
+pub fn read2(file: &[u8], packages: &mut [u64], costs: &mut [u16]) -> Reading
+    ensures { λ r. ⌜ ReadPost F.version2 (now (file .entry)) r (now (packages .entry)) (now (packages .exit)) (now (costs .entry)) (now (costs .exit)) ⌝ }
+{
+    read_as(version2(), file, packages, costs)
 }

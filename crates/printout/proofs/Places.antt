@@ -21,7 +21,9 @@ use Rattle.statement.specs.Calls.{coverRefusal}
 use Rattle.statement.specs.Refusals.{firstOf, oversize, stray, unsound, unknownItem, shortWork, spent, full}
 use Rattle.exact_cover.proofs.NoneOptional.{noneOptional}
 use Rattle.statement.proofs.NoneOptional.{packages-as-before}
-use Rattle.bids.specs.Format.{schools, slots, packagesOf, costsOf, refusal}
+use Rattle.bids.specs.Contents.{packagesOf, costsOf}
+use Rattle.bids.specs.Format.{version1, schools, slots, contents, refusal}
+use Rattle.bids.proofs.Packed.{plain-problem}
 use Rattle.printout.specs.Program.{unless, answerText, blank, solved, printed}
 
 module _ (s t : ℕ) (ps C : List ℕ) where
@@ -65,6 +67,10 @@ module _ (s t : ℕ) (ps C : List ℕ) where
     same-solved =
         ap₂ (λ (r n : ℕ). unless r (answerText s t (length ps) C (covering Q D) (missing (nodesOf blank) (covering Q D)) n)) same-refusal same-steps
 
-pub printed-as-before : (b : List ℕ) → schools b + slots b ≤ 9 → printed b ≡ unless (refusal b) (oldSolved (schools b) (slots b) (packagesOf b) (costsOf b))
+pub printed-as-before : (b : List ℕ) → schools b + slots b ≤ 9
+    → printed b ≡ unless (refusal version1 b) (oldSolved (schools b) (slots b) (packagesOf (contents version1 b)) (costsOf (contents version1 b)))
 unfolding printed
-printed-as-before b few = ap (unless (refusal b)) (same-solved (schools b) (slots b) (packagesOf b) (costsOf b) few)
+printed-as-before b few =
+    let x = contents version1 b in
+    ap (unless (refusal version1 b))
+    (ap (λ (Q : Problem). solved (schools b) (slots b) Q (costsOf x)) (plain-problem b) ∙ same-solved (schools b) (slots b) (packagesOf x) (costsOf x) few)

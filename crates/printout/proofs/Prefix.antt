@@ -7,10 +7,9 @@ use Prim.Native.Nat.{ℕ, _≤_, _<_}
 use native.Mathlib.Nat.{eq-zero-or-pos}
 use native.Mathlib.Omega.{arith}
 use lib.ListN.{length, take}
-use lib.Seq.{take-all}
-use Rattle.bids.specs.Format.{refusal}
-use Rattle.bids.proofs.Prefix.{enough}
-use Rattle.bids.proofs.Refused.{accepted-sized}
+use Rattle.bids.specs.Format.{version1, refusal}
+use Rattle.bids.proofs.Places.{legible1}
+use Rattle.bids.proofs.Prefix.{longest1, enough, all-of-it}
 use Rattle.printout.specs.Written.{Whole}
 use Rattle.printout.specs.Program.{printed, PrintedFor}
 use Rattle.printout.proofs.Sheets.{said}
@@ -20,9 +19,11 @@ pub same-text : (b : List ℕ) (m : ℕ) → 6286 ≤ m → printed (take m b) �
 unfolding printed
 same-text b m p =
     ⊎-elim
-    (λ (z : refusal b ≡ 0). let k = accepted-sized b z refl refl refl in ap printed (take-all m b (omega (arith, k .long, k .few, k .items))))
-    (λ (l : 0 < refusal b). sym (said (refusal b) _ (enough b m p) (λ z. omega arith)) ∙ said (refusal b) _ refl (λ z. omega arith))
-    (eq-zero-or-pos (refusal b))
+    (λ (z : refusal version1 b ≡ 0). ap printed (all-of-it version1 b m legible1 z (omega (arith, longest1))))
+    (λ (l : 0 < refusal version1 b).
+    sym (said (refusal version1 b) _ (enough version1 b m (omega (arith, longest1)) (omega (arith, longest1))) (λ z. omega arith))
+    ∙ said (refusal version1 b) _ refl (λ z. omega arith))
+    (eq-zero-or-pos (refusal version1 b))
 
 pub printed-for : (buffer : List ℕ) (n : ℕ) {room : ℕ} {out : List ℕ} {r : ℕ} → 6286 ≤ length buffer → Whole room out r (printed (take n buffer)) → PrintedFor buffer n (take r out)
 printed-for buffer n h w = λ b e. w .text ∙ ap printed (sym e) ∙ same-text b (length buffer) h

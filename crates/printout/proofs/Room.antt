@@ -17,8 +17,10 @@ use Rattle.exact_cover.specs.Problem.{Problem}
 use Rattle.statement.specs.Calls.{coverRefusal}
 use Rattle.statement.specs.Refusals.{firstOf, uncountable}
 use Rattle.statement.proofs.Admission.{fit-of}
-use Rattle.bids.specs.Format.{schools, slots, costsOf, problemIn, refusal}
-use Rattle.bids.proofs.Refused.{accepted-sized}
+use Rattle.bids.specs.Contents.{costsOf, problemIn}
+use Rattle.bids.specs.Format.{version1, schools, slots, contents, refusal}
+use Rattle.bids.proofs.Places.{legible1}
+use Rattle.bids.proofs.Accepted.{accepted-sized}
 use Rattle.printout.specs.Text.{decimalIn, decimal, field, head, packagesText, timetableLine, cheapestLine, noneLine, refusedLine, slotsWord}
 use Rattle.printout.specs.Text.{schoolsWord, packagesWord, nodesWord, stepsWord, timetablesWord, costWord, cheapestWord, refusedWord, newline}
 use Rattle.printout.specs.Written.{Holds, Whole}
@@ -112,8 +114,9 @@ solved-short s t Q C h = unless-short (coverRefusal Q (s + t) blank (allItems (s
 pub text-fits : (b : List ℕ) → length (printed b) ≤ 16384
 unfolding printed
 text-fits b =
-    unless-short (refusal b) (solved (schools b) (slots b) (problemIn b) (costsOf b)) (λ z.
-    solved-short (schools b) (slots b) (problemIn b) (costsOf b) (accepted-sized b z refl refl refl .items))
+    let x = contents version1 b in
+    unless-short (refusal version1 b) (solved (schools b) (slots b) (problemIn x) (costsOf x)) (λ z.
+    solved-short (schools b) (slots b) (problemIn x) (costsOf x) (accepted-sized version1 b z legible1 refl refl refl .items))
 
 -- so such a buffer holds just the text
 pub whole : (b : List ℕ) {out : List ℕ} {r : ℕ} → length out ≡ 16384 → Holds out r (printed b) → Whole 16384 out r (printed b)

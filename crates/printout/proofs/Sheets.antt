@@ -8,7 +8,8 @@ use native.Mathlib.Numerals.{add-one}
 use native.Mathlib.Omega.{arith}
 use borrow.Author.Tests.{eq-eqb, ne-eqb, ltb-false}
 use lib.ListN.{length, take, replicate, length-replicate}
-use Rattle.itemset.specs.Words.{width, spread}
+use Rattle.itemset.specs.Words.{width, value, spread}
+use Rattle.itemset.specs.declared.Items.{Items}
 use Rattle.itemset.proofs.Lists.{width-is}
 use Rattle.zdd.specs.Table.{Family}
 use Rattle.query.specs.Questions.{familyAt, nth, position, cheapest}
@@ -23,14 +24,15 @@ use Rattle.statement.specs.declared.Report.{Report}
 use Rattle.statement.proofs.FirstOf.{passed}
 use Rattle.statement.proofs.Made.{made-missing}
 use Rattle.statement.proofs.TestLaws.{was-given, was-refused}
-use Rattle.bids.specs.Format.{schools, slots, packages, refusal, packagesOf, costsOf, problemIn, itemsOf, costOf}
-use Rattle.bids.specs.Contract.{readRefusal, ReadPost, readReply}
+use Rattle.bids.specs.Contents.{packagesOf, costsOf, optionalOf, problemIn}
+use Rattle.bids.specs.Format.{version1, schools, slots, packages, contents, refusal}
+use Rattle.bids.specs.Contract.{readRefusal, readGives, ReadPost, readReply}
 use Rattle.bids.specs.declared.Reading.{Reading}
 use Rattle.bids.specs.declared.Reading.the-variants.{Accepted, Refused}
-use Rattle.bids.proofs.Answers.{by-file, accepted}
-use Rattle.bids.proofs.Refused.{accepted-sized}
-use Rattle.bids.proofs.Laws.{length-listed}
-use Rattle.bids.proofs.Packed.{packed-long, packed-problem}
+use Rattle.bids.proofs.Answers.{by-file, roomy}
+use Rattle.bids.proofs.Places.{legible1}
+use Rattle.bids.proofs.Accepted.{accepted-sized}
+use Rattle.bids.proofs.Packed.{count-packed, count-costs, packed-long, packed-problem}
 use Rattle.printout.specs.Text.{head, timetableLine, cheapestLine, noneLine, refusedLine}
 use Rattle.printout.specs.Written.{Holds, Puts}
 use Rattle.printout.specs.Program.{unless, timetableLines, lastLine, sheet, answerText, blank, solved, printed, Askable}
@@ -112,60 +114,61 @@ module _ (s t : ℕ) (Q : Problem) (C : List ℕ) {b : List ℕ} {w d : ℕ} {r 
 -- ---- the file
 
 -- buffers for 512 packages are never short
-read-refusal : (b : List ℕ) → readRefusal b 1536 512 ≡ refusal b
+read-refusal : (b : List ℕ) → readRefusal version1 b 1536 512 ≡ refusal version1 b
 read-refusal b =
     ⊎-elim
-    (λ (z : refusal b ≡ 0). let p = accepted-sized b z refl refl refl in accepted b 1536 512 z (omega (arith, p .few)) (p .few) ∙ sym z)
-    (λ (l : 0 < refusal b). by-file b 1536 512 refl (λ z. omega arith))
-    (eq-zero-or-pos (refusal b))
+    (λ (z : refusal version1 b ≡ 0).
+    let p = accepted-sized version1 b z legible1 refl refl refl in roomy version1 b 1536 512 z (omega (arith, p .few)) (p .few) ∙ sym z)
+    (λ (l : 0 < refusal version1 b). by-file version1 b 1536 512 refl (λ z. omega arith))
+    (eq-zero-or-pos (refusal version1 b))
 
 -- what an accepted file leaves
-pub record Read (b : List ℕ) (s t n : ℕ) (p c : List ℕ) : Type 0 where
+pub record Read (b : List ℕ) (s t n o : ℕ) (p c : List ℕ) : Type 0 where
   pub few : n ≤ 512
   pub small : s + t ≤ 64
-  pub problem : problemOf (take (3 * n) p) 0 (upTo (s + t)) ≡ problemIn b
-  pub costs : take n c ≡ costsOf b
-  pub same-long : length (costsOf b) ≡ length (packagesOf b)
-  pub text : solved s t (problemIn b) (costsOf b) ≡ printed b
+  pub problem : problemOf (take (3 * n) p) o (upTo (s + t)) ≡ problemIn (contents version1 b)
+  pub costs : take n c ≡ costsOf (contents version1 b)
+  pub same-long : length (costsOf (contents version1 b)) ≡ length (packagesOf (contents version1 b))
+  pub text : solved s t (problemIn (contents version1 b)) (costsOf (contents version1 b)) ≡ printed b
 
 -- and with the first S + T items of the plain order lent, the problem is the one that the file states
-pub read-problem : {b : List ℕ} {s t n : ℕ} {p c : List ℕ} → Read b s t n p c → (m : ℕ) (order : List ℕ) → m ≡ s + t → order ≡ upTo 192
-    → problemOf (take (3 * n) p) 0 (take m order) ≡ problemIn b
-read-problem {b} {s} {t} {n} {p} g m order e h =
-    ap (problemOf (take (3 * n) p) 0) (ap₂ take e h ∙ take-plain (s + t) 192 (omega (arith, g .small))) ∙ g .problem
+pub read-problem : {b : List ℕ} {s t n o : ℕ} {p c : List ℕ} → Read b s t n o p c → (m : ℕ) (order : List ℕ) → m ≡ s + t → order ≡ upTo 192
+    → problemOf (take (3 * n) p) o (take m order) ≡ problemIn (contents version1 b)
+read-problem {b} {s} {t} {n} {o} {p} g m order e h =
+    ap (problemOf (take (3 * n) p) o) (ap₂ take e h ∙ take-plain (s + t) 192 (omega (arith, g .small))) ∙ g .problem
 
 -- the buffers before
 abbrev zeros : ℕ → List ℕ
 zeros k = replicate k 0
 
-module _ {b : List ℕ} {r : Reading} {p c : List ℕ} (R : ReadPost b r (zeros 1536) p (zeros 512) c) where
-  number : readRefusal b (length (zeros 1536)) (length (zeros 512)) ≡ refusal b
+module _ {b : List ℕ} {r : Reading} {p c : List ℕ} (R : ReadPost version1 b r (zeros 1536) p (zeros 512) c) where
+  number : readRefusal version1 b (length (zeros 1536)) (length (zeros 512)) ≡ refusal version1 b
   number = rw (length-replicate {A = ℕ} 1536 0, length-replicate {A = ℕ} 512 0) (read-refusal b)
 
   pub read-said : {n : ℕ} → r ≡ Refused n → refusedLine n ≡ printed b
   unfolding printed
   read-said {n} e =
-      let q = was-refused n (readRefusal b (length (zeros 1536)) (length (zeros 512))) _ (sym (ap readReply e) ∙ R .answer) in
+      let q = was-refused n (readRefusal version1 b (length (zeros 1536)) (length (zeros 512))) _ (sym (ap readReply e) ∙ R .answer) in
       said n _ (sym number ∙ q .0) (q .1)
 
-  pub read-gave : {s t n : ℕ} → r ≡ Accepted s t n → Read b s t n p c
-  unfolding printed packagesOf costsOf
-  read-gave {s} {t} {n} e =
-      let q = was-given (s, (t, n)) (readRefusal b (length (zeros 1536)) (length (zeros 512))) (schools b, (slots b, packages b)) (sym (ap readReply e) ∙ R .answer) in
-      let z : refusal b ≡ 0 = sym number ∙ q .0 in
-      let es : s ≡ schools b = ap (λ (v : ℕ × (ℕ × ℕ)). v .0) (q .1) in
-      let et : t ≡ slots b = ap (λ (v : ℕ × (ℕ × ℕ)). v .1 .0) (q .1) in
-      let en : n ≡ packages b = ap (λ (v : ℕ × (ℕ × ℕ)). v .1 .1) (q .1) in
-      let k = accepted-sized b z refl refl refl in
-      let li = length-listed (itemsOf b (schools b)) (packages b) in
-      let lk = length-listed (costOf b (schools b)) (packages b) in
-      let l3 : 3 * n ≡ length (spread 3 (packagesOf b)) = omega (arith, en, packed-long b) in
+  pub read-gave : {s t n : ℕ} {o : Items} → r ≡ Accepted s t n o → Read b s t n (value o) p c
+  unfolding printed
+  read-gave {s} {t} {n} {o} e =
+      let x = contents version1 b in
+      let q = was-given (s, (t, (n, value o))) (readRefusal version1 b (length (zeros 1536)) (length (zeros 512))) (readGives version1 b) (sym (ap readReply e) ∙ R .answer) in
+      let z : refusal version1 b ≡ 0 = sym number ∙ q .0 in
+      let es : s ≡ schools b = ap (λ (v : ℕ × (ℕ × (ℕ × ℕ))). v .0) (q .1) in
+      let et : t ≡ slots b = ap (λ (v : ℕ × (ℕ × (ℕ × ℕ))). v .1 .0) (q .1) in
+      let en : n ≡ packages b = ap (λ (v : ℕ × (ℕ × (ℕ × ℕ))). v .1 .1 .0) (q .1) in
+      let eo : value o ≡ optionalOf x = ap (λ (v : ℕ × (ℕ × (ℕ × ℕ))). v .1 .1 .1) (q .1) in
+      let k = accepted-sized version1 b z legible1 refl refl refl in
+      let l3 : 3 * n ≡ length (spread 3 (packagesOf x)) = omega (arith, en, packed-long version1 b) in
+      let words = page-left (spread 3 (packagesOf x)) (zeros 1536) l3 (q .0) (R .items) in
       record {
         few = omega (arith, en, k .few);
         small = omega (arith, es, et, k .items);
-        problem = ap₂ (λ (w : List ℕ) (k : ℕ). problemOf w 0 (upTo k)) (page-left (spread 3 (packagesOf b)) (zeros 1536) l3 (q .0) (R .items)) (ap₂ _+_ es et)
-            ∙ packed-problem b z;
-        costs = page-left (costsOf b) (zeros 512) (en ∙ sym lk) (q .0) (R .costs);
-        same-long = lk ∙ sym li;
+        problem = rw (words, eo, es, et) (packed-problem version1 b legible1 z);
+        costs = page-left (costsOf x) (zeros 512) (en ∙ sym (count-costs version1 b)) (q .0) (R .costs);
+        same-long = count-costs version1 b ∙ sym (count-packed version1 b);
         text = rw (es, et) (unsaid _ z);
       }

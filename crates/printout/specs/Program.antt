@@ -15,7 +15,8 @@ use Rattle.statement.specs.Examples.{allItems}
 use Rattle.exact_cover.specs.Problem.{Problem}
 use Rattle.statement.specs.Calls.{coverRefusal}
 use Rattle.statement.specs.Refusals.{Fit, firstOf, unsound, unknownAnswer, uncountable}
-use Rattle.bids.specs.Format.{schools, slots, costsOf, problemIn, refusal}
+use Rattle.bids.specs.Contents.{costsOf, problemIn}
+use Rattle.bids.specs.Format.{version1, schools, slots, contents, refusal}
 use Rattle.printout.specs.Text.{head, timetableLine, cheapestLine, noneLine, refusedLine}
 
 -- the line of the refusal n, or the text where there is none
@@ -50,9 +51,9 @@ solved s t Q C =
     unless (coverRefusal Q (s + t) blank (allItems (s + t)) 1000000 3604)
     (answerText s t (length (Q .packages)) C (covering Q (allItems (s + t))) (missing (nodesOf blank) (covering Q (allItems (s + t)))) (steps Q 901 (allItems (s + t))))
 
--- the text for the file b
+-- the text for the file b, which is to be of version 1
 unfoldable pub printed : List ℕ → List ℕ
-printed b = unless (refusal b) (solved (schools b) (slots b) (problemIn b) (costsOf b))
+printed b = unless (refusal version1 b) (solved (schools b) (slots b) (problemIn (contents version1 b)) (costsOf (contents version1 b)))
 
 -- what a program may print that has read n bytes of a file into its buffer, as many as the file has and no more than the buffer holds: the text for
 -- every file that begins so

@@ -426,12 +426,7 @@ pub fn lines(file: &[u8], out: &mut [u8; 16384]) -> usize
     let mut packages = [0u64; 1536];
     let mut costs = [0u16; 512];
     let reading = bids::read(file, &mut packages, &mut costs);
-    // Such a file has no optional items and names no order.
-    let none = Items {
-        w0: 0,
-        w1: 0,
-        w2: 0,
-    };
+    // A file names no order.
     let order = exact_cover::plain_order();
     match reading {
         Reading::Refused(number) => put_refused(out, 0, number),
@@ -439,13 +434,14 @@ pub fn lines(file: &[u8], out: &mut [u8; 16384]) -> usize
             schools,
             slots,
             packages: n,
+            optional,
         } => {
             let m = base::wide(schools + slots);
             put_solution(
                 schools,
                 slots,
                 &packages[..3 * n],
-                none,
+                optional,
                 &order[..m],
                 &costs[..n],
                 out,

@@ -6,7 +6,6 @@ use native.Mathlib.Omega.{arith}
 use mathlib.Core.Path.{sym, ap, ap₂, _∙_}
 use Rattle.printout.proofs.Sheets.{from-start, holds-same, read-said, read-gave, read-problem}
 use Rattle.printout.proofs.Room.{whole}
-use Rattle.itemset.specs.Words.{valueOf}
 use Rattle.printout.specs.Program.{solved}
 use borrow.Author.Needs.{needs}
 use Rattle.printout.proofs.lines.Statement.{statement}
@@ -72,7 +71,6 @@ returns c =
     (from-start (c .put-refused .ensures)))
 
 returns-2 : tie.Need-returns-2
-unfolding valueOf
 returns-2 c =
     let there = c .before .before .before .before .before .before .before in
     let g = read-gave (there .before .before .before .before .before .read .ensures) (there .reading2 .given .1) in
