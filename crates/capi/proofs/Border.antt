@@ -24,14 +24,18 @@ use Rattle.statement.specs.Postconditions.{Makes, CheckPost, CountPost, Measure
 use Rattle.statement.proofs.TestLaws.{reply-refused}
 use Rattle.query.specs.Questions.{familyAt, nth, position, cost, cheapest, difference, closest}
 use Rattle.bids.specs.declared.Reading.{Reading}
-use Rattle.bids.specs.Format as F
-use Rattle.bids.specs.Contract.{readReply, readRefusal, ReadPost}
+use Rattle.bids.specs.declared.Layout.{Layout}
+use Rattle.bids.specs.Format.{contents}
+use Rattle.bids.specs.Contract.{readReply, readRefusal, readGives, ReadPost}
+use Rattle.conversion.specs.declared.Conversion.{Conversion}
+use Rattle.conversion.specs.Writing.{fileOf}
+use Rattle.conversion.specs.Contract.{convertReply, convertRefusal, ConvertPost}
 use Rattle.capi.specs.declared.Report.{Report}
 use Rattle.capi.specs.declared.Number.{Number}
 use Rattle.capi.specs.declared.Timetable.{Timetable}
 use Rattle.capi.specs.declared.Comparison.{Comparison}
 use Rattle.capi.specs.declared.Bids.{Bids}
-use Rattle.capi.specs.Structs.{soundnessOf, reportOf, countedOf, measuredOf, pickedOf, placedOf, pricedOf, comparedOf, readingOf, Says, Shows}
+use Rattle.capi.specs.Structs.{soundnessOf, reportOf, countedOf, measuredOf, pickedOf, placedOf, pricedOf, comparedOf, readingOf, conversionOf, Says, Shows}
 
 -- x is `gives`, and the struct says so
 pub says-gives : {A : Type 0} {x y : Reply A} → x ≡ y → Says x y
@@ -103,11 +107,19 @@ shows-closest {Q} {m} {t} {a} {s} {w} {g} r h p = record {
   pages = p .pages;
 }
 
-pub shows-read : {b p p′ c c′ : List ℕ} {e : Reading} (r : Bids) → Says (readReply e) (readReply (readingOf r)) → ReadPost b e p p′ c c′ → ReadPost b (readingOf r) p p′ c c′
-shows-read {b} {p} {p′} {c} r h q = record {
-  answer = h (readRefusal b (length p) (length c)) (F.schools b, (F.slots b, F.packages b)) (q .answer);
+pub shows-read : {L : Layout} {b p p′ c c′ : List ℕ} {e : Reading} (r : Bids) → Says (readReply e) (readReply (readingOf r)) → ReadPost L b e p p′ c c′
+    → ReadPost L b (readingOf r) p p′ c c′
+shows-read {L} {b} {p} {p′} {c} r h q = record {
+  answer = h (readRefusal L b (length p) (length c)) (readGives L b) (q .answer);
   items = q .items;
   costs = q .costs;
+}
+
+pub shows-convert : {from to : Layout} {b out out′ : List ℕ} {e : Conversion} (r : Number) → Says (convertReply e) (convertReply (conversionOf r))
+    → ConvertPost from to b e out out′ → ConvertPost from to b (conversionOf r) out out′
+shows-convert {from} {to} {b} {out} r h q = record {
+  answer = h (convertRefusal from to b (length out)) (length (fileOf to (contents from b))) (q .answer);
+  file = q .file;
 }
 
 -- ---- a set in an array of three words

@@ -2,7 +2,10 @@
 -- promises word for word what the engine's call promises, of the answer that its struct stands for. The fields that carry nothing are 0 (`Blank..`).
 -- Assumes nothing.
 use mathlib.Core.Path.{_≡_}
+use mathlib.Core.List.{List, [], _∷_}
 use Prim.Native.Nat.{ℕ, zero, suc, _<_}
+use lib.ListN.{getD}
+use Rattle.itemset.specs.declared.Items.{Items}
 use Rattle.statement.specs.Replies.{Reply, reply, outcomeReply}
 use Rattle.statement.specs.declared.Outcome.{Outcome}
 use Rattle.statement.specs.declared.Outcome.the-variants.{Answer, Refused as OutcomeRefused}
@@ -23,6 +26,8 @@ use Rattle.statement.specs.declared.Compared.{Compared}
 use Rattle.statement.specs.declared.Compared.the-variants.{Closest, Refused as ComparedRefused}
 use Rattle.bids.specs.declared.Reading.{Reading}
 use Rattle.bids.specs.declared.Reading.the-variants.{Accepted, Refused as ReadingRefused}
+use Rattle.conversion.specs.declared.Conversion.{Conversion}
+use Rattle.conversion.specs.declared.Conversion.the-variants.{Written, Refused as ConversionRefused}
 use Rattle.capi.specs.declared.Report.{Report}
 use Rattle.capi.specs.declared.Number.{Number}
 use Rattle.capi.specs.declared.Timetable.{Timetable}
@@ -86,12 +91,23 @@ compareOf (suc n) c x = ComparedRefused (suc n)
 abbrev pub comparedOf : Comparison → Compared
 comparedOf r = compareOf (r .refusal) (r .packages) (r .difference)
 
-abbrev pub readOf : (refusal schools slots packages : ℕ) → Reading
-readOf zero s t n = Accepted s t n
-readOf (suc r) s t n = ReadingRefused (suc r)
+-- a set in an array of three words
+abbrev pub itemsIn : List ℕ → Items
+itemsIn ws = record { w0 = getD ws 0 0; w1 = getD ws 1 0; w2 = getD ws 2 0 }
+
+abbrev pub readOf : (refusal schools slots packages : ℕ) → List ℕ → Reading
+readOf zero s t n ws = Accepted s t n (itemsIn ws)
+readOf (suc r) s t n ws = ReadingRefused (suc r)
 
 abbrev pub readingOf : Bids → Reading
-readingOf r = readOf (r .refusal) (r .schools) (r .slots) (r .packages)
+readingOf r = readOf (r .refusal) (r .schools) (r .slots) (r .packages) (r .optional)
+
+abbrev pub convertOf : (refusal value : ℕ) → Conversion
+convertOf zero n = Written n
+convertOf (suc r) n = ConversionRefused (suc r)
+
+abbrev pub conversionOf : Number → Conversion
+conversionOf r = convertOf (r .refusal) (r .value)
 
 -- ---- the fields that carry nothing
 
@@ -112,7 +128,7 @@ abbrev pub BlankComparison : Comparison → Type 0
 BlankComparison r = 0 < r .refusal → (r .packages ≡ 0) × (r .difference ≡ 0)
 
 abbrev pub BlankBids : Bids → Type 0
-BlankBids r = 0 < r .refusal → (r .schools ≡ 0) × (r .slots ≡ 0) × (r .packages ≡ 0)
+BlankBids r = 0 < r .refusal → (r .schools ≡ 0) × (r .slots ≡ 0) × (r .packages ≡ 0) × (r .optional ≡ (0 ∷ 0 ∷ 0 ∷ []))
 
 -- ---- what the border's functions promise
 

@@ -9,10 +9,13 @@ ghost use Rattle.statement.specs.Replies.{soundnessReply, countReply, measureRe
 ghost use Rattle.statement.specs.Postconditions.{CheckPost, CountPost, MeasurePost, PickPost, PlacePost, CheapestPost, ClosestPost};
 ghost use Rattle.statement.specs.Postconditions.{CoverPost, EitherPost, BothPost, OnlyPost, WithPost, WithoutPost, JoinPost};
 ghost use Rattle.statement.specs.Examples.{allItems};
+ghost use Rattle.bids.specs.Format.{version1, version2};
 ghost use Rattle.bids.specs.Contract.{readReply, ReadPost};
-ghost use Rattle.capi.specs.Structs.{soundnessOf, engineReport, reportOf, countedOf, measuredOf, pickedOf, placedOf, pricedOf, comparedOf, readingOf};
+ghost use Rattle.conversion.specs.Contract.{convertReply, ConvertPost};
+ghost use Rattle.capi.specs.Structs.{soundnessOf, engineReport, reportOf, countedOf, measuredOf, pickedOf, placedOf, pricedOf, comparedOf, readingOf, conversionOf};
 ghost use Rattle.capi.specs.Structs.{BlankReport, BlankNumber, BlankPick, BlankTimetable, BlankComparison, BlankBids, Says, Shows};
 use bids::Reading;
+use conversion::Conversion;
 use statement::Compared;
 use statement::Counted;
 use statement::Measured;
@@ -31,7 +34,7 @@ pub struct Report {
     pub made: u32,
 }
 
-// What count, measure and place return.
+// What count, measure, place and the converters of bids files return.
 #[repr(C)]
 pub struct Number {
     pub refusal: u32,
@@ -54,13 +57,14 @@ pub struct Comparison {
     pub packages: u64,
 }
 
-// What the reader of bids files returns: S, T and N.
+// What the readers of bids files return: S, T, N and the optional items.
 #[repr(C)]
 pub struct Bids {
     pub refusal: u32,
     pub schools: u32,
     pub slots: u32,
     pub packages: u64,
+    pub optional: [u64; 3],
 }
 
 // The border: no enum crosses it.
@@ -214,17 +218,36 @@ fn reading(b: Reading) -> Bids
             schools,
             slots,
             packages,
+            optional,
         } => Bids {
             refusal: 0,
             schools,
             slots,
             packages: packages as u64,
+            optional: [optional.w0, optional.w1, optional.w2],
         },
         Reading::Refused(n) => Bids {
             refusal: n as u32,
             schools: 0,
             slots: 0,
             packages: 0,
+            optional: [0, 0, 0],
+        },
+    }
+}
+
+fn converted(c: Conversion) -> Number
+    ensures { λ r. ⌜ Says (convertReply c) (convertReply (conversionOf r)) ⌝ }
+    ensures { λ r. ⌜ BlankNumber r ⌝ }
+{
+    match c {
+        Conversion::Written(n) => Number {
+            refusal: 0,
+            value: n as u64,
+        },
+        Conversion::Refused(n) => Number {
+            refusal: n as u32,
+            value: 0,
         },
     }
 }
@@ -518,12 +541,41 @@ pub extern "C" fn mogedorn_all_items(m: u32, d: &mut [u64; 3])
     itemset::write(d, 0, items);
 }
 
-// Reads a bids file: the packages' item sets, three words each, and costs to the start of the buffers.
+// Reads a bids file of version 1: the packages' item sets, three words each, and costs to the start of the buffers.
 #[no_mangle]
 pub extern "C" fn mogedorn_read_bids(file: &[u8], packages: &mut [u64], costs: &mut [u16]) -> Bids
-    ensures { λ r. ⌜ ReadPost (now (file .entry)) (readingOf r) (now (packages .entry)) (now (packages .exit)) (now (costs .entry)) (now (costs .exit)) ⌝ }
+    ensures { λ r. ⌜ ReadPost version1 (now (file .entry)) (readingOf r) (now (packages .entry)) (now (packages .exit)) (now (costs .entry)) (now (costs .exit)) ⌝ }
     ensures { λ r. ⌜ BlankBids r ⌝ }
 {
     let b = bids::read(file, packages, costs);
     reading(b)
+}
+
+// The same of version 2.
+#[no_mangle]
+pub extern "C" fn mogedorn_read_bids2(file: &[u8], packages: &mut [u64], costs: &mut [u16]) -> Bids
+    ensures { λ r. ⌜ ReadPost version2 (now (file .entry)) (readingOf r) (now (packages .entry)) (now (packages .exit)) (now (costs .entry)) (now (costs .exit)) ⌝ }
+    ensures { λ r. ⌜ BlankBids r ⌝ }
+{
+    let b = bids::read2(file, packages, costs);
+    reading(b)
+}
+
+// Writes the version 2 file that says what a version 1 file does to the start of a buffer; and the other way.
+#[no_mangle]
+pub extern "C" fn mogedorn_convert_up(file: &[u8], out: &mut [u8]) -> Number
+    ensures { λ r. ⌜ ConvertPost version1 version2 (now (file .entry)) (conversionOf r) (now (out .entry)) (now (out .exit)) ⌝ }
+    ensures { λ r. ⌜ BlankNumber r ⌝ }
+{
+    let c = conversion::up(file, out);
+    converted(c)
+}
+
+#[no_mangle]
+pub extern "C" fn mogedorn_convert_down(file: &[u8], out: &mut [u8]) -> Number
+    ensures { λ r. ⌜ ConvertPost version2 version1 (now (file .entry)) (conversionOf r) (now (out .entry)) (now (out .exit)) ⌝ }
+    ensures { λ r. ⌜ BlankNumber r ⌝ }
+{
+    let c = conversion::down(file, out);
+    converted(c)
 }
