@@ -1,7 +1,7 @@
 # What a caller from C needs. The gate is .ci/run; nothing here is part of it. `rt`, a C compiler, for test-c one of C++ and, for test-rust
 # and bench, cargo are on the path.
 PREFIX ?= /usr/local
-VERSION = 0.6.0
+VERSION = 0.7.0
 CC ?= cc
 CXX ?= c++
 CFLAGS ?= -O2

@@ -87,15 +87,19 @@ enum {
     MOGEDORN_PAST_THE_END = 12,    /* pick or measure of k at or above the count */
     MOGEDORN_NOTHING = 13,         /* cheapest or closest of 0 */
     MOGEDORN_ABSENT = 14,          /* place of a timetable not in the answer */
-    MOGEDORN_SHORT_PAGE = 15,      /* the timetable is longer than the page; of read_bids: room for fewer than N packages or costs */
+    MOGEDORN_SHORT_PAGE = 15,      /* the timetable is longer than the page; of read_bids and read_bids2: room for fewer than N packages or costs; of
+                                      convert_up and convert_down: the file is longer than the buffer */
     MOGEDORN_BIDS_CUT = 20,        /* under 13 bytes, or not the length that its header asks */
     MOGEDORN_BIDS_MARK = 21,       /* not PSB */
-    MOGEDORN_BIDS_VERSION = 22,    /* not 1 */
+    MOGEDORN_BIDS_VERSION = 22,    /* another version than the call's */
     MOGEDORN_BIDS_CHECK = 23,      /* the check differs */
     MOGEDORN_BIDS_SIZE = 24,       /* S + T above 64 or N above 512 */
     MOGEDORN_BIDS_SCHOOL_TWICE = 25,
     MOGEDORN_BIDS_STRAY = 26,      /* a school that is not listed, or a slot of T or above */
-    MOGEDORN_BIDS_PACKAGE_TWICE = 27
+    MOGEDORN_BIDS_PACKAGE_TWICE = 27,
+    MOGEDORN_BIDS_STRAY_OPTIONAL = 31, /* an optional slot of T or above */
+    MOGEDORN_BIDS_WIDE_SITE = 32,      /* convert_down: a listed school's site above 255 */
+    MOGEDORN_BIDS_OPTIONAL_SLOTS = 33  /* convert_down: a slot is optional */
 };
 
 /* In each struct a refusal of 0 means that the call answered; after a refusal all other fields are 0. */
@@ -108,7 +112,7 @@ typedef struct {
     uint32_t made;   /* nodes made, the growth of word 0: exactly those below the answer, its own included, that the table did not have */
 } mogedorn_report;
 
-/* Of count, measure and place. */
+/* Of count, measure, place, convert_up and convert_down. */
 typedef struct {
     uint32_t refusal;
     uint64_t value;
@@ -128,12 +132,13 @@ typedef struct {
     uint64_t packages;   /* how many packages were written to the page */
 } mogedorn_comparison;
 
-/* Of read_bids. */
+/* Of read_bids and read_bids2. */
 typedef struct {
     uint32_t refusal;
-    uint32_t schools;  /* S: school j is item j */
-    uint32_t slots;    /* T: slot t is item S + t */
-    uint64_t packages; /* N */
+    uint32_t schools;     /* S: school j is item j */
+    uint32_t slots;       /* T: slot t is item S + t */
+    uint64_t packages;    /* N */
+    uint64_t optional[3]; /* the optional items, as a week takes them; none of a version 1 file */
 } mogedorn_bids;
 
 /* Whether the table is sound: 0, or the refusal 1, 2, 29, 30, 34 or 4. Stack: 266 KB. */
@@ -218,10 +223,23 @@ mogedorn_comparison mogedorn_closest(uint32_t m, const uint64_t *packages, size_
                                      size_t order_len, const uint32_t *table, size_t table_len, uint32_t answer, const uint16_t *list, size_t list_len,
                                      uint64_t *work, size_t work_len, uint16_t *page, size_t page_len);
 
-/* Reads a bids file: its N packages as item sets, three words each, and their costs, to the start of the buffers, whose rest is unchanged. The buffers have at
-   least 3 N words and N costs (15). M is then schools + slots, at most 64. The file names no optional items and no order. Refusals 20 to 27, and 15.
-   Stack: 1 KB. */
+/* Bids files have two versions; docs/FORMAT.md has both, byte by byte. The version of a file is the number in its bytes 3 and 4, the low byte first. Each call
+   below takes files of one version and refuses all others (22). */
+
+/* Reads a bids file of version 1, or of version 2: its N packages as item sets, three words each, and their costs, to the start of the buffers, whose rest is
+   unchanged. The buffers have at least 3 N words and N costs (15). Then m is schools + slots, at most 64, and week.optional is filled from bids.optional: only
+   a file of version 2 can name optional slots, and none names an order. Refusals, in the order of their tests: 20 under 13 bytes, 21, 22, 24, 20 another
+   length than the header asks, 23, 31 (version 2), 25, 26, 27, 15. Stack: 1 KB. */
 mogedorn_bids mogedorn_read_bids(const uint8_t *file, size_t file_len, uint64_t *packages, size_t packages_len, uint16_t *costs, size_t costs_len);
+mogedorn_bids mogedorn_read_bids2(const uint8_t *file, size_t file_len, uint64_t *packages, size_t packages_len, uint16_t *costs, size_t costs_len);
+
+/* Writes a bids file in the other version, up from 1 to 2 or down from 2 to 1, to the start of out, whose rest is unchanged: the same slots, schools, packages
+   and costs in their order, an empty optional set going up, and a check computed anew. The value is the length written, 21 + 3 S + 13 N up and
+   13 + 2 S + 12 N down. A file goes down only where every school listed, also one without a package, has a site of at most 255 (32), and no slot is
+   optional (33). There and back restores every byte. Refusals: those of the reader of the file's version but 15, in its order; then, going down, 32 and 33;
+   last 15, where out is shorter than the file to write. Stack: 1 KB. */
+mogedorn_number mogedorn_convert_up(const uint8_t *file, size_t file_len, uint8_t *out, size_t out_len);
+mogedorn_number mogedorn_convert_down(const uint8_t *file, size_t file_len, uint8_t *out, size_t out_len);
 
 /* What every call on a table is lent besides it, in one struct. Later versions may add fields, and a field of zeros will mean what held before there was one. So
    start from zeros and name the fields that you set: mogedorn_week week = {.m = .., .packages = .., .packages_len = ..}; in C++ before C++20 mogedorn_week
@@ -230,7 +248,7 @@ typedef struct {
     uint32_t m;
     const uint64_t *packages; /* null: no packages, whatever packages_len says */
     size_t packages_len;
-    uint64_t optional[3];     /* all zeros: no item is optional */
+    uint64_t optional[3];     /* all zeros: no item is optional; from a bids file: the field optional of mogedorn_bids */
     const uint8_t *order;     /* null: 0 .. m - 1, whatever order_len says */
     size_t order_len;
 } mogedorn_week;
