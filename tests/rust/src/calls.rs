@@ -26,20 +26,38 @@ pub struct Tally {
     pub closest: Outcomes,
     pub kept: u64,
     pub tied: u64,
+    /// Those of the calls on bids files, in the order of bids::CALLS; how many weeks read were covered, and how many of these had optional slots and a timetable.
+    pub files: [Outcomes; 4],
+    pub covered: u64,
+    pub open: u64,
 }
 
 impl Tally {
-    pub const NONE: Tally = Tally { calls: 0, outcomes: NO_OUTCOME, joins: NO_OUTCOME, joined: 0, closest: NO_OUTCOME, kept: 0, tied: 0 };
+    pub const NONE: Tally = Tally {
+        calls: 0,
+        outcomes: NO_OUTCOME,
+        joins: NO_OUTCOME,
+        joined: 0,
+        closest: NO_OUTCOME,
+        kept: 0,
+        tied: 0,
+        files: [NO_OUTCOME; 4],
+        covered: 0,
+        open: 0,
+    };
 
     pub fn add(&mut self, more: &Tally) {
         let add = |all: &mut Outcomes, more: &Outcomes| all.iter_mut().zip(more).for_each(|(a, b)| *a += b);
         add(&mut self.outcomes, &more.outcomes);
         add(&mut self.joins, &more.joins);
         add(&mut self.closest, &more.closest);
+        self.files.iter_mut().zip(&more.files).for_each(|(all, more)| add(all, more));
         self.calls += more.calls;
         self.joined += more.joined;
         self.kept += more.kept;
         self.tied += more.tied;
+        self.covered += more.covered;
+        self.open += more.open;
     }
 }
 

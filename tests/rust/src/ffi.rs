@@ -39,6 +39,7 @@ pub struct Bids {
     pub schools: u32,
     pub slots: u32,
     pub packages: u64,
+    pub optional: [u64; 3],
 }
 
 /// What every call on a table is lent besides it.
@@ -70,6 +71,8 @@ impl<'a> Week<'a> {
     }
 }
 
+type ReadBids = unsafe extern "C" fn(*const u8, usize, *mut u64, usize, *mut u16, usize) -> Bids;
+type Convert = unsafe extern "C" fn(*const u8, usize, *mut u8, usize) -> Number;
 type Combine = unsafe extern "C" fn(u32, *const u64, usize, *const u64, *const u8, usize, *mut u32, usize, u32, u32, *mut u64, usize) -> Report;
 
 /// Entries that take a week: the arguments that it stands for come first, then their own.
@@ -101,6 +104,9 @@ entries! {
 extern "C" {
     fn mogedorn_all_items(m: u32, d: *mut u64);
     fn mogedorn_read_bids(f: *const u8, fnn: usize, p: *mut u64, pn: usize, c: *mut u16, cn: usize) -> Bids;
+    fn mogedorn_read_bids2(f: *const u8, fnn: usize, p: *mut u64, pn: usize, c: *mut u16, cn: usize) -> Bids;
+    fn mogedorn_convert_up(f: *const u8, fnn: usize, o: *mut u8, on: usize) -> Number;
+    fn mogedorn_convert_down(f: *const u8, fnn: usize, o: *mut u8, on: usize) -> Number;
 }
 
 /// A call of an entry, with the arguments that the week stands for.
@@ -164,6 +170,14 @@ pub fn all_items(m: u32) -> [u64; 3] {
     d
 }
 
-pub fn read_bids(file: &[u8], packages: &mut [u64], costs: &mut [u16]) -> Bids {
-    unsafe { mogedorn_read_bids(file.as_ptr(), file.len(), packages.as_mut_ptr(), packages.len(), costs.as_mut_ptr(), costs.len()) }
+/// The reader of version 1 or 2.
+pub fn read_bids(version: u16, file: &[u8], packages: &mut [u64], costs: &mut [u16]) -> Bids {
+    let f: ReadBids = [mogedorn_read_bids, mogedorn_read_bids2][version as usize - 1];
+    unsafe { f(file.as_ptr(), file.len(), packages.as_mut_ptr(), packages.len(), costs.as_mut_ptr(), costs.len()) }
+}
+
+/// Up from version 1, or down from version 2.
+pub fn convert(from: u16, file: &[u8], out: &mut [u8]) -> Number {
+    let f: Convert = [mogedorn_convert_up, mogedorn_convert_down][from as usize - 1];
+    unsafe { f(file.as_ptr(), file.len(), out.as_mut_ptr(), out.len()) }
 }

@@ -1,11 +1,12 @@
 //! The library, through its C interface, against documents 01 and 02 by their definitions (model.rs): random histories with refusals among them, damaged tables,
-//! damaged bids files. `differential [SEED [CALLS]]`; a difference stops it and prints the seed of the history, which as SEED shows it at once.
+//! damaged bids files of both versions. `differential [SEED [CALLS]]`; a difference stops it and prints the seed of the history, which as SEED shows it at once.
 
 mod bids;
 mod calls;
 mod closest;
 mod edge;
 mod ffi;
+mod files;
 mod join;
 mod model;
 mod optional;
@@ -54,6 +55,13 @@ fn edges() {
     closest::sixty_four_bits();
     closest::refusal_order();
     closest::last_number();
+    bids::example();
+    bids::each_bit();
+    bids::each_length();
+    bids::limits();
+    bids::longest();
+    bids::wide_sites();
+    bids::refusal_order();
 }
 
 /// Each number that was said, and how often.
@@ -67,21 +75,17 @@ fn main() {
     let first = args.next().unwrap_or(1);
     let most = args.next().unwrap_or(120_000);
     edges();
-    let (mut all, mut files, mut seed) = (Tally::NONE, 0, first);
+    let (mut all, mut seed) = (Tally::NONE, first);
     while all.calls < most {
         let run = panic::catch_unwind(|| {
             let mut history = History::new(Rng(seed));
             history.run();
             let mut tally = history.tally;
-            let read = bids::some_files(&mut Rng(!seed), &mut tally.outcomes);
-            tally.calls += read;
-            (tally, read)
+            bids::some_files(&mut Rng(!seed), &mut tally);
+            tally
         });
         match run {
-            Ok((tally, read)) => {
-                all.add(&tally);
-                files += read;
-            }
+            Ok(tally) => all.add(&tally),
             Err(_) => {
                 eprintln!("a difference, seed {seed}");
                 std::process::exit(1);
@@ -89,8 +93,11 @@ fn main() {
         }
         seed += 1;
     }
-    println!("{} calls in {} histories, {files} of them on bids files: no difference (seeds {first} to {})", all.calls, seed - first, seed - 1);
+    let files: u64 = all.files.iter().flatten().sum();
+    println!("{} calls in {} histories, and {files} on bids files: no difference (seeds {first} to {})", all.calls, seed - first, seed - 1);
     println!("outcomes (0: answered): {}", said(&all.outcomes));
     println!("of joins: {}; {} answered for two answers above 1", said(&all.joins), all.joined);
     println!("of closest: {}; {} with the difference 0, {} the first of several as close", said(&all.closest), all.kept, all.tied);
+    bids::CALLS.iter().zip(&all.files).for_each(|(call, outcomes)| println!("of {call}: {}", said(outcomes)));
+    println!("of the files read {} weeks were covered, {} of them with optional slots and a timetable", all.covered, all.open);
 }
