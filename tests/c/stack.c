@@ -19,7 +19,7 @@ static uint8_t order[M];           /* reversed: in the plain order nothing is pe
 static uint16_t costs[N], page[N], list[N];
 static uint32_t table[1 + 3 * NODES], pairs_table[1 + 3 * NODES], apart_table[1 + 3 * NODES];
 static uint32_t all, subsets, even, odd;
-static uint8_t file[13 + 2 * 64 + 12 * 64];
+static uint8_t file[13 + 2 * 64 + 12 * 64], file2[21 + 3 * 64 + 13 * 64], older[sizeof file], newer[sizeof file2];
 static uint32_t refused;
 
 static void run(void) { current(); }
@@ -94,9 +94,12 @@ static void do_closest(void) {
     refused |= mogedorn_closest(M, packages, 3 * N, optional, order, M, table, sizeof table / 4, all, list, N, work, 4 * NODES, page, N).refusal;
 }
 static void do_read_bids(void) { refused |= mogedorn_read_bids(file, sizeof file, packages, 3 * N, costs, N).refusal; }
+static void do_read_bids2(void) { refused |= mogedorn_read_bids2(file2, sizeof file2, packages, 3 * N, costs, N).refusal; }
+static void do_convert_up(void) { refused |= mogedorn_convert_up(file, sizeof file, newer, sizeof newer).refusal; }
+static void do_convert_down(void) { refused |= mogedorn_convert_down(file2, sizeof file2, older, sizeof older).refusal; }
 
-/* A file of 64 schools with one package each. */
-static void make_file(void) {
+/* A file of 64 schools with one package each, in both versions. */
+static void make_files(void) {
     memcpy(file, "PSB\1\0\100\0\100\0", 9);
     for (int j = 0; j < 64; j++) {
         file[9 + 2 * j] = 1, file[10 + 2 * j] = (uint8_t)j;
@@ -105,6 +108,7 @@ static void make_file(void) {
     uint32_t h = 2166136261u;
     for (size_t i = 0; i + 4 < sizeof file; i++) h = (h ^ file[i]) * 16777619u;
     for (int i = 0; i < 4; i++) file[sizeof file - 4 + i] = (uint8_t)(h >> 8 * i);
+    mogedorn_convert_up(file, sizeof file, file2, sizeof file2);
 }
 
 /* Package p becomes the single item. */
@@ -117,16 +121,17 @@ int main(void) {
     mogedorn_all_items(M, everything);
     deep_table();
     deep_table_apart();
-    make_file();
+    make_files();
     static const struct { const char *name; void (*call)(void); } calls[] = {
         {"check", do_check}, {"all_items", do_all_items}, {"cover", do_cover}, {"either", do_either}, {"both", do_both}, {"only", do_only},
         {"with", do_with}, {"without", do_without}, {"join", do_join}, {"count", do_count}, {"measure", do_measure}, {"pick", do_pick},
         {"place", do_place}, {"cheapest", do_cheapest}, {"closest", do_closest}, {"read_bids", do_read_bids},
+        {"read_bids2", do_read_bids2}, {"convert_up", do_convert_up}, {"convert_down", do_convert_down},
     };
     for (size_t i = 0; i < sizeof calls / sizeof *calls; i++) {
         refused = 0;
         size_t bytes = measure(calls[i].call);
-        printf("%-10s %8zu bytes%s\n", calls[i].name, bytes, refused ? " (refused)" : "");
+        printf("%-12s %8zu bytes%s\n", calls[i].name, bytes, refused ? " (refused)" : "");
     }
     return 0;
 }
