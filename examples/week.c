@@ -1,6 +1,7 @@
 /* A week at the pool: two schools and two slots, six packages, as document 01's example has them. Builds the bids file, reads it, covers all items, and
    asks what the desk would ask; joins the two schools planned apart; then once more with a slot that may go to the public, where it looks for the timetable
-   closest to last term's, and once with the slots first. `make example` builds and runs it. */
+   closest to last term's, and once with the slots first. Last come the same bids as a file of version 2, which names the optional slot itself. `make example`
+   builds and runs it. */
 #include <stdint.h>
 #include <stdio.h>
 #include <stdlib.h>
@@ -146,6 +147,27 @@ static void slots_first(const mogedorn_week *school_week, const uint64_t everyth
     printf("an order without item 1: refused %u\n", (unsigned)mogedorn_week_check(&week, ordered_table, TABLE));
 }
 
+/* The same bids as a file of version 2, and back; then as one in which slot 1 is optional. */
+static void version2(const uint8_t *file, size_t length, const uint64_t everything[3]) {
+    uint8_t file2[256], back[256];
+    mogedorn_number up = mogedorn_convert_up(file, length, file2, sizeof file2);
+    if (up.refusal) stop("up", up.refusal);
+    mogedorn_number down = mogedorn_convert_down(file2, up.value, back, sizeof back);
+    if (down.refusal) stop("down", down.refusal);
+    int restored = down.value == length && memcmp(back, file, length) == 0;
+    printf("version 1: %u bytes, version 2: %u, restored: %s\n", (unsigned)length, (unsigned)up.value, restored ? "yes" : "no");
+    put(file2 + 9, 1 << 1, 8); /* the set of optional slots */
+    put(file2 + up.value - 4, check(file2, up.value - 4), 4);
+    bids = mogedorn_read_bids2(file2, up.value, packages, 3 * 512, costs, 512);
+    if (bids.refusal) stop("read", bids.refusal);
+    mogedorn_week week = {.m = bids.schools + bids.slots, .packages = packages, .packages_len = 3 * bids.packages};
+    memcpy(week.optional, bids.optional, sizeof week.optional);
+    /* packages, optional set and order are those of the table that open_swimming left: it has the answer */
+    list(&week, public_table, answer("cover of version 2", mogedorn_week_cover(&week, public_table, TABLE, everything, 1000000, work, WORK)));
+    printf("read as version 1: refused %u\n", (unsigned)mogedorn_read_bids(file2, up.value, packages, 3 * 512, costs, 512).refusal);
+    printf("down with an optional slot: refused %u\n", (unsigned)mogedorn_convert_down(file2, up.value, back, sizeof back).refusal);
+}
+
 int main(void) {
     uint8_t file[256];
     size_t length = make_file(file);
@@ -169,6 +191,7 @@ int main(void) {
     one_programme(&week, all);
     open_swimming(&week, everything);
     slots_first(&week, everything);
+    version2(file, length, everything);
     return 0;
 }
 
@@ -220,4 +243,13 @@ cover with the slots first: answer 7, 7 steps, 6 nodes made
   packages: 4 5
 the table of the other order: refused 4
 an order without item 1: refused 34
+version 1: 89 bytes, version 2: 105, restored: yes
+cover of version 2: answer 7, 9 steps, 0 nodes made
+  4 timetables
+  packages: 0 2
+  packages: 0 5
+  packages: 1 3
+  packages: 4 5
+read as version 1: refused 22
+down with an optional slot: refused 33
 */
