@@ -1,6 +1,6 @@
 -- What the converters promise. Assumes nothing.
 use mathlib.Core.Path.{_≡_}
-use mathlib.Core.Bool.{Bool, not}
+use mathlib.Core.Bool.{Bool, true, false, not, _&&_}
 use mathlib.Core.List.{List, [], _∷_, _++_}
 use Prim.Native.Nat.{ℕ, _+_, _-_, _*_}
 use lib.Dec.{eqb, ltb}
@@ -12,7 +12,7 @@ use Rattle.statement.specs.Replies.{Reply, refused, gives, reply}
 use Rattle.statement.specs.Postconditions.{written}
 use Rattle.bids.specs.Ranges.{some}
 use Rattle.bids.specs.Contents.{Contents, nthSchool}
-use Rattle.bids.specs.Format.{contents, refusal}
+use Rattle.bids.specs.Format.{version1, version2, version, contents, cut, refusal}
 use Rattle.bids.specs.declared.Layout.{Layout}
 use Rattle.bids.specs.declared.School.{School}
 use Rattle.conversion.specs.Writing.{fileOf}
@@ -45,6 +45,21 @@ convertRefusal from to b room =
     ((ltb room (length (fileOf to (contents from b))), 15) ∷ [])))
 
 -- ---- the converters
+
+-- whether the file says that it is of version 2; a file that is cut says nothing
+unfoldable pub says2 : List ℕ → Bool
+says2 b = not (cut b) && eqb (version b) 2
+
+-- the layout of the version that the file says it has, and the other one. Of a file that says neither version it is version 1's, whose reader refuses it
+abbrev pub choose : Bool → Layout → Layout → Layout
+choose true L M = L
+choose false L M = M
+
+abbrev pub ownLayout : List ℕ → Layout
+ownLayout b = choose (says2 b) version2 version1
+
+abbrev pub otherLayout : List ℕ → Layout
+otherLayout b = choose (says2 b) version1 version2
 
 -- the length written, or the number of the refusal
 abbrev pub convertReply : Conversion → Reply ℕ

@@ -9,7 +9,7 @@ ghost use Rattle.bids.specs.Bytes.{bytesOf};
 ghost use Rattle.bids.specs.Format.{schools, packages, schoolPlace, packagePlace, fileLength, schoolsIn, packagesIn, contents, version1, version2};
 ghost use Rattle.bids.specs.Contract.{Legible, HeaderPost, Sized};
 ghost use Rattle.conversion.specs.Writing.{headerBytes, schoolBytes, packageBytes, joined, bodyOf, fileOf};
-ghost use Rattle.conversion.specs.Contract.{wideSite, lostTests, ConvertPost, PutPost};
+ghost use Rattle.conversion.specs.Contract.{wideSite, lostTests, says2, ownLayout, otherLayout, ConvertPost, PutPost};
 use bids::Cursor;
 use bids::Header;
 use bids::Layout;
@@ -213,4 +213,25 @@ pub fn down(file: &[u8], out: &mut [u8]) -> Conversion
     ensures { λ r. ⌜ ConvertPost version2 version1 (now (file .entry)) r (now (out .entry)) (now (out .exit)) ⌝ }
 {
     convert(file, bids::version2(), bids::version1(), out)
+}
+
+// Whether the file says that it is of version 2.
+fn says_2(file: &[u8]) -> bool
+    ensures { λ r. ⌜ r ≡ says2 (now (file .entry)) ⌝ }
+{
+    if file.len() < 13 {
+        return false;
+    }
+    let h = bids::read_header(file);
+    h.version == 2
+}
+
+// From the version that the file says it has to the other one.
+pub fn turn(file: &[u8], out: &mut [u8]) -> Conversion
+    ensures { λ r. ⌜ ConvertPost (ownLayout (now (file .entry))) (otherLayout (now (file .entry))) (now (file .entry)) r (now (out .entry)) (now (out .exit)) ⌝ }
+{
+    if says_2(file) {
+        return down(file, out);
+    }
+    up(file, out)
 }
