@@ -46,7 +46,7 @@ module _ (L : Layout) where
       rw (ne-eqb (length b) (fileLength L (schools b) (packages b)) (λ q. omega arith))
 
   module _ (b : List ℕ) (m : ℕ) (p : longest L < m) (h : 13 ≤ longest L) where
-    word-same : (i : ℕ) → i < 12 → numberAt (take m b) i 2 ≡ numberAt b i 2
+    pub word-same : (i : ℕ) → i < 12 → numberAt (take m b) i 2 ≡ numberAt b i 2
     unfolding numberAt
     word-same i q = rw (getD-take m b i 0 (omega arith), getD-take m b (suc i) 0 (omega arith))
 

@@ -88,7 +88,7 @@ head-short s t n made st count =
     let e = both (field schoolsWord s) _ (field-short {n = 9} schoolsWord s (omega arith)) d in
     both (field slotsWord t) _ (field-short {n = 6} slotsWord t (omega arith)) e
 
-refused-short : (n : ℕ) → length (refusedLine n) ≤ 29
+pub refused-short : (n : ℕ) → length (refusedLine n) ≤ 29
 unfolding refusedLine
 refused-short n = line-end (field refusedWord n) (field-short {n = 8} refusedWord n (omega arith))
 

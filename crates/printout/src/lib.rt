@@ -143,7 +143,7 @@ fn put_timetable(out: &mut [u8], at: usize, k: u64, list: &[u16], costs: &[u16])
     put_text(out, to, b"\n")
 }
 
-fn put_refused(out: &mut [u8], at: usize, number: u8) -> usize
+pub fn put_refused(out: &mut [u8], at: usize, number: u8) -> usize
     ensures { λ r. ⌜ Puts (now (out .entry)) at (now (out .exit)) r (refusedLine number) ⌝ }
 {
     let to = put_field(out, at, b"refused ", number as u64);

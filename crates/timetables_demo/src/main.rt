@@ -9,6 +9,7 @@ fn refused_by_header() {
     case(b"short");
     case(b"mark");
     case(b"version");
+    case(b"version2");
     case(b"items");
     case(b"packages");
     case(b"cut");

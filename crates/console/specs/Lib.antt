@@ -1,0 +1,2 @@
+-- What the program `convert` writes (`Turned`).
+pub mod Turned
