@@ -1,15 +1,15 @@
 -- What was read at a record's place is what the lists have there. Assumes nothing.
 use mathlib.Core.Path.{_≡_, sym, ap, subst, _∙_}
-use mathlib.Core.Bool.{Bool, true, not, _&&_}
+use mathlib.Core.Bool.{Bool, true, false, not, _&&_}
 use mathlib.Core.List.{List}
 use Prim.Native.Nat.{ℕ, _+_, _*_, _^_, _<_, _≤_}
 use native.Mathlib.Omega.{arith}
-use borrow.Author.Tests.{lt-ltb, le-ltb}
+use borrow.Author.Tests.{lt-ltb, le-ltb, eq-eqb, ne-eqb}
 use lib.Dec.{eqb}
 use lib.ListN.{length}
 use Rattle.itemset.specs.Items.{belowb}
 use Rattle.bids.specs.Bytes.{byteAt}
-use Rattle.bids.specs.Contents.{nthSchool, nthPackage, schoolIn, itemsOf, strayb}
+use Rattle.bids.specs.Contents.{sameSchool, nthSchool, nthPackage, schoolIn, itemsOf, strayb}
 use Rattle.bids.specs.Format.{markb, schools, packages, schoolPlace, packagePlace, schoolAt, packageAt, schoolsIn, packagesIn}
 use Rattle.bids.specs.Contract.{FieldPost, SchoolPost, PackagePost}
 use Rattle.bids.specs.declared.Layout.{Layout}
@@ -31,6 +31,17 @@ pub mark-read : (b : List ℕ) {x y z : ℕ} {r : Bool} → x ≡ byteAt b 0 →
     → r ≡ (eqb x 80 && (eqb y 83 && eqb z 66)) → r ≡ markb b
 unfolding markb
 mark-read b e f g p = rw (e, f, g) at p
+
+-- ---- two schools, by their sites
+
+module _ (u v : School) where
+  pub other-site : (u .site ≡ v .site → ⊥) → false ≡ sameSchool u v
+  unfolding sameSchool
+  other-site f = rw (ne-eqb (u .site) (v .site) f)
+
+  pub same-site : u .site ≡ v .site → eqb (u .number) (v .number) ≡ sameSchool u v
+  unfolding sameSchool
+  same-site e = rw (eq-eqb (u .site) (v .site) e)
 
 -- ---- the records in their order
 

@@ -6,3 +6,4 @@ pub mod Between
 pub mod Conversions
 pub mod Putting
 pub mod Answers
+pub mod Examples

@@ -102,7 +102,7 @@ module _ (L : Layout) where
       append-small (bodyOf L x) _ (append-small (headerOf L x) _ (header-small _ _ _ _)
       (append-small (joined (schoolBytes L) (x .schools)) _ (joined-small (schoolBytes L) school-small (x .schools))
       (joined-small (packageBytes L) package-small (x .packages))))
-      (bytes-small 4 (fnv (bodyOf L x)))
+      (bytes-small 4 _)
 
 -- ---- places
 

@@ -7,7 +7,8 @@ use Rattle.bids.specs.Contents.{nthPackage, strayb}
 use Rattle.bids.specs.Ranges.{first}
 use lib.ListN.{length}
 use Prim.Native.Nat.{_≤_, _-_}
-use mathlib.Core.Path.{_≡_, sym, _∙_}
+use mathlib.Core.Path.{_≡_, sym, ap, _∙_}
+use Rattle.itemset.specs.Items.{belowb}
 use native.Mathlib.Omega.{arith}
 use borrow.Author.Needs.{needs}
 use Rattle.bids.proofs.stray.Statement.{statement}
@@ -66,10 +67,10 @@ returns-2 c =
     let us = schoolsIn (a .layout) (a .file .now) in
     let p = package-read (a .layout) (a .file .now) (loop .k) (counts .0) (loop .inv .1) (omega (arith, counts .1 .1)) (package-record .ensures) in
     let e = counts .0 ∙ sym (school-count (a .layout) (a .file .now)) in
+    let judged = c .before .below-word .ensures ∙ ap (belowb (package-record .result .bid .slots)) (counts .1 .0) in
     sym (some-hit _ (length (packagesIn (a .layout) (a .file .now))) (loop .k) (omega (arith, counts .1 .1, package-count (a .layout) (a .file .now)))
     (loop .inv .2)
-    (told (strayb us (slots (a .file .now))) p (sym (outside us _ _ e (school-index .ensures) (if1 .left) (rw (counts .1 .0) at
-    (c .before .below-word .ensures)))) ∙ c .if2 .taken))
+    (told (strayb us (slots (a .file .now))) p (sym (outside us _ _ e (school-index .ensures) (if1 .left) judged)) ∙ c .if2 .taken))
 
 loop-again : tie.Need-loop-again Inv-loop μ-loop
 loop-again c =
@@ -83,12 +84,12 @@ loop-again c =
     let counts = pre .counts in
     let us = schoolsIn (a .layout) (a .file .now) in
     let p = package-read (a .layout) (a .file .now) (loop .k) (counts .0) (loop .inv .1) (omega (arith, counts .1 .1)) (package-record .ensures) in
-    let e = counts .0 ∙ sym (school-count (a .layout) (a .file .now)) in (
+    let e = counts .0 ∙ sym (school-count (a .layout) (a .file .now)) in
+    let judged = below-word .ensures ∙ ap (belowb (package-record .result .bid .slots)) (counts .1 .0) in (
       omega arith,
       omega (arith, package-next (a .layout) (a .s) (loop .k), package-record .ensures .next),
       first-more _ (loop .k) (loop .inv .2)
-          (told (strayb us (slots (a .file .now))) p (sym (outside us _ _ e (school-index .ensures) (if1 .left) (rw (counts .1 .0) at
-          (below-word .ensures)))) ∙ c .before .if2 .left),
+          (told (strayb us (slots (a .file .now))) p (sym (outside us _ _ e (school-index .ensures) (if1 .left) judged)) ∙ c .before .if2 .left),
     )
 
 returns-3 : tie.Need-returns-3 Inv-loop μ-loop
