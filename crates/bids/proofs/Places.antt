@@ -9,10 +9,10 @@ use Rattle.bids.specs.Contract.{Legible}
 use Rattle.bids.specs.declared.Layout.{Layout}
 
 pub legible1 : Legible version1
-legible1 = record { header = (omega arith, omega arith); site = omega arith }
+legible1 = record { header = (omega arith, omega arith); site = (omega arith, omega arith) }
 
 pub legible2 : Legible version2
-legible2 = record { header = (omega arith, omega arith); site = omega arith }
+legible2 = record { header = (omega arith, omega arith); site = (omega arith, omega arith) }
 
 module _ (L : Layout) where
   pub school-first : schoolPlace L 0 ≡ L .header

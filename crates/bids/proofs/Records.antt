@@ -1,5 +1,5 @@
 -- What was read at a record's place is what the lists have there. Assumes nothing.
-use mathlib.Core.Path.{_≡_, sym, ap, subst, _∙_}
+use mathlib.Core.Path.{_≡_, refl, sym, ap, subst, _∙_}
 use mathlib.Core.Bool.{Bool, true, false, not, _&&_}
 use mathlib.Core.List.{List}
 use Prim.Native.Nat.{ℕ, _+_, _*_, _^_, _<_, _≤_}
@@ -9,7 +9,7 @@ use lib.Dec.{eqb}
 use lib.ListN.{length}
 use Rattle.itemset.specs.Items.{belowb}
 use Rattle.bids.specs.Bytes.{byteAt}
-use Rattle.bids.specs.Contents.{sameSchool, nthSchool, nthPackage, schoolIn, itemsOf, strayb}
+use Rattle.bids.specs.Contents.{sameSchool, samePackage, nthSchool, nthPackage, schoolIn, itemsOf, strayb}
 use Rattle.bids.specs.Format.{markb, schools, packages, schoolPlace, packagePlace, schoolAt, packageAt, schoolsIn, packagesIn}
 use Rattle.bids.specs.Contract.{FieldPost, SchoolPost, PackagePost}
 use Rattle.bids.specs.declared.Layout.{Layout}
@@ -42,6 +42,25 @@ module _ (u v : School) where
   pub same-site : u .site ≡ v .site → eqb (u .number) (v .number) ≡ sameSchool u v
   unfolding sameSchool
   same-site e = rw (eq-eqb (u .site) (v .site) e)
+
+-- ---- two packages, by their slots
+
+and-false : (b : Bool) → false ≡ (b && false)
+and-false true = refl
+and-false false = refl
+
+and-true : (b : Bool) → b ≡ (b && true)
+and-true true = refl
+and-true false = refl
+
+module _ (p q : Package) where
+  pub other-slots : (p .slots ≡ q .slots → ⊥) → false ≡ samePackage p q
+  unfolding samePackage
+  other-slots f = rw (ne-eqb (p .slots) (q .slots) f) (and-false (sameSchool (p .school) (q .school)))
+
+  pub same-slots : p .slots ≡ q .slots → sameSchool (p .school) (q .school) ≡ samePackage p q
+  unfolding samePackage
+  same-slots e = rw (eq-eqb (p .slots) (q .slots) e) (and-true (sameSchool (p .school) (q .school)))
 
 -- ---- the records in their order
 

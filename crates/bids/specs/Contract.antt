@@ -21,10 +21,10 @@ use Rattle.bids.specs.declared.Reading.the-variants.{Accepted, Refused}
 
 -- ---- the layout and the cursor
 
--- a layout whose numbers have at most 64 bits, behind N: both versions are such
+-- a layout whose set of optional slots has at most 64 bits and stands behind N, with sites of one byte or two: both versions are such
 pub record Legible (L : Layout) : Type 0 where
   pub header : (9 ≤ L .header) × (L .header ≤ 17)
-  pub site : L .site ≤ 2
+  pub site : (1 ≤ L .site) × (L .site ≤ 2)
 
 -- a number of `width` bytes at the place `at`: its value v is the one wanted, and n is the place past it
 pub record FieldPost (wanted at width v n : ℕ) : Type 0 where

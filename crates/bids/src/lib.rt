@@ -139,12 +139,24 @@ impl Cursor {
         }
     }
 
+    // A site. Where the width is known in the code the compiler makes no loop of it: the tests for doubles read each site again and again.
+    fn site(self, file: &[u8], width: usize) -> Field
+        requires { ⌜ self .at + width ≤ length (now file) ⌝ }
+        requires { ⌜ (1 ≤ width) × (width ≤ 2) ⌝ }
+        ensures { λ r. ⌜ FieldPost (numberAt (now (file .entry)) (self .at) width) (self .at) width (r .value) (r .next .at) ⌝ }
+    {
+        if width == 1 {
+            return self.number(file, 1);
+        }
+        self.number(file, 2)
+    }
+
     pub fn school_record(self, file: &[u8], layout: Layout) -> SchoolRecord
         requires { ⌜ self .at + (layout .site + 1) ≤ length (now file) ⌝ }
         requires { ⌜ Legible layout ⌝ }
         ensures { λ r. ⌜ SchoolPost layout (now (file .entry)) (self .at) r ⌝ }
     {
-        let site = self.number(file, layout.site);
+        let site = self.site(file, layout.site);
         let second = site.next;
         let number = second.byte(file);
         let next = number.next;
@@ -260,15 +272,16 @@ fn same_school(a: School, b: School) -> bool
     a.number == b.number
 }
 
+// The slots first: they differ more often.
 fn same_package(a: Package, b: Package) -> bool
     ensures { λ r. ⌜ r ≡ samePackage a b ⌝ }
 {
-    let x = a.school;
-    let y = b.school;
-    if !same_school(x, y) {
+    if a.slots != b.slots {
         return false;
     }
-    a.slots == b.slots
+    let x = a.school;
+    let y = b.school;
+    same_school(x, y)
 }
 
 // Which of the first n schools it is, n where none of them is.

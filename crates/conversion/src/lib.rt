@@ -22,7 +22,7 @@ pub enum Conversion {
     Refused(u8),
 }
 
-// PutPost the lowest `width` bytes of a number, the lowest first, and returns the place past them.
+// Puts the lowest `width` bytes of a number, the lowest first, and returns the place past them.
 fn put(out: &mut [u8], at: usize, v: u64, width: usize) -> usize
     requires { ⌜ at + width ≤ length (now out) ⌝ }
     ensures { λ r. ⌜ PutPost (now (out .entry)) at (bytesOf width v) (now (out .exit)) r ⌝ }
@@ -69,7 +69,7 @@ fn put_package(out: &mut [u8], at: usize, layout: Layout, bid: Package) -> usize
     put(out, after_slots, bid.cost, 2)
 }
 
-// PutPost the records of the file's s schools in the other layout.
+// Puts the records of the file's s schools in the other layout.
 fn put_schools(file: &[u8], from: Layout, to: Layout, s: usize, out: &mut [u8], at: usize) -> usize
     requires { ⌜ (schoolPlace from (schools (now file)) ≤ length (now file)) × (s ≡ schools (now file)) ⌝ }
     requires { ⌜ at + (to .site + 1) * s ≤ length (now out) ⌝ }
@@ -89,7 +89,7 @@ fn put_schools(file: &[u8], from: Layout, to: Layout, s: usize, out: &mut [u8], 
     next
 }
 
-// PutPost the records of the file's n packages in the other layout.
+// Puts the records of the file's n packages in the other layout.
 fn put_packages(
     file: &[u8],
     from: Layout,
@@ -117,7 +117,7 @@ fn put_packages(
     next
 }
 
-// PutPost all that stands before the check, and returns the place past it.
+// Puts all that stands before the check, and returns the place past it.
 fn put_body(file: &[u8], from: Layout, to: Layout, h: Header, out: &mut [u8]) -> usize
     requires { ⌜ HeaderPost (now file) h × Sized from (now file) (h .schools) (h .slots) (h .packages) ⌝ }
     requires { ⌜ (fileLength to (h .schools) (h .packages) ≤ length (now out)) × Legible to ⌝ }

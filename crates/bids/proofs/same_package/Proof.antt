@@ -1,17 +1,17 @@
-use borrow.Author.Tests.{not-true, not-false}
-use mathlib.Core.Path.{sym, _∙_}
+use mathlib.Core.Path.{_∙_}
+use Rattle.bids.proofs.Records.{other-slots, same-slots}
 use borrow.Author.Needs.{needs}
-use Rattle.bids.specs.Contents.{samePackage}
 use Rattle.bids.proofs.same_package.Statement.{statement}
 use Rattle.bids.proofs.same_package.Tie as tie
 
 returns : tie.Need-returns
-unfolding samePackage
-returns c = rw (sym (c .before .same-school .ensures) ∙ not-true _ (c .if1 .taken))
+returns c = other-slots (c .before .before .before .args .a) (c .before .before .before .args .b) (c .if1 .taken)
 
 returns-2 : tie.Need-returns-2
-unfolding samePackage
-returns-2 c = rw (sym (c .before .before .before .same-school .ensures) ∙ not-false _ (c .before .before .if1 .left))
+returns-2 c =
+    let args = c .before .before .before .before .before .before .args in
+    let if1 = c .before .before .before .if1 in
+    c .same-school .ensures ∙ same-slots (args .a) (args .b) (if1 .left)
 
 pub same-package-spec : {M : Type 1} → statement M
-same-package-spec = tie.close (tie.spec (λ c κs. search needs) returns returns-2)
+same-package-spec = tie.close (tie.spec returns (λ c κs. search needs) returns-2)
