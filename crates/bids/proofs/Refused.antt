@@ -63,7 +63,7 @@ module _ (L : Layout) (b : List ℕ) where
       let f = or-neither (ltb 64 (schools b + slots b)) (ltb 512 (packages b)) e in
       (ltb-false 64 (schools b + slots b) (f .0), ltb-false 512 (packages b) (f .1))
 
-  whole-length : wrongLength L b ≡ false → length b ≡ fileLength L (schools b) (packages b)
+  pub whole-length : wrongLength L b ≡ false → length b ≡ fileLength L (schools b) (packages b)
   unfolding wrongLength
   whole-length e = eqb-true (length b) (fileLength L (schools b) (packages b)) (not-false (eqb (length b) (fileLength L (schools b) (packages b))) e)
 

@@ -1,5 +1,6 @@
 // The reader of bids files of both versions. It stands above the engine and knows its contracts only. A cursor is a place in the file; its methods return
 // what stands there and the place past it. The tests for doubles compare each record with those before it: at most 64 schools and 512 packages.
+// Users call `read` and `read2`; the other public functions are for the crate `conversion`, which reads files as these do.
 ghost use mathlib.Core.Path.{_≡_};
 ghost use mathlib.Core.Bool.{_&&_};
 ghost use Prim.Native.Nat.{_+_, _*_, _%_, _^_, _<_, _≤_};
@@ -483,7 +484,7 @@ pub fn refusal(file: &[u8], layout: Layout) -> u8
     )
 }
 
-// A set of slots, above s schools: one word, since S + T is at most 64.
+// A set of slots, above s schools: one word, since S + T is at most 64. With 64 schools there are no slots, and no shift by 64.
 fn shifted(slots: u64, s: usize) -> u64
     requires { ⌜ s ≤ 64 ⌝ }
     requires { ⌜ slots * 2 ^ s < 2 ^ 64 ⌝ }

@@ -15,20 +15,21 @@ use Rattle.statement.specs.Refusals.{firstOf}
 use Rattle.statement.specs.Replies.{refused, gives, reply}
 use Rattle.statement.specs.Postconditions.{written}
 use Rattle.statement.proofs.FirstOf.{pass, hit, none, passed}
+use Rattle.statement.proofs.TestLaws.{was-given}
 use Rattle.bids.specs.Ranges.{first}
 use Rattle.bids.specs.Contents.{Contents, nthSchool, nthPackage, sameSchool, schoolIn}
-use Rattle.bids.specs.Format.{optionalSlots, schoolsIn, fileLength, contents, contentTests, refusal}
+use Rattle.bids.specs.Format.{optionalSlots, schoolsIn, fileLength, contents, cut, contentTests, refusal}
 use Rattle.bids.specs.Format as F
 use Rattle.bids.specs.Contract.{Legible}
 use Rattle.bids.specs.declared.Layout.{Layout}
 use Rattle.bids.specs.declared.School.{School}
-use Rattle.bids.proofs.Accepted.{accepted, none-stray}
+use Rattle.bids.proofs.Accepted.{Accepted, accepted, none-stray}
 use Rattle.bids.proofs.Fit.{kept}
 use Rattle.bids.proofs.Laws.{first-holds, none-some, all-none}
 use Rattle.bids.proofs.Numbers.{Bytes, pow-bytes}
 use Rattle.bids.proofs.Records.{school-count, package-count}
 use Rattle.conversion.specs.Writing.{fileOf}
-use Rattle.conversion.specs.Contract.{wideSite, optionalPresent, convertRefusal, convertReply, ConvertPost}
+use Rattle.conversion.specs.Contract.{wideSite, optionalPresent, convertRefusal, says2, convertReply, ConvertPost}
 use Rattle.conversion.specs.declared.Conversion.{Conversion}
 use Rattle.conversion.proofs.Written.{length-file, file-small}
 use Rattle.conversion.proofs.Restored.{Fits, fits, contents-written, written-accepted, restored}
@@ -175,6 +176,16 @@ module _ {from to : Layout} {b : List ℕ} (g : Given from to b) where
           rw length-written at (ltb-false room _ (r .0)),
         )
 
+-- what is converted was accepted
+pub was-accepted : (from to : Layout) (b : List ℕ) (room : ℕ) → convertRefusal from to b room ≡ 0 → refusal from b ≡ 0
+unfolding convertRefusal
+was-accepted from to b room e = by-test (eqb (refusal from b) 0) (eqb-true (refusal from b) 0) (λ f. sym (hit (refusal from b) _ (ap not f)) ∙ e)
+
+-- an accepted file says the version of its layout
+pub says-own : {L : Layout} {b : List ℕ} → Accepted L b → says2 b ≡ eqb (L .version) 2
+unfolding says2 cut
+says-own {L} {b} a = rw (le-ltb (length b) 13 (a .uncut), a .version)
+
 -- ---- a call
 
 -- r says that n bytes were written: they are the file of the layout L that says x, which is accepted, and the rest of the buffer is unchanged
@@ -193,6 +204,11 @@ refusal-leaves {from} {to} {b} {r} {out} {out′} post e = go (convertRefusal fr
     go : (k : ℕ) → convertReply r ≡ reply k (length (fileOf to (contents from b))) → out′ ≡ written k (fileOf to (contents from b)) out → out′ ≡ out
     go zero p q = let z : _≡_ {A = ℕ} 0 1 = cc in absurd (omega arith)
     go (suc k) p q = q
+
+-- a call that answers converts, and the answer is the length of the file
+pub call-answers : {from to : Layout} {b : List ℕ} {r : Conversion} {out out′ : List ℕ} {n : ℕ} → ConvertPost from to b r out out′
+    → convertReply r ≡ gives n → (convertRefusal from to b (length out) ≡ 0) × (n ≡ length (fileOf to (contents from b)))
+call-answers {from} {to} {b} {out} {n} post e = was-given n (convertRefusal from to b (length out)) _ (sym e ∙ post .answer)
 
 module _ {from to : Layout} {b : List ℕ} (g : Given from to b) {r : Conversion} {out out′ : List ℕ} (post : ConvertPost from to b r out out′)
     (e : convertRefusal from to b (length out) ≡ 0) where

@@ -5,7 +5,7 @@ use Prim.Native.Nat.{ℕ, zero, suc, _+_, _-_, _*_, _<_, _≤_}
 use native.Mathlib.Nat.{zero-add, zero-lt-suc, mul-zero, mul-suc}
 use native.Mathlib.Omega.{arith}
 use lib.ListN.{length, getD, length-append}
-use Rattle.bids.specs.Bytes.{bytesOf, fnv}
+use Rattle.bids.specs.Bytes.{bytesOf}
 use Rattle.bids.specs.Contents.{Contents, nthSchool, nthPackage}
 use Rattle.bids.specs.Format.{schoolPlace, packagePlace, fileLength}
 use Rattle.bids.specs.declared.Layout.{Layout}

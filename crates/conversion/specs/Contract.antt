@@ -50,11 +50,12 @@ convertRefusal from to b room =
 unfoldable pub says2 : List ℕ → Bool
 says2 b = not (cut b) && eqb (version b) 2
 
--- the layout of the version that the file says it has, and the other one. Of a file that says neither version it is version 1's, whose reader refuses it
+-- the first layout where the test holds, otherwise the second
 abbrev pub choose : Bool → Layout → Layout → Layout
 choose true L M = L
 choose false L M = M
 
+-- the layout of the version that the file says it has, and the other one. Of a file that says neither version it is version 1's, whose reader refuses it
 abbrev pub ownLayout : List ℕ → Layout
 ownLayout b = choose (says2 b) version2 version1
 

@@ -163,8 +163,8 @@ fn wide_site(file: &[u8], from: Layout, to: Layout, s: usize) -> bool
     false
 }
 
-// The file's refusal by the other layout, 32 or 33; 0 where it says all that the file does.
-fn lost(file: &[u8], from: Layout, to: Layout, s: usize) -> u8
+// The refusal of a file for which the other layout has no room, 32 or 33; 0 where it has.
+fn narrow_refusal(file: &[u8], from: Layout, to: Layout, s: usize) -> u8
     requires { ⌜ (schoolPlace from (schools (now file)) ≤ length (now file)) × (s ≡ schools (now file)) ⌝ }
     requires { ⌜ Legible from × Legible to ⌝ }
     ensures { λ r. ⌜ r ≡ firstOf (lostTests to (contents from (now (file .entry)))) ⌝ }
@@ -189,9 +189,9 @@ fn convert(file: &[u8], from: Layout, to: Layout, out: &mut [u8]) -> Conversion
         return Conversion::Refused(why);
     }
     let h = bids::read_header(file);
-    let without = lost(file, from, to, h.schools as usize);
-    if without != 0 {
-        return Conversion::Refused(without);
+    let narrow = narrow_refusal(file, from, to, h.schools as usize);
+    if narrow != 0 {
+        return Conversion::Refused(narrow);
     }
     let length = bids::file_length(to, h.schools, h.packages);
     if (out.len() as u64) < length {

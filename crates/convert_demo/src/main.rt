@@ -109,6 +109,7 @@ fn turned(file: &[u8]) {
     let mut out = [9u8; 256];
     let n = written(conversion::turn(file, &mut out));
     if n == 0 {
+        print_test(unchanged(&out), b", buffer unchanged", b", buffer changed");
         return;
     }
     print_bytes(&out[0..n]);
@@ -148,7 +149,17 @@ fn converted() {
     case(b"empty2");
 }
 
-fn refused_by_reader() {
+fn refused_as_version_1() {
+    case(b"items1");
+    case(b"cut1");
+    case(b"check1");
+    case(b"school1");
+    case(b"site1");
+    case(b"slot1");
+    case(b"twice1");
+}
+
+fn refused_as_version_2() {
     case(b"short");
     case(b"mark");
     case(b"version3");
@@ -172,8 +183,22 @@ fn refused_by_converter() {
     case(b"wide_and_optional");
 }
 
+// What the program itself writes for a file of each kind: the other file byte for byte, or its line.
+fn program() {
+    console::convert(os::open_read(b"example1"));
+    console::convert(os::open_read(b"example2"));
+    console::convert(os::open_read(b"short"));
+    console::convert(os::open_read(b"check1"));
+    console::convert(os::open_read(b"version3"));
+    console::convert(os::open_read(b"stray_optional"));
+    console::convert(os::open_read(b"wide"));
+    console::convert(os::open_read(b"optional"));
+}
+
 fn main() {
     converted();
-    refused_by_reader();
+    refused_as_version_1();
+    refused_as_version_2();
     refused_by_converter();
+    program();
 }

@@ -55,10 +55,13 @@ solved s t Q C =
 unfoldable pub printed : List ℕ → List ℕ
 printed b = unless (refusal version1 b) (solved (schools b) (slots b) (problemIn (contents version1 b)) (costsOf (contents version1 b)))
 
--- what a program may print that has read n bytes of a file into its buffer, as many as the file has and no more than the buffer holds: the text for
+-- what a program may write that has read n bytes of a file into its buffer, as many as the file has and no more than the buffer holds: what f gives for
 -- every file that begins so
+abbrev pub WrittenFor : (f : List ℕ → List ℕ) (buffer : List ℕ) (n : ℕ) (text : List ℕ) → Type 0
+WrittenFor f buffer n text = (b : List ℕ) → take (length buffer) b ≡ take n buffer → text ≡ f b
+
 abbrev pub PrintedFor : (buffer : List ℕ) (n : ℕ) (text : List ℕ) → Type 0
-PrintedFor buffer n text = (b : List ℕ) → take (length buffer) b ≡ take n buffer → text ≡ printed b
+PrintedFor buffer n text = WrittenFor printed buffer n text
 
 -- ---- what the steps of the program know
 

@@ -17,8 +17,8 @@ returns c = convert-refused (by-file _ _ _ _ (c .before .refusal .ensures) (c .i
 read-header-requires : tie.Need-read-header-requires
 read-header-requires c κs = accepted (sym (c .before .refusal .ensures) ∙ c .if1 .left) .uncut
 
-lost-requires : tie.Need-lost-requires
-lost-requires c κs =
+narrow-refusal-requires : tie.Need-narrow-refusal-requires
+narrow-refusal-requires c κs =
     let here = c .before in let start = here .before .before .before .before in
     let a = start .args in
     let z = sym (here .before .refusal .ensures) ∙ here .if1 .left in
@@ -28,13 +28,13 @@ lost-requires c κs =
 returns-2 : tie.Need-returns-2
 returns-2 c =
     let z = sym (c .before .before .before .before .refusal .ensures) ∙ c .before .before .before .if1 .left in
-    convert-refused (by-lost _ _ _ _ z (c .before .lost .ensures) (c .if2 .taken)) (c .if2 .taken)
+    convert-refused (by-lost _ _ _ _ z (c .before .narrow-refusal .ensures) (c .if2 .taken)) (c .if2 .taken)
 
 returns-3 : tie.Need-returns-3
 returns-3 c =
     let here = c .before .before .before in let then = here .before in let start = then .before .before .before .before .before in
     let z = sym (then .before .before .refusal .ensures) ∙ then .before .if1 .left in
-    let y = sym (here .lost .ensures) ∙ c .before .before .if2 .left in
+    let y = sym (here .narrow-refusal .ensures) ∙ c .before .before .if2 .left in
     let long = file-long (start .args .from) (start .args .to) (then .read-header .ensures) (start .pre .1) in
     convert-refused (too-long _ _ _ _ z y (omega (arith, long, c .before .file-length .ensures, c .if3 .taken))) (λ z. omega arith)
 
@@ -54,7 +54,7 @@ returns-4 c =
     let start = then .before .before .before .before .before in
     let a = start .args in
     let z = sym (then .before .before .refusal .ensures) ∙ then .before .if1 .left in
-    let y = sym (here .before .before .before .lost .ensures) ∙ here .before .before .if2 .left in
+    let y = sym (here .before .before .before .narrow-refusal .ensures) ∙ here .before .before .if2 .left in
     let n = here .before .file-length .ensures in
     let long = file-long (a .from) (a .to) (then .read-header .ensures) (start .pre .1) in
     let e = converted (a .from) (a .to) (a .file .now) (length (a .out .now)) z y (omega (arith, long, n, here .if3 .left)) in
@@ -66,5 +66,5 @@ returns-4 c =
 pub convert-spec : {M : Type 1} → statement M
 convert-spec =
     tie.close
-    (tie.spec (λ c κs. search needs) returns read-header-requires lost-requires returns-2 (λ c κs. search needs) returns-3 write-requires
+    (tie.spec (λ c κs. search needs) returns read-header-requires narrow-refusal-requires returns-2 (λ c κs. search needs) returns-3 write-requires
     (λ c. search needs) returns-4)

@@ -9,8 +9,8 @@ use Rattle.bids.proofs.Records.{told}
 use Rattle.bids.proofs.Places.{header-before}
 use Rattle.conversion.specs.Contract.{optionalPresent}
 use borrow.Author.Needs.{needs}
-use Rattle.conversion.proofs.lost.Statement.{statement}
-use Rattle.conversion.proofs.lost.Tie as tie
+use Rattle.conversion.proofs.narrow_refusal.Statement.{statement}
+use Rattle.conversion.proofs.narrow_refusal.Tie as tie
 
 returns : tie.Need-returns
 returns c = sym (hit 32 _ (sym (c .before .wide-site .ensures) ∙ c .if1 .taken))
@@ -36,8 +36,8 @@ returns-3 c =
     let fits = told (λ o. belowb o bits) (c .before .before .optional-slots .ensures) (c .before .below-word .ensures) in
     sym (pass 32 _ (sym (here .before .wide-site .ensures) ∙ here .if1 .left) ∙ pass 33 _ (ap not fits ∙ c .if2 .left) ∙ none)
 
-pub lost-spec : {M : Type 1} → statement M
-lost-spec =
+pub narrow-refusal-spec : {M : Type 1} → statement M
+narrow-refusal-spec =
     tie.close
     (tie.spec (λ c κs. search needs) returns (λ c. search needs) (λ c. search needs) (λ c. search needs) optional-slots-requires (λ c κs. search needs)
     returns-2 returns-3)
