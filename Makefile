@@ -15,7 +15,7 @@ build = target/c
 archive = target/staticlib/libcapi.a
 header = include/mogedorn.h
 
-.PHONY: lib install example stack test-c test-rust bench picks words bucket clean-c
+.PHONY: lib install example stack test-c test-rust bench picks words bucket files clean-c
 
 # Proves the library and writes the archive. Its functions are set to start at multiples of 64 bytes, for speed: see docs/PERFORMANCE.md.
 define write-archive
@@ -73,6 +73,10 @@ words: $(archive)
 # What a table costs whose nodes share one bucket of the index.
 bucket: $(archive)
 	$(bench_run) --bin bucket
+
+# What reading and converting a bids file costs.
+files: $(archive)
+	$(bench_run) --bin files
 
 $(build)/week: examples/week.c $(header) $(archive)
 	mkdir -p $(build)

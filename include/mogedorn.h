@@ -2,7 +2,7 @@
  *
  * Link with libmogedorn.a (`pkg-config --cflags --libs mogedorn`); it needs nothing but memset. x86-64 Linux, System V calling convention.
  *
- * Every entry is proved to do what the crate `engine` (or `bids`) promises, for any values of its arguments: see docs/STATEMENTS.md. What a C caller owes,
+ * Every entry is proved to do what the crate `engine` (or `bids`, or `conversion`) promises, for any values of its arguments: see docs/STATEMENTS.md. What a C caller owes,
  * since nothing can check it here:
  *   - a pointer is not null, also where its length is 0; it is aligned for its type and points to as many elements as the length after it says, optional and d
  *     to three;
@@ -227,8 +227,8 @@ mogedorn_comparison mogedorn_closest(uint32_t m, const uint64_t *packages, size_
    below takes files of one version and refuses all others (22). */
 
 /* Reads a bids file of version 1, or of version 2: its N packages as item sets, three words each, and their costs, to the start of the buffers, whose rest is
-   unchanged. The buffers have at least 3 N words and N costs (15). Then m is schools + slots, at most 64, and week.optional is filled from bids.optional: only
-   a file of version 2 can name optional slots, and none names an order. Refusals, in the order of their tests: 20 under 13 bytes, 21, 22, 24, 20 another
+   unchanged. The buffers have at least 3 N words and N costs (15). Then m is schools + slots, at most 64; copy the field optional to week.optional. Only a file
+   of version 2 can name optional slots, and none names an order. Refusals, in the order of their tests: 20 under 13 bytes, 21, 22, 24, 20 another
    length than the header asks, 23, 31 (version 2), 25, 26, 27, 15. Stack: 1 KB. */
 mogedorn_bids mogedorn_read_bids(const uint8_t *file, size_t file_len, uint64_t *packages, size_t packages_len, uint16_t *costs, size_t costs_len);
 mogedorn_bids mogedorn_read_bids2(const uint8_t *file, size_t file_len, uint64_t *packages, size_t packages_len, uint16_t *costs, size_t costs_len);
@@ -236,8 +236,8 @@ mogedorn_bids mogedorn_read_bids2(const uint8_t *file, size_t file_len, uint64_t
 /* Writes a bids file in the other version, up from 1 to 2 or down from 2 to 1, to the start of out, whose rest is unchanged: the same slots, schools, packages
    and costs in their order, an empty optional set going up, and a check computed anew. The value is the length written, 21 + 3 S + 13 N up and
    13 + 2 S + 12 N down. A file goes down only where every school listed, also one without a package, has a site of at most 255 (32), and no slot is
-   optional (33). There and back restores every byte. Refusals: those of the reader of the file's version but 15, in its order; then, going down, 32 and 33;
-   last 15, where out is shorter than the file to write. Stack: 1 KB. */
+   optional (33). There and back restores every byte. 6,869 bytes are enough for out going up, 6,285 going down. Refusals: those of the reader of the version that
+   the call takes, but 15, in its order; then, going down, 32 and 33; last 15, where out is shorter than the file to write. Stack: 1 KB. */
 mogedorn_number mogedorn_convert_up(const uint8_t *file, size_t file_len, uint8_t *out, size_t out_len);
 mogedorn_number mogedorn_convert_down(const uint8_t *file, size_t file_len, uint8_t *out, size_t out_len);
 
