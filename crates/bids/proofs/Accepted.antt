@@ -75,7 +75,7 @@ module _ {L : Layout} {b : List ℕ} where
 -- ---- what an accepted file says
 
 module _ (x : Contents) (e : firstOf (contentTests x) ≡ 0) where
-  pub optional-inside : strayOptional x ≡ false
+  optional-inside : strayOptional x ≡ false
   optional-inside = passed (strayOptional x) 30 _ e .0
 
   pub none-stray : stray x ≡ false

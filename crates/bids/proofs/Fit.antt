@@ -31,7 +31,7 @@ module _ (s w t : ℕ) (q : w < 2 ^ t) where
   high : 2 ^ (s + t) ≡ 2 ^ t * 2 ^ s
   high = ap (λ (x : ℕ). 2 ^ x) (omega arith) ∙ pow-add 2 t s
 
-  pub shifted-below : w * 2 ^ s < 2 ^ (s + t)
+  shifted-below : w * 2 ^ s < 2 ^ (s + t)
   shifted-below = rw high (mul-lt-mul-of-pos-right q (pow-pos s))
 
   above : (j : ℕ) → j < s → 2 ^ j + w * 2 ^ s < 2 ^ (s + t)

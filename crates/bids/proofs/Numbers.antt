@@ -63,7 +63,7 @@ stands-byte {b} {vs} {i} h p = record { here = rw (drop-cons b i 0, p .here) }
 abbrev pub Bytes : List ℕ → Type 0
 Bytes b = (i : ℕ) → byteAt b i < 256
 
-pub number-one : (b : List ℕ) (i : ℕ) → numberAt b i 1 ≡ byteAt b i
+number-one : (b : List ℕ) (i : ℕ) → numberAt b i 1 ≡ byteAt b i
 unfolding numberAt
 number-one b i = omega arith
 

@@ -49,7 +49,7 @@ module _ (L : Layout) (b : List ℕ) where
       (record { marked = p1 .0; version = p2 .0; sized = p3 .0; long = p4 .0 }, p4 .1)
 
   -- behind a header that passes the records decide
-  pub behind-header : HeaderPassed → 13 ≤ length b → refusal L b ≡ firstOf (recordTests L b)
+  behind-header : HeaderPassed → 13 ≤ length b → refusal L b ≡ firstOf (recordTests L b)
   behind-header q p = not-cut p ∙ pass 21 _ (q .marked) ∙ pass 22 _ (q .version) ∙ pass 24 _ (q .sized) ∙ pass 20 (recordTests L b) (q .long)
 
   pub by-records : 13 ≤ length b → firstOf (headerTests L b) ≡ 0 → refusal L b ≡ firstOf (recordTests L b)

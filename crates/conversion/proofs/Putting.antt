@@ -61,7 +61,7 @@ module _ {out vs out′ : List ℕ} {n : ℕ} (p : PutPost out 0 vs out′ n) (r
   pub puts-start : out′ ≡ vs ++ drop (length vs) out
   puts-start = p .stored ∙ sets-eq vs out 0 (omega arith) ∙ rw zero-add
 
-  pub puts-read : take n out′ ≡ vs
+  puts-read : take n out′ ≡ vs
   puts-read = rw puts-start (take-at vs (drop (length vs) out) n (omega (arith, p .next)))
 
 -- ---- records, one behind the other: g writes a record, in w bytes
