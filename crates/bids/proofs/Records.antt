@@ -37,11 +37,11 @@ mark-read b e f g p = rw (e, f, g) at p
 module _ (u v : School) where
   pub other-site : (u .site ≡ v .site → ⊥) → false ≡ sameSchool u v
   unfolding sameSchool
-  other-site f = rw (ne-eqb (u .site) (v .site) f)
+  other-site f = sym (ap (λ (x : Bool). x && eqb (u .number) (v .number)) (ne-eqb (u .site) (v .site) f))
 
   pub same-site : u .site ≡ v .site → eqb (u .number) (v .number) ≡ sameSchool u v
   unfolding sameSchool
-  same-site e = rw (eq-eqb (u .site) (v .site) e)
+  same-site e = sym (ap (λ (x : Bool). x && eqb (u .number) (v .number)) (eq-eqb (u .site) (v .site) e))
 
 -- ---- two packages, by their slots
 
