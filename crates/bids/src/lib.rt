@@ -273,7 +273,7 @@ fn same_school(a: School, b: School) -> bool
     a.number == b.number
 }
 
-// The slots first: they differ more often.
+// The slots first: they are one word, whatever the width of a site.
 fn same_package(a: Package, b: Package) -> bool
     ensures { λ r. ⌜ r ≡ samePackage a b ⌝ }
 {
