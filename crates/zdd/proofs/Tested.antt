@@ -7,11 +7,11 @@ use Prim.Native.Nat.{ℕ, zero, suc, _+_, _-_, _*_, _/_, _≤_, _<_}
 use native.Mathlib.Nat.{not-suc-le-zero, le-of-suc-le-suc, suc-inj}
 use native.Mathlib.Omega.{arith}
 use lib.Dec.{leb, ltb, eqb}
-use lib.ListN.{length, getD, drop}
+use lib.ListN.{length, getD, drop, replicate}
 use lib.Seq.{getD-drop}
 use borrow.Author.Tests.{eqb-true, eq-eqb, ltb-true, lt-ltb, leb-true, leb-false, le-leb, not-true}
 use Rattle.base.proofs.Bools.{never, is-false, and-left, and-right, and-both, or-cases, or-left, or-right}
-use Rattle.zdd.specs.Table.{Node, node, blank, count, capacity, nodesOf, key, overb, fineb, allFine, eqNode, hasNode, onceb, zerosb, nodesb, soundb, Over, Fine, Nodes, Sound}
+use Rattle.zdd.specs.Table.{Node, node, blank, count, capacity, triples, nodesOf, key, overb, fineb, allFine, eqNode, hasNode, onceb, zerosb, nodesb, soundb, Over, Fine, Nodes, Sound}
 
 -- ---- a child
 
@@ -224,3 +224,14 @@ sound-test K ws s =
 
 pub sound-iff : (K ws : List ℕ) → (soundb K ws ≡ true) ↔ Sound K ws
 sound-iff K ws = (sound-of K ws, sound-test K ws)
+
+-- an empty table, all zeros, is sound [document 01]
+pub empty-sound : (K : List ℕ) (n : ℕ) → soundb K (replicate (suc n) 0) ≡ true
+unfolding soundb nodesOf triples nodesb allFine onceb zerosb capacity
+empty-sound K n =
+    let t : List ℕ = replicate (suc n) 0 in
+    and-both _ _ (lt-ltb 0 (length t) (omega arith)) (and-both _ _ (le-leb 0 (capacity t) (omega arith)) (zeros n))
+  where
+    zeros : (k : ℕ) → zerosb (replicate k 0) ≡ true
+    zeros zero = refl
+    zeros (suc k) = zeros k
