@@ -1,5 +1,9 @@
 -- What each answer enum means: document 01's number of a refusal, or the values that the call returns. The contracts use these. Assumes nothing.
+use mathlib.Core.Bool.{Bool, true, false}
+use mathlib.Core.List.{List}
 use Prim.Native.Nat.{ℕ, zero, suc}
+use lib.Dec.{eqb}
+use Rattle.base.specs.Lists.{any}
 use Rattle.statement.specs.declared.Outcome.{Outcome}
 use Rattle.statement.specs.declared.Outcome.the-variants.{Answer, Refused as OutcomeRefused}
 use Rattle.statement.specs.declared.Soundness.{Soundness}
@@ -26,6 +30,16 @@ pub data Reply (A : Type 0) : Type 0 where
 abbrev pub reply : {A : Type 0} → ℕ → A → Reply A
 reply zero v = gives v
 reply (suc n) v = refused (suc n)
+
+-- the reply is a refusal with one of the numbers ns
+unfoldable pub says : {A : Type 0} → List ℕ → Reply A → Bool
+says ns (refused n) = any (eqb n) ns
+says ns (gives v) = false
+
+-- it is none, or one with a number of ns
+unfoldable pub saysOnly : {A : Type 0} → List ℕ → Reply A → Bool
+saysOnly ns (refused n) = any (eqb n) ns
+saysOnly ns (gives v) = true
 
 -- cover, either, both, only, with, without: the answer's number
 abbrev pub outcomeReply : Outcome → Reply ℕ
