@@ -1,7 +1,7 @@
 -- A file is accepted exactly where it is what each test asks. Assumes nothing.
 use mathlib.Core.Path.{_≡_, refl, sym, _∙_}
 use mathlib.Core.Bool.{true, false, not}
-use mathlib.Core.List.{List, [], _∷_}
+use mathlib.Core.List.{List}
 use Prim.Native.Nat.{ℕ, _+_, _-_, _≤_}
 use borrow.Author.Tests.{le-ltb, eq-eqb, ne-eqb, ltb-false, eqb-true, not-false}
 use lib.Dec.{eqb}
@@ -9,7 +9,7 @@ use lib.ListN.{length, take}
 use Rattle.statement.specs.Refusals.{firstOf}
 use Rattle.statement.proofs.FirstOf.{pass, hit, passed}
 use Rattle.bids.specs.Bytes.{numberAt, fnv}
-use Rattle.bids.specs.Contents.{Contents, strayOptional, schoolTwice, stray, packageTwice, unfit}
+use Rattle.bids.specs.Contents.{Contents, strayOptional, schoolTwice, stray}
 use Rattle.bids.specs.Format.{markb, fileLength, contents, cut, unmarked, otherVersion, oversize, wrongLength, wrongCheck, contentTests, recordTests, refusal}
 use Rattle.bids.specs.Format as F
 use Rattle.bids.specs.Contract.{Legible, Sized}
@@ -81,7 +81,7 @@ module _ (x : Contents) (e : firstOf (contentTests x) ≡ 0) where
   pub none-stray : stray x ≡ false
   none-stray =
       let p = passed (schoolTwice (x .schools)) 24 _ (passed (strayOptional x) 30 _ e .1) in
-      passed (stray x) 25 ((packageTwice (x .packages), 27) ∷ (unfit x, 28) ∷ []) (p .1) .0
+      passed (stray x) 25 _ (p .1) .0
 
 module _ (L : Layout) (b : List ℕ) (z : refusal L b ≡ 0) where
   pub accepted-sized : {s t n : ℕ} → Legible L → s ≡ F.schools b → t ≡ F.slots b → n ≡ F.packages b → Sized L b s t n

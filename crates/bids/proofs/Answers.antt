@@ -1,5 +1,5 @@
 -- What the reader refuses, and what it leaves in the buffers, from what it called. Assumes nothing.
-use mathlib.Core.Path.{_≡_, refl, sym, ap, _∙_}
+use mathlib.Core.Path.{_≡_, sym, ap, _∙_}
 use mathlib.Core.Bool.{not}
 use mathlib.Core.List.{List, [], _∷_}
 use Prim.Native.Nat.{ℕ, _*_, _^_, _≤_, _<_}
@@ -17,13 +17,13 @@ use Rattle.statement.proofs.TestLaws.{reply-refused, page-left}
 use Rattle.bids.specs.Ranges.{listed}
 use Rattle.bids.specs.Contents.{itemsOf, packagesOf, costsOf, optionalOf}
 use Rattle.bids.specs.Format.{packages, packageAt, packagePlace, schools, contents, schoolsIn, packagesIn, optionalSlots, refusal}
-use Rattle.bids.specs.Contract.{Legible, readRefusal, readGives, ReadPost}
+use Rattle.bids.specs.Contract.{readRefusal, readGives, ReadPost}
 use Rattle.bids.specs.declared.Layout.{Layout}
 use Rattle.bids.specs.declared.Package.{Package}
 use Rattle.bids.specs.declared.Reading.the-variants.{Refused}
 use Rattle.bids.proofs.Laws.{over, over-room, map-listed}
 use Rattle.bids.proofs.Records.{school-count}
-use Rattle.bids.proofs.Accepted.{accepted-sized, accepted-optional}
+use Rattle.bids.proofs.Accepted.{accepted-optional}
 use Rattle.bids.proofs.Fit.{few-items, optional-below}
 
 -- ---- the refusal
@@ -88,7 +88,7 @@ module _ (L : Layout) (b : List ℕ) where
 
   -- ---- the optional items, in one word
 
-  module _ (l : Legible L) (z : refusal L b ≡ 0) {s : ℕ} (e : s ≡ schools b) where
+  module _ (z : refusal L b ≡ 0) {s : ℕ} (e : s ≡ schools b) where
     pub optional-items : {o : ℕ} → o ≡ optionalSlots L b → o * 2 ^ s ≡ optionalOf (contents L b)
     unfolding optionalOf
     optional-items f = rw (f, e, ← school-count L b)
@@ -96,7 +96,7 @@ module _ (L : Layout) (b : List ℕ) where
     pub optional-small : {o : ℕ} → o ≡ optionalSlots L b → o * 2 ^ s < 2 ^ 64
     optional-small f =
         rw (optional-items f)
-        (lt-of-lt-of-le (optional-below (contents L b) (accepted-optional L b z)) (pow-mono (few-items (accepted-sized L b z l refl refl refl))))
+        (lt-of-lt-of-le (optional-below (contents L b) (accepted-optional L b z)) (pow-mono (few-items L b z)))
 
 -- one word of three
 pub one-word : (w : ℕ) → valueOf (w ∷ 0 ∷ 0 ∷ []) ≡ w

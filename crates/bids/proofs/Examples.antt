@@ -5,16 +5,18 @@ use mathlib.Core.List.{List, [], _∷_, _++_, map}
 use Prim.Native.Nat.{ℕ}
 use lib.ListN.{take}
 use Rattle.base.specs.Lists.{any}
-use Rattle.itemset.specs.Items.{belowb}
-use Rattle.itemset.specs.Words.{width, wordsIn, spread}
-use Rattle.statement.specs.Refusals.{firstOf}
+use Rattle.itemset.specs.Items.{without, belowb}
+use Rattle.itemset.specs.Words.{width, setsOf, valueOf, wordsIn, spread}
+use Rattle.exact_cover.specs.Problem.{problemOf, upTo, done, countFrom, times, eachOnce}
+use Rattle.statement.specs.Refusals.{firstOf, nothingCompulsory, disordered, checkRefusal}
 use Rattle.statement.specs.Refusals as engine
 use Rattle.bids.specs.Bytes.{numberAt, fnvFrom, fnv}
 use Rattle.bids.specs.Ranges.{first, some, listed}
 use Rattle.bids.specs.Contents.{sameSchool, samePackage, schoolIn, packageIn, itemsOf, packagesOf, costsOf, optionalOf}
-use Rattle.bids.specs.Contents.{strayOptional, schoolTwice, strayb, stray, packageTwice, unfit}
+use Rattle.bids.specs.Contents.{strayOptional, schoolTwice, strayb, stray, packageTwice}
 use Rattle.bids.specs.Format.{version1, version2, markb, optionalSlots, schoolPlace, packagePlace, schoolsIn, packagesIn, contents}
 use Rattle.bids.specs.Format.{cut, unmarked, otherVersion, oversize, wrongLength, wrongCheck, refusal}
+use Rattle.bids.proofs.Engine.{LentOf}
 
 -- S 2, T 2, schools (1,4), (2,4); (1,4) slot 0 cost 3; (1,4) slot 1 cost 1; (2,4) slot 1 cost 2; (2,4) slot 0 cost 5; (1,4) both cost 2; (2,4) none cost 9
 abbrev pub example : List ℕ
@@ -129,8 +131,8 @@ files2 =
 
 refusals : (map (refusal version1) files1 ≡ (0 ∷ 20 ∷ 21 ∷ 22 ∷ 24 ∷ 20 ∷ 20 ∷ 23 ∷ 25 ∷ 26 ∷ 26 ∷ 27 ∷ 0 ∷ 0 ∷ 0 ∷ []))
     × (map (refusal version2) files2 ≡ (0 ∷ 22 ∷ 20 ∷ 21 ∷ 22 ∷ 24 ∷ 20 ∷ 20 ∷ 23 ∷ 31 ∷ 25 ∷ 26 ∷ 26 ∷ 27 ∷ 0 ∷ 0 ∷ []))
-unfolding width belowb firstOf engine.oversize any engine.stray numberAt fnvFrom fnv first some listed
-    sameSchool samePackage schoolIn packageIn itemsOf packagesOf strayOptional schoolTwice strayb stray packageTwice unfit
+unfolding belowb firstOf numberAt fnvFrom fnv first some listed
+    sameSchool samePackage schoolIn packageIn strayOptional schoolTwice strayb stray packageTwice
     markb optionalSlots schoolPlace packagePlace schoolsIn packagesIn cut unmarked otherVersion oversize wrongLength wrongCheck refusal
 refusals = (refl, refl)
 
@@ -149,3 +151,24 @@ optional-read = (refl, refl, refl)
 example-words : spread 3 (take 2 (packagesOf (contents version1 example))) ≡ (5 ∷ 0 ∷ 0 ∷ 9 ∷ 0 ∷ 0 ∷ [])
 unfolding numberAt first listed sameSchool schoolIn itemsOf packagesOf schoolPlace packagePlace schoolsIn packagesIn wordsIn spread
 example-words = refl
+
+-- ---- what the engine is lent of a file, and says
+
+-- the words of the packages of `public`
+abbrev publicWords : List ℕ
+publicWords = 6 ∷ 0 ∷ 0 ∷ 13 ∷ 0 ∷ 0 ∷ []
+
+public-lent : LentOf version2 public 4 publicWords 8
+unfolding belowb firstOf numberAt fnvFrom fnv first some listed
+    sameSchool samePackage schoolIn packageIn itemsOf packagesOf optionalOf strayOptional schoolTwice strayb stray packageTwice
+    markb optionalSlots schoolPlace packagePlace schoolsIn packagesIn cut unmarked otherVersion oversize wrongLength wrongCheck refusal setsOf valueOf
+public-lent = record { accepted = refl; items = refl; packages = refl; optional = refl }
+
+-- of other weeks than the file's the check does say these numbers, on any table: in an order that repeats an item; with all items optional, with one that there is
+-- not, with an item less
+others-refused : (t : List ℕ)
+    → (checkRefusal (problemOf publicWords 8 (0 ∷ 1 ∷ 2 ∷ 2 ∷ [])) 4 t ≡ 34) × (checkRefusal (problemOf publicWords 15 (upTo 4)) 4 t ≡ 30)
+    × (checkRefusal (problemOf publicWords 24 (upTo 4)) 4 t ≡ 29) × (checkRefusal (problemOf publicWords 8 (upTo 3)) 3 t ≡ 2)
+unfolding width setsOf valueOf without belowb any done countFrom times eachOnce firstOf
+    engine.oversize engine.stray engine.strayOptional nothingCompulsory disordered checkRefusal
+others-refused t = (refl, refl, refl, refl)

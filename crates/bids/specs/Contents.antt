@@ -7,7 +7,6 @@ use lib.Dec.{eqb, ltb}
 use lib.ListN.{length, getD}
 use Rattle.itemset.specs.Items.{belowb}
 use Rattle.exact_cover.specs.Problem.{Problem, upTo}
-use Rattle.statement.specs.Refusals as engine
 use Rattle.bids.specs.Ranges.{first, some}
 use Rattle.bids.specs.declared.School.{School}
 use Rattle.bids.specs.declared.Package.{Package}
@@ -87,7 +86,3 @@ stray x = some (λ k. strayb (x .schools) (x .slots) (nthPackage (x .packages) k
 -- 27 package twice: some package is among those before it
 unfoldable pub packageTwice : List Package → Bool
 packageTwice ps = some (λ k. ltb (packageIn ps k (nthPackage ps k)) k) (length ps)
-
--- 28 unfit: the engine says 1 or 2, with M = S + T. These are its own two tests; proofs/Engine: `engine::check` says 1 or 2 exactly where they hold
-unfoldable pub unfit : Contents → Bool
-unfit x = engine.oversize (itemCount x) (packagesOf x) || engine.stray (itemCount x) (packagesOf x)

@@ -9,7 +9,7 @@ use lib.ListN.{length, take}
 use Rattle.statement.specs.Refusals.{firstOf}
 use Rattle.bids.specs.Bytes.{byteAt, numberAt, fnv}
 use Rattle.bids.specs.Ranges.{listed}
-use Rattle.bids.specs.Contents.{Contents, strayOptional, schoolTwice, stray, packageTwice, unfit}
+use Rattle.bids.specs.Contents.{Contents, strayOptional, schoolTwice, stray, packageTwice}
 use Rattle.bids.specs.declared.Layout.{Layout}
 use Rattle.bids.specs.declared.School.{School}
 use Rattle.bids.specs.declared.Package.{Package}
@@ -111,14 +111,14 @@ headerTests L b =
     (wrongLength L b, 20) ∷
     []
 
--- the tests of what the file says. No version 1 file is 31, since it has no optional slot
+-- the tests of what the file says. No version 1 file is 31, since it has no optional slot. There was a 28, for files that the engine would refuse: there are
+-- none (proofs/Engine), and its number is not used again [document 02, No. 12]
 abbrev pub contentTests : Contents → List (Bool × ℕ)
 contentTests x =
     (strayOptional x, 31) ∷
     (schoolTwice (x .schools), 25) ∷
     (stray x, 26) ∷
     (packageTwice (x .packages), 27) ∷
-    (unfit x, 28) ∷
     []
 
 -- the tests behind the header's

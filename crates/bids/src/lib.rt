@@ -435,8 +435,7 @@ fn header_refusal(file: &[u8], layout: Layout, h: Header) -> u8
     0
 }
 
-// The first refusal of the check and the records of s schools and n packages with t slots, 0 where they have none. There is no test for 28: a file that
-// passes the others is fit for the engine (proofs/Fit).
+// The first refusal of the check and the records of s schools and n packages with t slots, 0 where they have none.
 fn record_refusal(file: &[u8], layout: Layout, s: usize, t: u32, n: usize) -> u8
     requires { ⌜ Sized layout (now file) s t n ⌝ }
     ensures { λ r. ⌜ r ≡ firstOf (recordTests layout (now (file .entry))) ⌝ }

@@ -1,18 +1,22 @@
--- What the converters refuse, and what a refusal leaves. Assumes nothing.
-use mathlib.Core.Path.{_≡_, sym, ap, _∙_}
-use mathlib.Core.Bool.{not}
+-- What the converters refuse, what a refusal leaves, and which numbers there are. Assumes nothing.
+use mathlib.Core.Path.{_≡_, refl, sym, ap, _∙_}
+use mathlib.Core.Bool.{true, not}
 use mathlib.Core.List.{List, [], _∷_, _++_}
 use Prim.Native.Nat.{ℕ, _<_, _≤_}
 use borrow.Author.Tests.{lt-ltb, le-ltb, eq-eqb, ne-eqb}
 use lib.Dec.{ltb}
 use lib.ListN.{length}
+use Rattle.base.specs.Lists.{any}
 use Rattle.statement.specs.Refusals.{firstOf}
+use Rattle.statement.specs.Replies.{saysOnly}
 use Rattle.statement.proofs.FirstOf.{pass, hit, none, front, behind}
+use Rattle.statement.proofs.Sayable.{among-said, first-said}
 use Rattle.statement.proofs.TestLaws.{reply-refused, page-left}
-use Rattle.bids.specs.Format.{contents, refusal}
+use Rattle.bids.specs.Format.{contents, cut, headerTests, recordTests, refusal}
 use Rattle.bids.specs.declared.Layout.{Layout}
 use Rattle.conversion.specs.Writing.{fileOf}
-use Rattle.conversion.specs.Contract.{lostTests, convertRefusal, ConvertPost}
+use Rattle.conversion.specs.Contract.{lostTests, convertRefusal, convertReply, ConvertPost}
+use Rattle.conversion.specs.declared.Conversion.{Conversion}
 use Rattle.conversion.specs.declared.Conversion.the-variants.{Refused}
 
 module _ (from to : Layout) (b : List ℕ) (room : ℕ) where
@@ -43,3 +47,13 @@ convert-refused {from} {to} {b} {out} {r} e f = record {
   answer = reply-refused r (length (fileOf to (contents from b))) e f;
   file = page-left r (fileOf to (contents from b)) out e f;
 }
+
+-- THEOREM: the numbers that a converter can say. Going up it says neither 32 nor 33 (`up-never`), nor 31 (`never-31`)
+pub convert-numbers : {from to : Layout} {b : List ℕ} {r : Conversion} {out out′ : List ℕ} → ConvertPost from to b r out out′
+    → saysOnly (20 ∷ 21 ∷ 22 ∷ 24 ∷ 23 ∷ 31 ∷ 25 ∷ 26 ∷ 27 ∷ 32 ∷ 33 ∷ 15 ∷ []) (convertReply r) ≡ true
+unfolding any refusal convertRefusal
+convert-numbers {from} {to} {b} {out = out} R =
+    let n = length (fileOf to (contents from b)) in
+    ap (saysOnly _) (R .answer)
+    ∙ first-said (refusal from b) _ (lostTests to (contents from b) ++ ((ltb (length out) n, 15) ∷ [])) n
+    (among-said _ ((cut b, 20) ∷ (headerTests from b ++ recordTests from b)) n refl) refl

@@ -2,15 +2,12 @@
 use mathlib.Core.Path.{_≡_, refl}
 use mathlib.Core.List.{List, [], _∷_}
 use Prim.Native.Nat.{ℕ}
-use Rattle.base.specs.Lists.{any}
 use Rattle.itemset.specs.Items.{belowb}
-use Rattle.itemset.specs.Words.{width}
 use Rattle.statement.specs.Refusals.{firstOf}
-use Rattle.statement.specs.Refusals as engine
 use Rattle.bids.specs.Bytes.{numberAt, bytesOf, fnvFrom, fnv}
 use Rattle.bids.specs.Ranges.{first, some, listed}
-use Rattle.bids.specs.Contents.{sameSchool, samePackage, schoolIn, packageIn, itemsOf, packagesOf}
-use Rattle.bids.specs.Contents.{strayOptional, schoolTwice, strayb, stray, packageTwice, unfit}
+use Rattle.bids.specs.Contents.{sameSchool, samePackage, schoolIn, packageIn}
+use Rattle.bids.specs.Contents.{strayOptional, schoolTwice, strayb, stray, packageTwice}
 use Rattle.bids.specs.Format.{version1, version2, markb, optionalSlots, schoolPlace, packagePlace, schoolsIn, packagesIn, contents}
 use Rattle.bids.specs.Format.{cut, unmarked, otherVersion, oversize, wrongLength, wrongCheck, refusal}
 use Rattle.bids.proofs.Examples.{example, example2}
@@ -47,8 +44,8 @@ down b room = convertRefusal version2 version1 b room
 refusals : (up example 105 ∷ up example 104 ∷ up example2 105 ∷ down example2 89 ∷ down example2 88 ∷ down example 89
     ∷ down wide 100 ∷ down optional 100 ∷ down both 100 ∷ down wide 0 ∷ down optional 0 ∷ [])
     ≡ (0 ∷ 15 ∷ 22 ∷ 0 ∷ 15 ∷ 22 ∷ 32 ∷ 33 ∷ 32 ∷ 32 ∷ 33 ∷ [])
-unfolding width belowb firstOf engine.oversize any engine.stray numberAt bytesOf fnvFrom fnv first some listed
-    sameSchool samePackage schoolIn packageIn itemsOf packagesOf strayOptional schoolTwice strayb stray packageTwice unfit
+unfolding belowb firstOf numberAt bytesOf fnvFrom fnv first some listed
+    sameSchool samePackage schoolIn packageIn strayOptional schoolTwice strayb stray packageTwice
     markb optionalSlots schoolPlace packagePlace schoolsIn packagesIn cut unmarked otherVersion oversize wrongLength wrongCheck refusal
     headerBytes schoolBytes packageBytes joined bodyOf fileOf wideSite optionalPresent convertRefusal
 refusals = refl

@@ -4,3 +4,4 @@ pub mod Sheets
 pub mod Room
 pub mod Prefix
 pub mod Places
+pub mod Refusals

@@ -8,7 +8,7 @@ use native.Mathlib.Numerals.{add-one}
 use native.Mathlib.Omega.{arith}
 use borrow.Author.Tests.{eq-eqb, ne-eqb, ltb-false}
 use lib.ListN.{length, take, replicate, length-replicate}
-use Rattle.itemset.specs.Words.{width, value, spread}
+use Rattle.itemset.specs.Words.{width, value}
 use Rattle.itemset.specs.declared.Items.{Items}
 use Rattle.itemset.proofs.Lists.{width-is}
 use Rattle.zdd.specs.Table.{Family}
@@ -23,20 +23,21 @@ use Rattle.statement.specs.Replies.{refused, gives, outcomeReply}
 use Rattle.statement.specs.declared.Report.{Report}
 use Rattle.statement.proofs.FirstOf.{passed}
 use Rattle.statement.proofs.Made.{made-missing}
-use Rattle.statement.proofs.TestLaws.{was-given, was-refused}
-use Rattle.bids.specs.Contents.{packagesOf, costsOf, optionalOf, problemIn}
+use Rattle.statement.proofs.TestLaws.{was-refused}
+use Rattle.bids.specs.Contents.{packagesOf, costsOf, problemIn}
 use Rattle.bids.specs.Format.{version1, schools, slots, packages, contents, refusal}
-use Rattle.bids.specs.Contract.{readRefusal, readGives, ReadPost, readReply}
+use Rattle.bids.specs.Contract.{readRefusal, ReadPost, readReply}
 use Rattle.bids.specs.declared.Reading.{Reading}
 use Rattle.bids.specs.declared.Reading.the-variants.{Accepted, Refused}
 use Rattle.bids.proofs.Answers.{by-file, roomy}
 use Rattle.bids.proofs.Places.{legible1}
 use Rattle.bids.proofs.Accepted.{accepted-sized}
-use Rattle.bids.proofs.Packed.{count-packed, count-costs, packed-long, packed-problem}
+use Rattle.bids.proofs.Packed.{count-packed, count-costs, packed-problem}
+use Rattle.bids.proofs.Readings.{delivered}
 use Rattle.printout.specs.Text.{head, timetableLine, cheapestLine, noneLine, refusedLine}
 use Rattle.printout.specs.Written.{Holds, Puts}
 use Rattle.printout.specs.Program.{unless, timetableLines, lastLine, sheet, answerText, blank, solved, printed, Askable}
-use Rattle.printout.proofs.Asking.{page-left, cover-refused, cover-answered, askable}
+use Rattle.printout.proofs.Asking.{cover-refused, cover-answered, askable}
 
 -- ---- a text from the start of the buffer
 
@@ -153,22 +154,14 @@ module _ {b : List ℕ} {r : Reading} {p c : List ℕ} (R : ReadPost version1 b 
 
   pub read-gave : {s t n : ℕ} {o : Items} → r ≡ Accepted s t n o → Read b s t n (value o) p c
   unfolding printed
-  read-gave {s} {t} {n} {o} e =
-      let x = contents version1 b in
-      let q = was-given (s, (t, (n, value o))) (readRefusal version1 b (length (zeros 1536)) (length (zeros 512))) (readGives version1 b) (sym (ap readReply e) ∙ R .answer) in
-      let z : refusal version1 b ≡ 0 = sym number ∙ q .0 in
-      let es : s ≡ schools b = ap (λ (v : ℕ × (ℕ × (ℕ × ℕ))). v .0) (q .1) in
-      let et : t ≡ slots b = ap (λ (v : ℕ × (ℕ × (ℕ × ℕ))). v .1 .0) (q .1) in
-      let en : n ≡ packages b = ap (λ (v : ℕ × (ℕ × (ℕ × ℕ))). v .1 .1 .0) (q .1) in
-      let eo : value o ≡ optionalOf x = ap (λ (v : ℕ × (ℕ × (ℕ × ℕ))). v .1 .1 .1) (q .1) in
-      let k = accepted-sized version1 b z legible1 refl refl refl in
-      let l3 : 3 * n ≡ length (spread 3 (packagesOf x)) = omega (arith, en, packed-long version1 b) in
-      let words = page-left (spread 3 (packagesOf x)) (zeros 1536) l3 (q .0) (R .items) in
+  read-gave e =
+      let g = delivered (rw e at R) in
+      let k = accepted-sized version1 b (g .accepted) legible1 refl refl refl in
       record {
-        few = omega (arith, en, k .few);
-        small = omega (arith, es, et, k .items);
-        problem = rw (words, eo, es, et) (packed-problem version1 b legible1 z);
-        costs = page-left (costsOf x) (zeros 512) (en ∙ sym (count-costs version1 b)) (q .0) (R .costs);
+        few = omega (arith, g .packages, k .few);
+        small = omega (arith, g .schools, g .slots, k .items);
+        problem = rw (g .words, g .optional, g .schools, g .slots) (packed-problem version1 b (g .accepted));
+        costs = g .costs;
         same-long = count-costs version1 b ∙ sym (count-packed version1 b);
-        text = rw (es, et) (unsaid _ z);
+        text = rw (g .schools, g .slots) (unsaid _ (g .accepted));
       }

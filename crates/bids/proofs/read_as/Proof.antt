@@ -70,7 +70,7 @@ shifted-requires c κs =
     let z = sym (refusal .ensures) ∙ if1 .left in
     let e = c .wide2 .ensures ∙ read-header .ensures .schools in
     let sized = accepted-sized (a .layout) (a .file .now) z pre e refl refl in
-    (omega (arith, sized .items), optional-small (a .layout) (a .file .now) pre z e (c .before .optional-slots .ensures))
+    (omega (arith, sized .items), optional-small (a .layout) (a .file .now) z e (c .before .optional-slots .ensures))
 
 returns-4 : tie.Need-returns-4
 returns-4 c =
@@ -91,7 +91,7 @@ returns-4 c =
     let z = sym (refusal .ensures) ∙ if1 .left in
     let s = c .before .wide2 .ensures ∙ p .schools in
     let e = roomy L b (length (a .packages .now)) (length (a .costs .now)) z (omega (arith, p .packages, if2 .left)) (omega (arith, p .packages, if3 .left)) in
-    let o = one-word (c .shifted .result) ∙ c .shifted .ensures ∙ optional-items L b pre z s (optional-slots .ensures) in
+    let o = one-word (c .shifted .result) ∙ c .shifted .ensures ∙ optional-items L b z s (optional-slots .ensures) in
     record {
       answer = (rw (p .schools, p .slots, p .packages, o) (reply-gives (readGives L b) e));
       items = rw e (fill .ensures .0);

@@ -3,10 +3,8 @@ use mathlib.Core.Path.{refl, sym, ap, _∙_}
 use mathlib.Core.Bool.{not}
 use borrow.Author.Tests.{eq-eqb, ne-eqb}
 use Rattle.statement.proofs.FirstOf.{pass, hit, none}
-use Rattle.bids.specs.Format.{contents}
 use Rattle.bids.proofs.Refused.{check-of, optional-of}
 use Rattle.bids.proofs.Places.{header-before, school-before}
-use Rattle.bids.proofs.Fit.{fit, few-items, few-bids}
 use borrow.Author.Needs.{needs}
 use Rattle.bids.proofs.record_refusal.Statement.{statement}
 use Rattle.bids.proofs.record_refusal.Tie as tie
@@ -120,8 +118,7 @@ returns-6 c =
     let e3 = sym (school-twice .ensures) ∙ if3 .left in
     let e4 = sym (stray .ensures) ∙ if4 .left in
     let e5 = sym (c .before .package-twice .ensures) ∙ c .if5 .left in
-    let e6 = fit (contents (a .layout) (a .file .now)) e4 (few-items p) (few-bids p) in
-    sym (pass 23 _ e1 ∙ pass 31 _ e2 ∙ pass 25 _ e3 ∙ pass 26 _ e4 ∙ pass 27 _ e5 ∙ pass 28 _ e6 ∙ none)
+    sym (pass 23 _ e1 ∙ pass 31 _ e2 ∙ pass 25 _ e3 ∙ pass 26 _ e4 ∙ pass 27 _ e5 ∙ none)
 
 pub record-refusal-spec : {M : Type 1} → statement M
 record-refusal-spec =
