@@ -1,6 +1,7 @@
 //! Bids files of both versions, random and damaged. Each is given to both readers and both converters, with buffers of several lengths.
 
 use crate::calls::Tally;
+use crate::desk;
 use crate::ffi::{self, Number};
 use crate::files::{body, convert, read, sealed, Bid, File, School};
 use crate::model::{lent, Set, Week};
@@ -57,7 +58,7 @@ fn reads(rng: &mut Rng, version: u16, file: &[u8], tally: &mut Tally) {
         count(tally, READERS, version, refusal);
     }
     if let Ok(f) = expected {
-        cover(&f, tally);
+        cover(rng, &f, tally);
     }
 }
 
@@ -80,12 +81,15 @@ fn read_into(version: u16, file: &[u8], expected: &Result<File, u32>, mut packag
     got.refusal
 }
 
-/// The week of an accepted file: the engine takes it, and finds the model's timetables of all items.
-fn cover(f: &File, tally: &mut Tally) {
+/// The week of an accepted file: the engine takes it, whatever call is made, and finds the model's timetables of all items.
+fn cover(rng: &mut Rng, f: &File, tally: &mut Tally) {
     let (sets, optional, m) = (f.packages(), f.optional_items(), f.schools.len() as u32 + f.slots as u32);
     let words = lent(&sets);
     let week = ffi::Week { optional: &optional.0, ..ffi::Week::plain(m, &words) };
     assert_eq!(ffi::check(week, &[0]), 0, "{f:?}");
+    for refusal in desk::each_call(rng, week, &f.costs()) {
+        tally.lent[refusal as usize] += 1;
+    }
     if sets.len() > MOST {
         return;
     }

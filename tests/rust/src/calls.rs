@@ -28,6 +28,8 @@ pub struct Tally {
     pub tied: u64,
     /// Those of the calls on bids files, in the order of bids::CALLS; how many weeks read were covered, and how many of these had optional slots and a timetable.
     pub files: [Outcomes; 4],
+    /// Those of all calls on weeks read.
+    pub lent: Outcomes,
     pub covered: u64,
     pub open: u64,
 }
@@ -42,6 +44,7 @@ impl Tally {
         kept: 0,
         tied: 0,
         files: [NO_OUTCOME; 4],
+        lent: NO_OUTCOME,
         covered: 0,
         open: 0,
     };
@@ -51,6 +54,7 @@ impl Tally {
         add(&mut self.outcomes, &more.outcomes);
         add(&mut self.joins, &more.joins);
         add(&mut self.closest, &more.closest);
+        add(&mut self.lent, &more.lent);
         self.files.iter_mut().zip(&more.files).for_each(|(all, more)| add(all, more));
         self.calls += more.calls;
         self.joined += more.joined;

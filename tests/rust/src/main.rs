@@ -4,6 +4,7 @@
 mod bids;
 mod calls;
 mod closest;
+mod desk;
 mod edge;
 mod ffi;
 mod files;
@@ -99,5 +100,6 @@ fn main() {
     println!("of joins: {}; {} answered for two answers above 1", said(&all.joins), all.joined);
     println!("of closest: {}; {} with the difference 0, {} the first of several as close", said(&all.closest), all.kept, all.tied);
     bids::CALLS.iter().zip(&all.files).for_each(|(call, outcomes)| println!("of {call}: {}", said(outcomes)));
+    println!("of calls of any kind on weeks read: {}", said(&all.lent));
     println!("of the files read {} weeks were covered, {} of them with optional slots and a timetable", all.covered, all.open);
 }
