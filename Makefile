@@ -15,7 +15,7 @@ build = target/c
 archive = target/staticlib/libcapi.a
 header = include/mogedorn.h
 
-.PHONY: lib install example stack test-c test-rust bench picks words bucket files clean-c
+.PHONY: lib install example stack test-c test-rust test-refusals bench picks words bucket files clean-c
 
 # Proves the library and writes the archive. Its functions are set to start at multiples of 64 bytes, for speed: see docs/PERFORMANCE.md.
 define write-archive
@@ -53,6 +53,10 @@ stack: $(build)/stack
 # The library against an independent model, on random calls.
 test-rust: $(archive)
 	MOGEDORN_LIB='$(abspath target/staticlib)' $(CARGO) run --quiet --release --manifest-path tests/rust/Cargo.toml --target-dir target/tests-rust -- $(SEED) $(CALLS)
+
+# Whether the help page has each refusal of the definitions and the header, and says the same of each call.
+test-refusals:
+	sh tests/refusals.sh
 
 # The benchmarks. OLD is an earlier archive to stand beside this one, one without join; its functions are set to multiples of 64 bytes too. Rust's loops start
 # at multiples of 32, where they were fastest.

@@ -67,7 +67,9 @@ extern "C" {
 /* The stack in bytes that suffices for every entry. */
 #define MOGEDORN_STACK 786432
 
-/* The refusals [the numbers of documents 01 and 02]. Of those that the calls on a table give, the first one here that applies is given. */
+/* The refusals [the numbers of documents 01 and 02]; docs/REFUSALS.md says what to do about each. Of those that the calls on a table give, the first one here that
+   applies is given. To a week as read_bids or read_bids2 gives it no call says 1, 2, 29 or 30, nor 34 in the order 0 .. M - 1. 28 is not in use, and will not be:
+   it stood for a file that the reader accepts and the engine refuses, and there is none. */
 enum {
     MOGEDORN_OVERSIZE = 1,         /* M above 192 or N above 512 */
     MOGEDORN_STRAY = 2,            /* an empty package, or an item of M or above in one */
@@ -141,7 +143,7 @@ typedef struct {
     uint64_t optional[3]; /* the optional items, as a week takes them; none of a version 1 file */
 } mogedorn_bids;
 
-/* Whether the table is sound: 0, or the refusal 1, 2, 29, 30, 34 or 4. Stack: 266 KB. */
+/* Whether the table is sound: 0, or the refusal. Refusals 1, 2, 29, 30, 34, 4. Stack: 266 KB. */
 uint32_t mogedorn_check(uint32_t m, const uint64_t *packages, size_t packages_len, const uint64_t optional[3], const uint8_t *order, size_t order_len,
                         const uint32_t *table, size_t table_len);
 
@@ -228,17 +230,25 @@ mogedorn_comparison mogedorn_closest(uint32_t m, const uint64_t *packages, size_
 
 /* Reads a bids file of version 1, or of version 2: its N packages as item sets, three words each, and their costs, to the start of the buffers, whose rest is
    unchanged. The buffers have at least 3 N words and N costs (15). Then m is schools + slots, at most 64; copy the field optional to week.optional. Only a file
-   of version 2 can name optional slots, and none names an order. Refusals, in the order of their tests: 20 under 13 bytes, 21, 22, 24, 20 another
-   length than the header asks, 23, 31 (version 2), 25, 26, 27, 15. Stack: 1 KB. */
+   of version 2 can name optional slots, and none names an order. Refusals are in the order of their tests: the first 20 is for under 13 bytes, the second
+   for another length than the header asks. Stack: 1 KB. */
+
+/* Version 1. Refusals 20, 21, 22, 24, 20, 23, 25, 26, 27, 15. */
 mogedorn_bids mogedorn_read_bids(const uint8_t *file, size_t file_len, uint64_t *packages, size_t packages_len, uint16_t *costs, size_t costs_len);
+
+/* Version 2. Refusals 20, 21, 22, 24, 20, 23, 31, 25, 26, 27, 15. */
 mogedorn_bids mogedorn_read_bids2(const uint8_t *file, size_t file_len, uint64_t *packages, size_t packages_len, uint16_t *costs, size_t costs_len);
 
 /* Writes a bids file in the other version, up from 1 to 2 or down from 2 to 1, to the start of out, whose rest is unchanged: the same slots, schools, packages
    and costs in their order, an empty optional set going up, and a check computed anew. The value is the length written, 21 + 3 S + 13 N up and
    13 + 2 S + 12 N down. A file goes down only where every school listed, also one without a package, has a site of at most 255 (32), and no slot is
-   optional (33). There and back restores every byte. 6,869 bytes are enough for out going up, 6,285 going down. Refusals: those of the reader of the version that
-   the call takes, but 15, in its order; then, going down, 32 and 33; last 15, where out is shorter than the file to write. Stack: 1 KB. */
+   optional (33). There and back restores every byte. 6,869 bytes are enough for out going up, 6,285 going down. The refusals are those of the reader of the version
+   that the call takes, but 15, in its order; then, going down, 32 and 33; last 15, where out is shorter than the file to write. Stack: 1 KB. */
+
+/* Up. Refusals 20, 21, 22, 24, 20, 23, 25, 26, 27, 15. */
 mogedorn_number mogedorn_convert_up(const uint8_t *file, size_t file_len, uint8_t *out, size_t out_len);
+
+/* Down. Refusals 20, 21, 22, 24, 20, 23, 31, 25, 26, 27, 32, 33, 15. */
 mogedorn_number mogedorn_convert_down(const uint8_t *file, size_t file_len, uint8_t *out, size_t out_len);
 
 /* What every call on a table is lent besides it, in one struct. Later versions may add fields, and a field of zeros will mean what held before there was one. So
