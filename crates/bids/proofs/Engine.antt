@@ -15,7 +15,7 @@ use Rattle.exact_cover.specs.Problem.{problemOf, upTo}
 use Rattle.statement.specs.declared.Call.{Call}
 use Rattle.statement.specs.declared.Call.the-variants.{Cover, Either, Both, Only, With, Without, Join}
 use Rattle.statement.specs.Replies.{Reply, says, saysOnly, soundnessReply, countReply, measureReply, pickReply, placeReply, cheapestReply, closestReply, outcomeReply}
-use Rattle.statement.proofs.Sayable.{Sayable, callNumbers, unsaid, fit-sayable, reordered-sayable}
+use Rattle.statement.proofs.Sayable.{Sayable, callNumbers, never-said, fit-sayable, reordered-sayable}
 use Rattle.engine.proofs.check.Kinds as check
 use Rattle.engine.proofs.check.Reads as check-reads
 use Rattle.engine.proofs.count.Kinds as count
@@ -95,9 +95,9 @@ module _ {L : Layout} {b : List ℕ} {m : ℕ} {words : List ℕ} {o : ℕ} (l :
       → any (λ (n : ℕ). any (eqb n) (1 ∷ 2 ∷ 29 ∷ 30 ∷ [])) (34 ∷ ns) ≡ false → any (λ (n : ℕ). any (eqb n) (1 ∷ 2 ∷ 29 ∷ 30 ∷ 34 ∷ [])) ns ≡ false
       → Spares ns m order x
   spares {order = order} ns x f d e = record {
-    never = unsaid _ (34 ∷ ns) x d (f (34 ∷ []) (in-any-order order));
+    never = never-said _ (34 ∷ ns) x d (f (34 ∷ []) (in-any-order order));
     only = f (34 ∷ []) (in-any-order order);
-    never-plain = λ q. unsaid _ ns x e (f [] (rw q in-plain-order));
+    never-plain = λ q. never-said _ ns x e (f [] (rw q in-plain-order));
     only-plain = λ q. f [] (rw q in-plain-order);
   }
 

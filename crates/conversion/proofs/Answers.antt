@@ -48,7 +48,7 @@ convert-refused {from} {to} {b} {out} {r} e f = record {
   file = page-left r (fileOf to (contents from b)) out e f;
 }
 
--- THEOREM: the numbers that a converter can say. Going up it says neither 32 nor 33 (`up-never`), nor 31 (`never-31`)
+-- THEOREM: the numbers that a converter can say. Going up it says neither 32 nor 33 (`up-never`), nor, since it then says what the reader of version 1 says, 31
 pub convert-numbers : {from to : Layout} {b : List ℕ} {r : Conversion} {out out′ : List ℕ} → ConvertPost from to b r out out′
     → saysOnly (20 ∷ 21 ∷ 22 ∷ 24 ∷ 23 ∷ 31 ∷ 25 ∷ 26 ∷ 27 ∷ 32 ∷ 33 ∷ 15 ∷ []) (convertReply r) ≡ true
 unfolding any refusal convertRefusal

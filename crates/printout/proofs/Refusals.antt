@@ -8,6 +8,7 @@ use borrow.Author.Tests.{ne-eqb}
 use lib.Dec.{eqb}
 use lib.ListN.{length}
 use lib.Pow.{pow-pos}
+use Rattle.base.specs.Lists.{any}
 use Rattle.itemset.proofs.Laws.{lt-below}
 use Rattle.zdd.specs.Table.{Family, nodesOf}
 use Rattle.zdd.specs.Branches.{missing}
@@ -18,13 +19,16 @@ use Rattle.exact_cover.specs.Steps.{steps}
 use Rattle.statement.specs.Examples.{allItems}
 use Rattle.statement.specs.Calls.{coverRefusal}
 use Rattle.statement.specs.Refusals.{Fit, firstOf, unsound, unknownItem, spent, full, uncountable}
+use Rattle.statement.specs.Replies.{reply, saysOnly}
 use Rattle.statement.proofs.FirstOf.{pass, hit}
+use Rattle.statement.proofs.Sayable.{first-said, behind-said}
 use Rattle.statement.proofs.Admission.{table-passes}
 use Rattle.statement.proofs.TestLaws.{enough}
 use Rattle.bids.specs.Contents.{costsOf, problemIn}
 use Rattle.bids.specs.Format.{version1, schools, slots, contents, refusal}
 use Rattle.bids.proofs.Records.{school-count}
 use Rattle.bids.proofs.Fit.{accepted-fit}
+use Rattle.bids.proofs.Readings.{version1-says}
 use Rattle.printout.specs.Program.{unless, sheet, answerText, blank, solved, printed}
 
 -- the program's table is sound, and all items are items
@@ -37,7 +41,7 @@ unfolding unknownItem
 all-known m = ap not (lt-below (allItems m) m (omega (arith, pow-pos m)))
 
 -- what is left of cover's tests
-pub cover-left : (Q : Problem) (m : ℕ) → Fit Q m
+cover-left : (Q : Problem) (m : ℕ) → Fit Q m
     → coverRefusal Q m blank (allItems m) 1000000 3604
     ≡ firstOf ((spent Q (allItems m) 1000000 3604, 9) ∷ (full blank (covering Q (allItems m)), 10) ∷ [])
 cover-left Q m f = table-passes blank _ f (blank-sound Q) ∙ pass 7 _ (all-known m) ∙ pass 8 _ (enough 4 3604 (omega arith))
@@ -79,3 +83,10 @@ module _ (b : List ℕ) where
   printed-refusal =
       one-of (refusal version1 b) (coverRefusal Q m blank (allItems m) 1000000 3604) (spent Q (allItems m) 1000000 3604) (full blank F) (uncountable F) _
       (λ z. cover-left Q m (rw (← school-count version1 b) (accepted-fit version1 b z)))
+
+  -- THEOREM: which numbers that line can have
+  pub printed-numbers : saysOnly (9 ∷ 10 ∷ 11 ∷ 20 ∷ 21 ∷ 22 ∷ 24 ∷ 23 ∷ 25 ∷ 26 ∷ 27 ∷ []) (reply printedRefusal b) ≡ true
+  unfolding any
+  printed-numbers =
+      first-said (refusal version1 b) _ ((spent Q (allItems m) 1000000 3604, 9) ∷ (full blank F, 10) ∷ (uncountable F, 11) ∷ []) b
+      (behind-said (9 ∷ 10 ∷ 11 ∷ []) _ _ (version1-says b b)) refl

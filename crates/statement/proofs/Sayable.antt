@@ -98,7 +98,7 @@ unfolding any
 any-behind P [] ys e = e
 any-behind P (x ∷ xs) ys e = or-right (P x) (any P (xs ++ ys)) (any-behind P xs ys e)
 
-behind-said : {A : Type 0} (ms ns : List ℕ) (x : Reply A) → saysOnly ns x ≡ true → saysOnly (ms ++ ns) x ≡ true
+pub behind-said : {A : Type 0} (ms ns : List ℕ) (x : Reply A) → saysOnly ns x ≡ true → saysOnly (ms ++ ns) x ≡ true
 unfolding saysOnly
 behind-said ms ns (refused n) e = any-behind (eqb n) ms ns e
 behind-said ms ns (gives v) e = refl
@@ -110,16 +110,22 @@ unfolding saysOnly
 made-said {n = zero} ns e p = ap (saysOnly ns) (p .answered refl .outcome)
 made-said {n = suc n} ns e p = ap (saysOnly ns) (p .declined (omega arith) .outcome) ∙ e
 
+-- a number that is not the refusal's need not be among them
+pub one-fewer : {A : Type 0} (k : ℕ) (ns : List ℕ) (n : ℕ) (v : A) → (n ≡ k → ⊥) → saysOnly (k ∷ ns) (reply n v) ≡ true → saysOnly ns (reply n v) ≡ true
+unfolding any saysOnly
+one-fewer k ns zero v f e = refl
+one-fewer k ns (suc n) v f e = rw (ne-eqb (suc n) k f) at e
+
 -- numbers that are not among those that can be said are not said
-pub unsaid : {A : Type 0} (ms ns : List ℕ) (x : Reply A) → any (λ (n : ℕ). any (eqb n) ms) ns ≡ false → saysOnly ns x ≡ true → says ms x ≡ false
+pub never-said : {A : Type 0} (ms ns : List ℕ) (x : Reply A) → any (λ (n : ℕ). any (eqb n) ms) ns ≡ false → saysOnly ns x ≡ true → says ms x ≡ false
 unfolding any says saysOnly
-unsaid ms ns (gives v) d e = refl
-unsaid ms [] (refused n) d e = absurd (never e refl)
-unsaid {A} ms (k ∷ ns) (refused n) d e =
+never-said ms ns (gives v) d e = refl
+never-said ms [] (refused n) d e = absurd (never e refl)
+never-said {A} ms (k ∷ ns) (refused n) d e =
     let p = or-neither (any (eqb k) ms) (any (λ (i : ℕ). any (eqb i) ms) ns) d in
     by-test (eqb n k)
     (λ (q : eqb n k ≡ true). rw (eqb-true n k q) (p .0))
-    (λ (q : eqb n k ≡ false). unsaid {A = A} ms ns (refused n) (p .1) (rw q at e))
+    (λ (q : eqb n k ≡ false). never-said {A = A} ms ns (refused n) (p .1) (rw q at e))
 
 -- ---- the calls
 
