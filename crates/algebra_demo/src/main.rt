@@ -3,6 +3,8 @@
 // lent in the plain order.
 //
 // Tables and packages go by value, and cases are rows of a table: a proof is as long as there are borrows and calls.
+#![tactic(auto)]
+
 ghost use Rattle.std.specs.Prelude.{◌≤◌, ◌<◌};
 
 use itemset::Items;

@@ -1,6 +1,8 @@
 // The reader of bids files of both versions. It stands above the engine and knows its contracts only. A cursor is a place in the file; its methods return
 // what stands there and the place past it. The tests for doubles compare each record with those before it: at most 64 schools and 512 packages.
 // Users call `read` and `read2`; the other public functions are for the crate `conversion`, which reads files as these do.
+#![tactic(auto)]
+
 ghost use Rattle.std.specs.Prelude.{◌≡◌, ◌&&◌, ◌+◌, ◌*◌, ◌%◌, ◌^◌, ◌<◌, ◌≤◌, eqb, length, take};
 ghost use Rattle.itemset.specs.Words.{spread};
 ghost use Rattle.statement.specs.Refusals.{first_of};

@@ -1,5 +1,7 @@
 // A chained bucket index in one array: for each bucket its greatest entry, and behind these, for each entry, the greatest entry of its bucket below it; 0 is none.
 // It knows nothing of what the entries are: the nodes of a table by a hash, the packages by their earliest compulsory item.
+#![tactic(auto)]
+
 ghost use Rattle.std.specs.Prelude.{◌≡◌, ◌+◌, ◌<◌, length};
 ghost use Rattle.buckets.specs.Chain.{inserted};
 

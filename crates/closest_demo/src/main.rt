@@ -1,6 +1,8 @@
 // The timetable closest to a given one by the public calls: the figure of document 000, each refusal, another order, equal packages, optional items, and a list of
 // 512 packages. After a cover's line each line gives the list, the answer, the working words and the page's places, and then how many packages closest wrote and
 // the difference, or the refusal; the first five places of the page, all 9 before the call, come last.
+#![tactic(auto)]
+
 use itemset::Items;
 use statement::Compared;
 use weeks::Week;

@@ -11,6 +11,8 @@
 // and the number of its covers. A set's place is carried along: what a package leaves of the set has its place by one subtraction, so that no step
 // divides. limit is document 01's B. Steps depend on the item sets alone, so a search that finds no room in the table goes on, makes
 // nothing more, and its count of steps stays right: spent is told before full.
+#![tactic(auto)]
+
 ghost use Rattle.std.specs.Prelude.{◌≡◌, true, false, ℕ, ◌+◌, ◌-◌, ◌*◌, ◌/◌, ◌^◌, ◌<◌, ◌≤◌, map, length, take};
 ghost use Rattle.compile.specs.State.{Packs, Searchable, Searched, Tried, Listed, NoPacks, Enlisted, Unkeyed, Sought, Covered};
 ghost use Rattle.itemset.specs.Items.{lowest, without};

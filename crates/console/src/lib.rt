@@ -1,4 +1,6 @@
 // The programs' input and output: from a file descriptor to standard output. A read that fails counts as the end of the file.
+#![tactic(auto)]
+
 ghost use Rattle.std.specs.Prelude.{◌≤◌, length, take};
 ghost use Rattle.printout.specs.Program.{PrintedFor};
 ghost use Rattle.printout.specs.Written.{Whole};

@@ -1,5 +1,7 @@
 // Bids files from one version to the other. What a file says is read by the reader's own functions and written in the other layout, record by record,
 // straight to the lent buffer; the check is computed of what was written.
+#![tactic(auto)]
+
 ghost use Rattle.std.specs.Prelude.{◌≡◌, ◌+◌, ◌*◌, ◌≤◌, length};
 ghost use Rattle.statement.specs.Refusals.{first_of};
 ghost use Rattle.statement.specs.Postconditions.{written};

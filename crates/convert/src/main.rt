@@ -1,4 +1,6 @@
 // The bids file on standard input in the other version: version 1 to version 2, and version 2 to version 1.
+#![tactic(auto)]
+
 fn main() {
     console::convert(0);
 }

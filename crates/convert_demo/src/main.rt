@@ -1,5 +1,7 @@
 // The files of data/, of both versions, and one for each refusal: a line gives what each reader and each converter says to the file. Of a file that is converted
 // the bytes of the other one follow, and whether the way back restores it, and then what is said and done with a buffer that is a byte too short.
+#![tactic(auto)]
+
 ghost use Rattle.std.specs.Prelude.{◌≤◌};
 
 use bids::Reading;

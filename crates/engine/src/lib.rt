@@ -3,6 +3,8 @@
 //
 // m is M, packages the N item sets, three words each, optional the items that need not be covered, order a list of the m items, each once, by which one is
 // earlier than another; t has the table's words, work are the working words, whose contents before a call do not matter.
+#![tactic(auto)]
+
 ghost use Rattle.std.specs.Prelude.{◌≡◌, ℕ, ◌+◌, ◌≤◌, ◌<◌, max, List, length};
 ghost use Rattle.base.specs.Lists.{any};
 ghost use Rattle.itemset.specs.Words.{value, sets_of};

@@ -1,5 +1,7 @@
 // Exact cover: definitions in specs/, laws in proofs/. Here: the packages and the order as they are lent, the positions of items in the order, the keys by
 // which the node table knows packages, and the packages that remain after a withdrawal.
+#![tactic(auto)]
+
 ghost use Rattle.std.specs.Prelude.{true, ◌&&◌, ◌≡◌, ℕ, ◌+◌, ◌*◌, ◌^◌, ◌<◌, ◌≤◌, eqb, ltb, length, get_or};
 ghost use Rattle.itemset.specs.Items.{without};
 ghost use Rattle.itemset.specs.Words.{width, value, sets_of};

@@ -1,4 +1,6 @@
 // Union, intersection, difference, join, and the sets with and without a label, on a sound table.
+#![tactic(auto)]
+
 ghost use Rattle.std.specs.Prelude.{◌≡◌, ℕ, suc, ◌+◌, ◌-◌, ◌*◌, ◌/◌, ◌%◌, ◌<◌, ◌≤◌, length, get_or, set};
 ghost use Rattle.zdd.specs.Table.{node, blank, count, nodes_of, family, Sound, Keys};
 ghost use Rattle.table.specs.State.{Indexed};

@@ -1,5 +1,7 @@
 // Refusals 1, 2, 29, 30 and 34 (the packages, the optional set and the order) and 4 (the table), which every call tests first; and with them the keys of the
 // packages and the index of the nodes.
+#![tactic(auto)]
+
 ghost use Rattle.std.specs.Prelude.{◌≡◌, false, not, List, [], ◌∷◌, ℕ, ◌≤◌};
 ghost use Rattle.itemset.specs.Words.{value, sets_of};
 ghost use Rattle.exact_cover.specs.Problem.{problem_of, Rows};

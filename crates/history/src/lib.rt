@@ -1,5 +1,7 @@
 // A runner of histories: it makes the calls of a lent script, one after the other, on one table, and its `ensures` states the third demand of what it ran,
 // and that the table has no spare node. Histories, the ledger and the two claims are in specs/Histories, the script's words in specs/Script.
+#![tactic(auto)]
+
 ghost use Rattle.std.specs.Prelude.{◌≡◌, true, ℕ, ◌/◌, ◌<◌, length, set, replicate};
 ghost use Rattle.itemset.specs.Words.{value};
 ghost use Rattle.zdd.specs.Table.{count};

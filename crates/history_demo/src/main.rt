@@ -1,6 +1,8 @@
 // Runs a script of calls on Figure 1 of document 000 through the runner, on tables and working words of several lengths, and prints each report.
 // A second script has calls on four packages one of whose items is optional, and a third calls on the figure in another order than the plain one, and with an order
 // that is none. Two more have joins among the calls.
+#![tactic(auto)]
+
 ghost use Rattle.std.specs.Prelude.{◌≤◌};
 
 use itemset::Items;

@@ -1,4 +1,6 @@
 // Sets of at most 192 items, one bit each: item i is bit i % 64 of word i / 64.
+#![tactic(auto)]
+
 ghost use Rattle.std.specs.Prelude.{◌≡◌, ◌+◌, ◌*◌, ◌^◌, ◌%◌, ◌-◌, ◌<◌, ◌≤◌, min, eqb, length, get_or, take, drop};
 ghost use Rattle.std.proofs.lemmas.List.Edits.{sets};
 ghost use Rattle.itemset.specs.Items.{holds, insideb, apartb, belowb};

@@ -1,6 +1,8 @@
 // Two weeks planned apart and joined by the public calls: when a join answers and how it is refused, two boards of dominoes, and more timetables than count can
 // tell. A line gives the answer, nodes made, steps, timetables and the first of these in quotes, or the refusal; where only count refuses, its refusal stands behind
 // the steps. A join's line begins with the two answers, the table's free places and the working words, and ends with whether the table is unchanged.
+#![tactic(auto)]
+
 ghost use Rattle.std.specs.Prelude.{◌<◌};
 
 use itemset::Items;

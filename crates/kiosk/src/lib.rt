@@ -2,6 +2,8 @@
 // calls of `engine` promise of the table whose words are that number and then the triples' (`statement`'s specs/Kiosk).
 //
 // The three functions that take a `&[Node]` are walks by hand: `flatten`, `check` and `count`. What is decided is decided below them, on words.
+#![tactic(auto)]
+
 ghost use Rattle.std.specs.Prelude.{◌≡◌, length};
 ghost use Rattle.itemset.specs.Words.{value};
 ghost use Rattle.exact_cover.specs.Problem.{problem_of};

@@ -1,5 +1,7 @@
 // The kiosk's two calls on lists of triples, good and damaged, with optional items, and in the plain order and others: Figure 1 of document 000, whose answer is number 5
 // and holds two timetables.
+#![tactic(auto)]
+
 ghost use Rattle.std.specs.Prelude.{◌≤◌, length};
 ghost use Rattle.itemset.specs.Words.{value};
 ghost use Rattle.exact_cover.specs.Problem.{problem_of};

@@ -2,6 +2,8 @@
 //
 // The low words and the numbers stand in the first half, the high words in the second, which only sets with items of 64 or above touch: a week of at
 // most 64 items clears and reads two words a place.
+#![tactic(auto)]
+
 ghost use Rattle.std.specs.Prelude.{◌≡◌, ◌+◌, ◌*◌, ◌<◌, ◌≤◌, eqb, length};
 ghost use Rattle.itemset.specs.Words.{value};
 ghost use Rattle.memo.specs.Memo.{key_at, number_at, Stored, Cleared};

@@ -1,6 +1,8 @@
 // Runs a history on the program's example file of document 01 through the runner, on tables of three lengths, and lists the table that it leaves: each node
 // with the answers that it is below. A table with room for just the nodes made answers as a longer one does, and with room for one fewer a call is refused.
 // Among the calls is one that is refused always: a search cut short by its limit, whose nodes are gone again. The items are lent in the plain order.
+#![tactic(auto)]
+
 ghost use Rattle.std.specs.Prelude.{◌≤◌, ◌<◌};
 
 use itemset::Items;

@@ -1,5 +1,7 @@
 // Weeks with optional items by the public calls: small weeks in one word and over all three, refusals 29 and 30, and queens, whose diagonals are optional.
 // The items are lent in the plain order. A line gives the answer of cover, nodes made, steps, timetables and the first three of these in quotes, or the refusal.
+#![tactic(auto)]
+
 ghost use Rattle.std.specs.Prelude.{◌+◌, ◌*◌, ◌≤◌, ◌<◌, length};
 
 use itemset::Items;

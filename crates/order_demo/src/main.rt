@@ -1,5 +1,7 @@
 // Weeks in lent orders by the public calls: small weeks in one word and over all three, one order throughout, refusal 34, and what the order is for. A line gives
 // the answer of cover, nodes made, steps, timetables and the first of these in quotes, or the refusal.
+#![tactic(auto)]
+
 ghost use Rattle.std.specs.Prelude.{◌≤◌, ◌<◌};
 
 use itemset::Items;

@@ -1,5 +1,7 @@
 // The program's text: from the bytes of a bids file to the lines of document 01. It goes to a lent buffer, each part behind the last; a function that
 // puts text takes the place where it begins and returns the place past it.
+#![tactic(auto)]
+
 ghost use Rattle.std.specs.Prelude.{◌≡◌, [], ◌∷◌, ◌++◌, ℕ, suc, ◌+◌, ◌^◌, ◌<◌, ◌≤◌, min, length, get_or};
 ghost use Rattle.itemset.specs.Words.{value, sets_of};
 ghost use Rattle.exact_cover.specs.Problem.{problem_of};

@@ -1,5 +1,7 @@
 // Questions to a sound table: how many sets a number holds, which is the k-th and how long it is, where a set stands, which is the cheapest, and which is closest to
 // a given one.
+#![tactic(auto)]
+
 ghost use Rattle.std.specs.Prelude.{◌≡◌, true, false, ◌++◌, ℕ, ◌+◌, ◌-◌, ◌*◌, ◌<◌, ◌≤◌, min, length, get_or, drop};
 ghost use Rattle.zdd.specs.Table.{count as nodes};
 ghost use Rattle.query.specs.Questions.{family_at, nth, cost, cheapest as cheapestOf, difference, closest as closestOf, any_unknown, in_precedence};

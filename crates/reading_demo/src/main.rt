@@ -4,6 +4,8 @@
 // The first table is Figure 1 of document 000: number 5 holds "0 2" and "1 4 2". The second holds chains over 66 packages: number j from 2 to 67
 // holds all 2^(j - 1) subsets of the last j - 1 packages, and number 67 + i the 2^i - 1 non-empty ones of the last i, for i from 1 to 65. The third is one path
 // over 512 packages: number 513 holds the one timetable of them all.
+#![tactic(auto)]
+
 ghost use Rattle.std.specs.Prelude.{◌≤◌};
 
 use itemset::Items;

@@ -1,6 +1,8 @@
 // What the engine can still refuse of weeks that are read from bids files. Of a week as its reader gives it no call says 1, 2, 29 or 30, nor 34 in the plain
 // order (document 02, No. 12); each of the other numbers is met here. week1 is document 01's example, week2 the same in version 2 with slot 1 optional. Each
 // line behind their covers is a call in which one thing is wrong, in the order of the tests. The week `many` has 2^64 timetables, one more than count can tell.
+#![tactic(auto)]
+
 use bids::Reading;
 use itemset::Items;
 use statement::{Call, Outcome, Picked, Placed, Report, Soundness};

@@ -1,6 +1,8 @@
 // Runs the soundness check over hand-made tables, good and damaged, and prints 0 for sound or the number of the refusal.
 //
 // Cases are rows of a table that one loop goes through, and packages and tables go by value: a proof grows with the calls and what each borrows.
+#![tactic(auto)]
+
 ghost use Rattle.std.specs.Prelude.{◌≤◌, ◌<◌};
 
 use itemset::Items;

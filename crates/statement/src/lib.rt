@@ -1,6 +1,8 @@
 // The public calls' arguments and answers. What a call promises is in specs/: `Refusals` (when it is refused), `Calls` (the calls that make an answer),
 // `Postconditions` (one record for each call). The demand
 // on a list of calls is in the crate `history`.
+#![tactic(auto)]
+
 ghost use Rattle.std.specs.Prelude.{List, ℕ};
 ghost use Rattle.statement.specs.Postconditions.{Declined};
 

@@ -1,5 +1,7 @@
 // Refusal 35: whether the packages on the nodes below two answers have an item in common. The items of the packages on the nodes below one answer, its own
 // node included, are its support.
+#![tactic(auto)]
+
 ghost use Rattle.std.specs.Prelude.{◌≡◌, List, ℕ, ◌+◌, ◌<◌, length, get_or};
 ghost use Rattle.itemset.specs.Words.{value, sets_of};
 ghost use Rattle.zdd.specs.Table.{count, nodes_of};

@@ -1,4 +1,6 @@
 // The node table under every operation: the soundness test that builds the node index, find or make, and rollback. The index has 65536 buckets.
+#![tactic(auto)]
+
 ghost use Rattle.std.specs.Prelude.{◌≡◌, ℕ, suc, ◌+◌, ◌-◌, ◌*◌, ◌<◌, ◌≤◌, length, get_or, set};
 ghost use Rattle.zdd.specs.Table.{node, blank, count, nodes_of, Over, Fine};
 ghost use Rattle.table.specs.State.{Tells, hash_of, Room, Fresh, IndexedTo, Indexed, Found, Labelled, Entered, Checked, Absent, Unique, Rolled};

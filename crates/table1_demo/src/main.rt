@@ -1,4 +1,6 @@
 // Three instances of document 000's Table 1, covered and counted by the public calls in the plain order of the items: nodes made, steps, timetables.
+#![tactic(auto)]
+
 ghost use Rattle.std.specs.Prelude.{◌≤◌};
 
 use itemset::Items;

@@ -1,4 +1,6 @@
 // What the program prints for the files of data/: one for each refusal, and some that are answered.
+#![tactic(auto)]
+
 fn case(name: &[u8]) {
     io::write_all(1, name);
     io::write_all(1, b"\n");

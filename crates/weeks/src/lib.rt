@@ -1,5 +1,7 @@
 // What programs that show weeks by the public calls share: a cover in a lent order, and the line of a report. A line gives the answer, nodes made, steps,
 // timetables and the first of these in quotes, or the refusal; where only count refuses, its refusal stands behind the steps.
+#![tactic(auto)]
+
 ghost use Rattle.std.specs.Prelude.{◌≤◌};
 
 use itemset::Items;

@@ -1,5 +1,7 @@
 // Weeks of up to 192 items by the public calls, in the plain order: sets that reach over all three words, the limits of M, D, packages and working words, and
 // dominoes on more cells than one word has. A line gives nodes made, steps and timetables, or the refusal of cover.
+#![tactic(auto)]
+
 ghost use Rattle.std.specs.Prelude.{◌+◌, ◌*◌, ◌≤◌, ◌<◌, length};
 
 use itemset::Items;

@@ -1,5 +1,7 @@
 // Labels withdrawn from a sound table, in place: each listed answer becomes the number of what is left of it, in the new numbers of the labels that
 // remain, and no node stays that no listed answer needs.
+#![tactic(auto)]
+
 ghost use Rattle.std.specs.Prelude.{◌≡◌, ◌+◌, ◌<◌, ◌≤◌, length, get_or};
 ghost use Rattle.base.specs.Words.{Wiped};
 ghost use Rattle.zdd.specs.Table.{node, count, nodes_of, Sound};

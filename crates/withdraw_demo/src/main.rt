@@ -1,6 +1,8 @@
 // Packages withdrawn in mid-term, and room made, by the public calls: three packages of one item, on a table for six nodes. A withdrawal's line gives the withdrawn
 // packages, the listed answers and the working words, then the nodes left or the refusal, and the table's words or that they are unchanged; the lines behind it give
 // each listed answer, what stands in its place, and the timetables of that by the packages that remain.
+#![tactic(auto)]
+
 use itemset::Items;
 use statement::Withdrawal;
 use weeks::Week;
