@@ -102,9 +102,20 @@ def main():
 
     plain = {n for n, to in taken.items() if to == n + "_lem"}
 
+    def library(text):
+        """The names that a file takes from the library."""
+        lines = [u for u in re.findall(r"^use ([^;\n]+)", text, re.M) if not re.match(r"Rattle\.(%s)\." % "|".join(own_crates), u)]
+        return {w for u in lines for w in re.findall(r"[\w'\-]+", u)}
+
+    own_crates = sorted(os.listdir("crates"))
+
     def turn(text, lemmas=False):
+        outside = library(text)
+
         def one(m):
             name = m.group(2)
+            if name in outside:
+                return m.group(0)
             # a plain name that gets `_lem` is a lemma's only where a lemma is cited: not in a path, nor outside proofs
             if name in plain and (m.group(1) or not lemmas):
                 return m.group(0)

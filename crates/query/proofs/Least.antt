@@ -1,6 +1,6 @@
 -- The first listed of those that measure least in a node's family, from those of its children's. Assumes nothing.
 use mathlib.Core.Path.{◌≡◌, refl, sym, ap, ap₂, ◌∙◌, subst}
-use mathlib.Core.Bool.{Bool, true, false, cond, ◌&&◌, and_true}
+use mathlib.Core.Bool.{Bool, true, false, cond, ◌&&◌, and-true}
 use mathlib.Core.Logic.{◌⊎◌, inl, inr}
 use mathlib.Core.List.{List, [], ◌∷◌, ◌++◌, map, append-nil}
 use Prim.Native.Nat.{ℕ, ◌+◌, ◌≤◌, ◌<◌}
@@ -35,7 +35,7 @@ module _ (v : List ℕ → ℕ) where
 
   none_best : (x : ℕ) (u : List ℕ) (F : Family) → none_below v x (u ∷ F) ≡ leb x (v (best u F))
   unfolding none_below best
-  none_best x u [] = and_true (leb x (v u))
+  none_best x u [] = and-true (leb x (v u))
   none_best x u (w ∷ F) = ap (λ (b : Bool). leb x (v u) && b) (none_best x w F) ∙ go (cases (leb (v u) (v (best w F))))
     where
       go : (leb (v u) (v (best w F)) ≡ true) ⊎ (leb (v u) (v (best w F)) ≡ false)

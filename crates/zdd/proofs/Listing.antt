@@ -1,6 +1,6 @@
 -- THEOREM: every family of a sound table is a part of all sets, in their order; so families with the same sets are equal. Assumes nothing.
 use mathlib.Core.Path.{◌≡◌, refl, sym, ap, ap₂, ◌∙◌, subst}
-use mathlib.Core.Bool.{Bool, true, false, cond, ◌&&◌, ◌||◌, and_false}
+use mathlib.Core.Bool.{Bool, true, false, cond, ◌&&◌, ◌||◌, and-false}
 use mathlib.Core.List.Sublistᴰ
 use mathlib.Core.List.{List, [], ◌∷◌, ◌++◌, map, Sublistᴰ}
 use mathlib.Core.Logic.{◌⊎◌, inl, inr}
@@ -43,7 +43,7 @@ filter-part P (t ∷ F) = go (P t) (filter-part P F)
 
 pub elem-filter : (P : List ℕ → Bool) (t : List ℕ) (F : Family) → elem t (filter P F) ≡ (P t && elem t F)
 unfolding filter elem
-elem-filter P t [] = sym (and_false (P t))
+elem-filter P t [] = sym (and-false (P t))
 elem-filter P t (u ∷ F) = go (P u) (P t) (eq_set t u) refl (λ e. ap P (sym (eq_set_eq t u e))) (elem-filter P t F)
   where
     mix : (c d x : Bool) → (d ≡ true → true ≡ c) → (d || (c && x)) ≡ (c && (d || x))

@@ -1,6 +1,6 @@
 -- Membership of a set in a family, and families whose sets begin late. Assumes nothing.
 use mathlib.Core.Path.{◌≡◌, refl, sym, ap, ap₂, ◌∙◌, subst}
-use mathlib.Core.Bool.{Bool, true, false, ◌&&◌, ◌||◌, and_false, or_assoc, and-or_distrib_left}
+use mathlib.Core.Bool.{Bool, true, false, ◌&&◌, ◌||◌, and-false, or_assoc, and-or_distrib_left}
 use mathlib.Core.List.Memᴰ
 use mathlib.Core.List.{List, [], ◌∷◌, ◌++◌, map}
 use mathlib.Core.Logic.{◌⊎◌, inl, inr, ⊎_elim}
@@ -70,7 +70,7 @@ elem-nil-map p (u ∷ F) = elem-nil-map p F
 
 pub elem-cons-map : (p q : ℕ) (t : List ℕ) (F : Family) → elem (q ∷ t) (map (λ (t : List ℕ). p ∷ t) F) ≡ (eqb q p && elem t F)
 unfolding elem
-elem-cons-map p q t [] = sym (and_false (eqb q p))
+elem-cons-map p q t [] = sym (and-false (eqb q p))
 elem-cons-map p q t (u ∷ F) =
     ap (λ (b : Bool). (eqb q p && eq_set t u) || b) (elem-cons-map p q t F) ∙ sym (and-or_distrib_left (eqb q p) (eq_set t u) (elem t F))
 

@@ -1,7 +1,7 @@
 -- The operations on families, each a filter of all sets by a test on membership in the two families, and their equations by label.
 -- Assumes nothing.
 use mathlib.Core.Path.{◌≡◌, refl, sym, ap, ap₂, ◌∙◌, subst}
-use mathlib.Core.Bool.{Bool, true, false, ◌&&◌, ◌||◌, and_self, or_self, and-not_self, or-false, and_true, and_false}
+use mathlib.Core.Bool.{Bool, true, false, ◌&&◌, ◌||◌, and_self, or_self, and-not_self, or-false, and-true, and-false}
 use mathlib.Core.List.{List, [], ◌∷◌}
 use mathlib.Core.Logic.{◌⊎◌, inl, inr}
 use Prim.Native.Nat.{ℕ, suc, ◌≤◌, ◌<◌}
@@ -128,7 +128,7 @@ module _ (K : List ℕ) (k : Keys K) (F : Family) (f : Listed K F) where
 
   pub inter-nil : inter K F [] ≡ []
   unfolding elem
-  inter-nil = combine-none ◌&&◌ K refl k F [] f (listed_nil K) (λ t. and_false (elem t F))
+  inter-nil = combine-none ◌&&◌ K refl k F [] f (listed_nil K) (λ t. and-false (elem t F))
 
   pub nil-inter : inter K [] F ≡ []
   unfolding elem
@@ -139,7 +139,7 @@ module _ (K : List ℕ) (k : Keys K) (F : Family) (f : Listed K F) where
 
   pub differ-nil : differ K F [] ≡ F
   unfolding elem
-  differ-nil = combine-first minus K refl k F [] f (listed_nil K) (λ t. and_true (elem t F))
+  differ-nil = combine-first minus K refl k F [] f (listed_nil K) (λ t. and-true (elem t F))
 
   pub nil-differ : differ K [] F ≡ []
   unfolding elem

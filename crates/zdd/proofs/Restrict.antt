@@ -1,6 +1,6 @@
 -- The sets of a family that hold a label, and those that do not, by the first label. Assumes nothing.
 use mathlib.Core.Path.{◌≡◌, refl, sym, ap, ap₂, ◌∙◌, subst}
-use mathlib.Core.Bool.{Bool, true, false, not, ◌&&◌, ◌||◌, and_true, and_false, and-or_distrib_right}
+use mathlib.Core.Bool.{Bool, true, false, not, ◌&&◌, ◌||◌, and-true, and-false, and-or_distrib_right}
 use mathlib.Core.List.{List, [], ◌∷◌}
 use mathlib.Core.Logic.{◌⊎◌, inl, inr}
 use Prim.Native.Nat.{ℕ, suc, ◌≤◌, ◌<◌}
@@ -70,12 +70,12 @@ keep_same P Q K F h = filter_same (λ t. elem t F && P t) (λ t. elem t F && Q t
 pub keep_all : (P : List ℕ → Bool) (K : List ℕ) → Keys K → (F : Family) → Listed K F → ((t : List ℕ) → elem t F ≡ true → P t ≡ true) → keep P K F ≡ F
 keep_all P K k F f h =
     listed_same K k (keep P K F) F (listed-keep P K F) f
-    (λ t. elem-keep P K F f t ∙ both-same (elem t F) (P t) true (h t) ∙ and_true (elem t F))
+    (λ t. elem-keep P K F f t ∙ both-same (elem t F) (P t) true (h t) ∙ and-true (elem t F))
 
 pub keep-none : (P : List ℕ → Bool) (K : List ℕ) (F : Family) → ((t : List ℕ) → elem t F ≡ true → P t ≡ false) → keep P K F ≡ []
 unfolding keep
 keep-none P K F h =
-    filter_same (λ t. elem t F && P t) (λ t. false) (sets K) (λ t m. both-same (elem t F) (P t) false (h t) ∙ and_false (elem t F)) ∙ filter_none (sets K)
+    filter_same (λ t. elem t F && P t) (λ t. false) (sets K) (λ t m. both-same (elem t F) (P t) false (h t) ∙ and-false (elem t F)) ∙ filter_none (sets K)
 
 -- ---- the labels of sets that begin late
 
