@@ -119,7 +119,7 @@ fn call(
 }
 
 // M, how many packages and words of the table are lent, the call with its operands, and how many working words.
-#[derive(Drop)]
+#[derive(Clone, Copy)]
 struct Question {
     m: u32,
     packages: usize,
@@ -130,7 +130,7 @@ struct Question {
     words: usize,
 }
 
-#[derive(Drop)]
+#[derive(Clone, Copy)]
 struct Reply {
     table: [u32; 12001],
     answer: u32,
@@ -192,7 +192,7 @@ fn compare(made: u32, before: u64, after: u64) {
     }
 }
 
-#[derive(Drop)]
+#[derive(Clone, Copy)]
 struct Tried {
     table: [u32; 12001],
     answer: u32,

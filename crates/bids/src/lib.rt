@@ -17,7 +17,7 @@ ghost use Rattle.bids.specs.Contract.{Legible, FieldPost, SchoolPost, PackagePos
 use itemset::Items;
 
 // What the versions differ in: the version's number, the bytes before the first school's record, and the bytes of a site.
-#[derive(Drop)]
+#[derive(Clone, Copy)]
 pub struct Layout {
     pub version: u64,
     pub header: usize,
@@ -25,19 +25,19 @@ pub struct Layout {
 }
 
 // The reader's place in the file.
-#[derive(Drop)]
+#[derive(Clone, Copy)]
 pub struct Cursor {
     pub at: usize,
 }
 
 // A number and the place past it.
-#[derive(Drop)]
+#[derive(Clone, Copy)]
 pub struct Field {
     pub value: u64,
     pub next: Cursor,
 }
 
-#[derive(Drop)]
+#[derive(Clone, Copy)]
 pub struct Header {
     pub marked: bool,
     pub version: u64,
@@ -47,33 +47,33 @@ pub struct Header {
 }
 
 // A school is known by its site and its number together.
-#[derive(Drop)]
+#[derive(Clone, Copy)]
 pub struct School {
     pub site: u64,
     pub number: u64,
 }
 
-#[derive(Drop)]
+#[derive(Clone, Copy)]
 pub struct Package {
     pub school: School,
     pub slots: u64,
     pub cost: u64,
 }
 
-#[derive(Drop)]
+#[derive(Clone, Copy)]
 pub struct SchoolRecord {
     pub school: School,
     pub next: Cursor,
 }
 
-#[derive(Drop)]
+#[derive(Clone, Copy)]
 pub struct PackageRecord {
     pub bid: Package,
     pub next: Cursor,
 }
 
 // What the reader returns: S, T, N and the optional items, or the number of the refusal.
-#[derive(Drop)]
+#[derive(Clone, Copy)]
 pub enum Reading {
     Accepted {
         schools: u32,

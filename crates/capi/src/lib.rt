@@ -23,7 +23,7 @@ use statement::{
 
 // What the calls that make an answer return. In each struct a refusal of 0 means that the call answered.
 #[repr(C)]
-#[derive(Drop)]
+#[derive(Clone, Copy)]
 pub struct Report {
     pub refusal: u32,
     pub answer: u32,
@@ -33,7 +33,7 @@ pub struct Report {
 
 // What count, measure, place, withdraw and the converters of bids files return.
 #[repr(C)]
-#[derive(Drop)]
+#[derive(Clone, Copy)]
 pub struct Number {
     pub refusal: u32,
     pub value: u64,
@@ -41,7 +41,7 @@ pub struct Number {
 
 // What pick and cheapest return: how many packages they wrote, and from cheapest their cost.
 #[repr(C)]
-#[derive(Drop)]
+#[derive(Clone, Copy)]
 pub struct Timetable {
     pub refusal: u32,
     pub cost: u32,
@@ -50,7 +50,7 @@ pub struct Timetable {
 
 // What closest returns: how many packages it wrote, and in how many they and the given timetable differ.
 #[repr(C)]
-#[derive(Drop)]
+#[derive(Clone, Copy)]
 pub struct Comparison {
     pub refusal: u32,
     pub difference: u32,
@@ -59,7 +59,7 @@ pub struct Comparison {
 
 // What the readers of bids files return: S, T, N and the optional items.
 #[repr(C)]
-#[derive(Drop)]
+#[derive(Clone, Copy)]
 pub struct Bids {
     pub refusal: u32,
     pub schools: u32,

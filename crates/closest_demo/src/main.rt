@@ -37,7 +37,7 @@ fn print_compared(r: Compared) {
 // ---- one question
 
 // The answer, how many working words are lent, and how many places of the page.
-#[derive(Drop)]
+#[derive(Clone, Copy)]
 struct Case {
     answer: u32,
     words: usize,
@@ -144,7 +144,7 @@ fn given(packages: &[u64], w: Week, order: &[u8], t: &[u32], row: usize) {
 }
 
 // Some rows one after the other.
-#[derive(Drop)]
+#[derive(Clone, Copy)]
 struct Rows {
     first: usize,
     end: usize,

@@ -26,7 +26,7 @@ ghost use Rattle.table.specs.State.{Indexed};
 use itemset::Items;
 
 // A search's state: the number of the answer so far, the entries so far, whether the table had no room, whether the limit was met.
-#[derive(Drop)]
+#[derive(Clone, Copy)]
 pub struct Run {
     pub answer: u32,
     pub steps: u64,
@@ -369,7 +369,7 @@ fn seek(
 
 // What cover answers: over where the steps exceed the limit, else full where the nodes outnumber the free places; else the answer, the steps and the
 // nodes made.
-#[derive(Drop)]
+#[derive(Clone, Copy)]
 pub struct Answer {
     pub answer: u32,
     pub steps: u64,

@@ -14,7 +14,7 @@ ghost use Rattle.conversion.specs.Contract.{wide_site, lost_tests, says2, own_la
 use bids::{Cursor, Header, Layout, Package, School};
 
 // What a converter returns: the length written, or the number of the refusal.
-#[derive(Drop)]
+#[derive(Clone, Copy)]
 pub enum Conversion {
     Written(usize),
     Refused(u8),

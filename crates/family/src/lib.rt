@@ -254,7 +254,7 @@ fn top(t: &[u32], keys: &[u32], f: u32) -> u64
     base::widened(keys[at])
 }
 
-#[derive(Drop)]
+#[derive(Clone, Copy)]
 struct Parts {
     label: u32,
     f1: u32,

@@ -16,7 +16,7 @@ use itemset::Items;
 use statement::{Call, Outcome, Report};
 
 // The words of one call in a script: see `call_of`.
-#[derive(Drop)]
+#[derive(Clone, Copy)]
 pub struct Request {
     pub kind: u64,
     pub m: u64,

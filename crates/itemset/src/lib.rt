@@ -8,7 +8,7 @@ ghost use Rattle.itemset.specs.Items as I;
 ghost use Rattle.itemset.specs.Words.{width, value, value_of, words_of};
 
 // A set: three words, lowest first.
-#[derive(Drop)]
+#[derive(Clone, Copy)]
 pub struct Items {
     pub w0: u64,
     pub w1: u64,

@@ -11,7 +11,7 @@ use weeks::Week;
 // ---- one join
 
 // The operands, how many places of the table are lent behind its nodes, and how many working words.
-#[derive(Drop)]
+#[derive(Clone, Copy)]
 struct Case {
     a: u32,
     b: u32,
@@ -131,7 +131,7 @@ fn row(i: usize) -> Case {
 }
 
 // The items of the two halves, and the rows of the joins.
-#[derive(Drop)]
+#[derive(Clone, Copy)]
 struct Halves {
     first: Items,
     second: Items,

@@ -17,7 +17,7 @@ use statement::{Counted, Soundness};
 
 // A triple of the list: a branch node, or all 0.
 #[repr(C)]
-#[derive(Drop)]
+#[derive(Clone, Copy)]
 pub struct Node {
     pub label: u32,
     pub lo: u32,

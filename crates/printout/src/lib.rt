@@ -259,7 +259,7 @@ fn put_last(
 }
 
 // What was compiled: s schools and t slots, the answer's number, and the report's counts.
-#[derive(Drop)]
+#[derive(Clone, Copy)]
 struct Compiled {
     s: u32,
     t: u32,

@@ -10,21 +10,21 @@ ghost use Rattle.query.specs.Reading.{Priceable, Comparable, weight, lightest as
 ghost use Rattle.query.specs.Answers.{Told, Wrote, PlaceFound, Weighed};
 
 // How many: the number, or more than 64 bits hold.
-#[derive(Drop)]
+#[derive(Clone, Copy)]
 pub enum Tally {
     Exactly(u64),
     TooMany,
 }
 
 // How many packages were written to the page, or the page is too short.
-#[derive(Drop)]
+#[derive(Clone, Copy)]
 pub enum Written {
     Packages(usize),
     Short,
 }
 
 // Where a set stands in the listing, from 0.
-#[derive(Drop)]
+#[derive(Clone, Copy)]
 pub enum Spot {
     At(u64),
     Absent,
@@ -32,14 +32,14 @@ pub enum Spot {
 
 // How many packages the lightest set has, which were written to the page, and its weight: for `cheapest` its cost, for `closest` its difference; or the
 // page is too short.
-#[derive(Drop)]
+#[derive(Clone, Copy)]
 pub enum Chosen {
     Found { packages: usize, weight: u32 },
     NoRoom,
 }
 
 // How a set is weighed: from `start` on, each package adds what the weights have for it, less `bias`.
-#[derive(Drop)]
+#[derive(Clone, Copy)]
 pub struct Scale {
     pub start: u64,
     pub bias: u64,

@@ -242,7 +242,7 @@ const COSTS: [[u16; 5]; 5] = [
     [1, 1, 1, 1, 1],
 ];
 
-#[derive(Drop)]
+#[derive(Clone, Copy)]
 struct Case {
     call: usize,
     table: usize,

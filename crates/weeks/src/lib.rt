@@ -18,7 +18,7 @@ pub fn least(x: usize, y: usize) -> usize
 }
 
 // What cover is lent besides packages, order and table; `words` is how many working words, `shown` how many timetables are printed.
-#[derive(Drop)]
+#[derive(Clone, Copy)]
 pub struct Week {
     pub m: u32,
     pub optional: Items,

@@ -120,7 +120,7 @@ const CASES: [[u16; 12]; 13] = [
 ];
 
 // How many working words, packages and answers a row has.
-#[derive(Drop)]
+#[derive(Clone, Copy)]
 struct Case {
     words: usize,
     gone: usize,
