@@ -1,7 +1,7 @@
 -- Facts about sets, one time each, over a list of words of any length: `value_of ws` is the set that the words ws are, lowest first. The functions of
 -- src/ cite them at a list of three. Assumes nothing.
 use mathlib.Core.Path.{◌≡◌, refl, sym, ap, ◌∙◌}
-use mathlib.Core.Bool.{Bool, true, false, ◌&&◌, and_comm}
+use mathlib.Core.Bool.{Bool, true, ◌&&◌, and_comm}
 use mathlib.Core.List.{List, [], ◌∷◌}
 use Prim.Native.Nat.{ℕ, zero, suc, ◌+◌, ◌-◌, ◌*◌, ◌/◌, ◌%◌, ◌^◌, ◌≤◌, ◌<◌, min, zero-le}
 use mathlib.Core.Logic.{⊎_elim}
