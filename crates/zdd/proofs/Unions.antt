@@ -1,7 +1,7 @@
 -- Unions of sets. THEOREM `union_labels`, `labels_union`: s is the union of u and v exactly where its labels are those of u and those of v. Two sets have
 -- just one union among all sets, `merge`. Assumes nothing.
 use mathlib.Core.Path.{◌≡◌, refl, sym, ap, ◌∙◌}
-use mathlib.Core.Logic.{◌⊎◌, ⊎_elim}
+use mathlib.Core.Logic.{⊎_elim}
 use mathlib.Core.Bool.{Bool, true, false, cond, ◌&&◌, ◌||◌, or_assoc}
 use mathlib.Core.List.{List, [], ◌∷◌, ◌++◌}
 use Prim.Native.Nat.{ℕ}

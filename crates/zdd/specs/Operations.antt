@@ -1,5 +1,5 @@
 -- The operations on families: each is a filter of all sets, by membership in the operands' families. K has the labels' keys. Assumes nothing.
-use Rattle.std.specs.Prelude.{◌≡◌, Bool, true, false, not, ◌&&◌, ◌||◌, List, [], ◌∷◌, ◌++◌, ℕ}
+use Rattle.std.specs.Prelude.{◌≡◌, Bool, true, not, ◌&&◌, ◌||◌, List, [], ◌∷◌, ◌++◌, ℕ}
 use Rattle.base.specs.Lists.{any}
 use Rattle.zdd.specs.Table.{Family, sets, elem, has, filter}
 
