@@ -1,6 +1,6 @@
 -- How the code makes an order, looks at it, inverts it and takes a set to its positions. Assumes nothing.
 use mathlib.Core.Path.{◌≡◌, refl, sym, ap, ◌∙◌}
-use mathlib.Core.Bool.{Bool, true, false, not, ◌&&◌}
+use mathlib.Core.Bool.{Bool, true, false, ◌&&◌}
 use mathlib.Core.Logic.{⊎_elim}
 use mathlib.Core.List.{List, [], ◌∷◌}
 use Prim.Native.Nat.{ℕ, suc, ◌+◌, ◌^◌, ◌≤◌, ◌<◌}
@@ -12,7 +12,7 @@ use lib.Dec.{eqb, ltb}
 use lib.Pow.{pow_pos}
 use lib.ListN.{length, get_or, drop, set, length-set, drop_of_length-le}
 use lib.Seq.{drop-cons, get_or-set_same, get_or-set_other, ext_get_or}
-use borrow.Author.Tests.{not-true, not-false, eqb-true, eqb-false, eq-eqb, ne_eqb, ltb-true, ltb-false}
+use borrow.Author.Tests.{eqb-true, eqb-false, eq-eqb, ne_eqb, ltb-true, ltb-false}
 use Rattle.base.proofs.Bools.{by_test, same_test, and_left, and_right}
 use Rattle.itemset.specs.Items.{holds, insideb, without, union, lowest}
 use Rattle.itemset.specs.Words.{width}
@@ -182,12 +182,12 @@ module _ (order : List ℕ) (once : each_once (length order) order ≡ true) whe
         there = holds-positions order rest j l ∙ ap (λ (n : ℕ). holds n rest) back ∙ has
 
 -- the loop's test: an item is left, or none
-pub some_left : {b : Bool} {rest : ℕ} → b ≡ eqb rest 0 → not b ≡ true → 0 < rest
+pub some_left : {b : Bool} {rest : ℕ} → b ≡ eqb rest 0 → b ≡ false → 0 < rest
 some_left {b} {rest} e t =
-    ⊎_elim (λ (z : rest ≡ 0). absurd (eqb-false rest 0 (sym e ∙ not-true b t) z)) (λ (l : 0 < rest). l) (eq-zero-or-pos rest)
+    ⊎_elim (λ (z : rest ≡ 0). absurd (eqb-false rest 0 (sym e ∙ t) z)) (λ (l : 0 < rest). l) (eq-zero-or-pos rest)
 
-pub none_left : {b : Bool} {rest : ℕ} → b ≡ eqb rest 0 → not b ≡ false → rest ≡ 0
-none_left {b} {rest} e f = eqb-true rest 0 (sym e ∙ not-false b f)
+pub none_left : {b : Bool} {rest : ℕ} → b ≡ eqb rest 0 → b ≡ true → rest ≡ 0
+none_left {b} {rest} e f = eqb-true rest 0 (sym e ∙ f)
 
 -- each item that is taken leaves a smaller number
 pub rest_falls : (rest i : ℕ) → 0 < rest → i ≡ lowest rest → without rest (2 ^ i) < rest

@@ -1,7 +1,7 @@
 -- THEOREMS: a problem in the positions of its order has the keys, the candidates and the covers of the problem itself. Assumes nothing.
 use mathlib.Core.Path.{◌≡◌, refl, sym, ap, ap₂, ◌∙◌}
 use mathlib.Core.Bool.{true, false, ◌&&◌}
-use mathlib.Core.List.{List, [], ◌∷◌, map}
+use mathlib.Core.List.{List, [], ◌∷◌}
 use Prim.Native.Nat.{ℕ, zero, suc, ◌*◌, ◌+◌, ◌^◌, ◌≤◌, ◌<◌}
 use native.Mathlib.Nat.{lt_of_lt_of_le, not-suc-le-zero, le_of_suc-le-suc}
 use native.Mathlib.Omega.{arith}
@@ -17,7 +17,6 @@ use Rattle.itemset.proofs.Laws.{holds_lt, without_lt}
 use Rattle.zdd.specs.Table.{filter, sets}
 use Rattle.exact_cover.specs.Problem.{Problem, row, compulsory, span, item_at, lead, done, each_once, Rows, up_to}
 use Rattle.exact_cover.specs.Cover.{keys_of, holders, all_inside, takes, covers, covering, fits, down, candidates}
-use Rattle.exact_cover.specs.Recursion.{rank}
 use Rattle.exact_cover.specs.Positions.{positions, in_plain_order, permuted}
 use Rattle.exact_cover.proofs.Lists.{filter_same}
 use Rattle.exact_cover.proofs.Orders.{length-count, plain_at, plain-once}

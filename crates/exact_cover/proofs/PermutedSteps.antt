@@ -15,7 +15,6 @@ use borrow.Author.Tests.{eqb-true, eq-eqb}
 use Rattle.base.proofs.Bools.{by_test, same_test, or_neither}
 use Rattle.base.proofs.Wiping.{zeros}
 use Rattle.itemset.specs.Items.{holds, insideb, without, size}
-use Rattle.itemset.specs.Words.{width}
 use Rattle.itemset.proofs.Lists.{width_is}
 use Rattle.itemset.proofs.Laws.{ext, without_lt}
 use Rattle.itemset.proofs.Places.{place_falls}
