@@ -1,7 +1,7 @@
 -- The laws of a table's index: it is empty at first, it takes one more number, and it goes by the nodes that it has alone. Assumes nothing.
 use mathlib.Core.Path.{◌≡◌, sym, ap, subst, ◌∙◌}
 use mathlib.Core.List.{List, ◌++◌}
-use Prim.Native.Nat.{ℕ, zero, ◌+◌, ◌-◌, ◌<◌, ◌≤◌}
+use Prim.Native.Nat.{ℕ, ◌+◌, ◌-◌, ◌<◌, ◌≤◌}
 use native.Mathlib.Omega.{arith}
 use lib.ListN.{length, get_or, length-set, get_or-append, replicate, length-replicate}
 use Rattle.base.proofs.Wiping.{zeros}

@@ -6,7 +6,7 @@ use Prim.Native.Nat.{ℕ, suc, ◌+◌, ◌-◌, ◌*◌, ◌<◌, ◌≤◌}
 use native.Mathlib.Omega.{arith}
 use lib.ListN.{length, get_or, set}
 use lib.Seq.{get_or_at}
-use Rattle.zdd.specs.Table.{Node, node, blank, Family, fork, count, capacity, nodes_of, family, Fine}
+use Rattle.zdd.specs.Table.{Node, blank, Family, fork, count, capacity, nodes_of, family, Fine}
 use Rattle.zdd.proofs.Grow.{family-node}
 use Rattle.zdd.proofs.Tested.{capacity_most, capacity-least}
 use Rattle.zdd.proofs.Words.{length-nodes, Appended, appended_nodes, appended_sound, stored}
