@@ -1,0 +1,15 @@
+use Rattle.query.proofs.Walks.{PickWalk, walk_start, walk_end, walk_inside, here, walk_hi, walk_lo}
+use Rattle.query.proofs.Parts.{branch}
+use Rattle.query.specs.Questions.{family_at, nth}
+use lib.ListN.{length}
+use native.Mathlib.Omega.{arith}
+use Prim.Native.Nat.{◌+◌, ◌≤◌}
+use mathlib.Core.Path.{◌≡◌, ap}
+use borrow.Author.Rules.{rules}
+use Rattle.query.proofs.measure.Given as goal
+
+abbrev pub invariant-loop-node : goal.invariant-loop-node
+invariant-loop-node l = PickWalk l.t l.a l.node l.rest l.n × (l.rest ≤ l.k) × (length (nth (family_at l.t l.a) l.k) ≡ l.n + length (nth (family_at l.t l.node) l.rest))
+
+abbrev pub decreases-loop-node : goal.decreases-loop-node
+decreases-loop-node l = l.node

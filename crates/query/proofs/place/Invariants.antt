@@ -1,0 +1,12 @@
+use Rattle.query.proofs.Seeks.{Seek, seek_start, seek-none, seek-more, seek_end, spot, seek-hi, seek-lo}
+use Rattle.query.proofs.Parts.{branch}
+use native.Mathlib.Omega.{arith}
+use mathlib.Core.Path.{sym, ◌∙◌}
+use borrow.Author.Rules.{rules}
+use Rattle.query.proofs.place.Given as goal
+
+abbrev pub invariant-loop-node : goal.invariant-loop-node
+invariant-loop-node l = Seek l.t l.a l.s l.node l.i l.k
+
+abbrev pub decreases-loop-node : goal.decreases-loop-node
+decreases-loop-node l = l.node

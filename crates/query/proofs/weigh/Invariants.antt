@@ -1,0 +1,15 @@
+use mathlib.Core.Path.{◌≡◌, refl, ◌∙◌}
+use Prim.Native.Nat.{◌+◌, ◌-◌, ◌<◌, ◌≤◌}
+use native.Mathlib.Omega.{arith}
+use lib.ListN.{length, length-set}
+use Rattle.query.specs.Reading.{Filled, weight_word}
+use Rattle.query.proofs.CountWords.{filled_more}
+use Rattle.query.proofs.WeightWords.{ends-long, filled-ends}
+use borrow.Author.Rules.{rules}
+use Rattle.query.proofs.weigh.Given as goal
+
+abbrev pub invariant-loop-k : goal.invariant-loop-k
+invariant-loop-k l = Filled (weight_word l.weights l.scale l.t) l.k l.work × (length l.work ≡ length l.initial.work) × (1 < l.k) × (l.k ≤ l.a + 1)
+
+abbrev pub decreases-loop-k : goal.decreases-loop-k
+decreases-loop-k l = l.a + 1 - l.k
