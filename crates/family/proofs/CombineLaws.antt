@@ -314,8 +314,8 @@ module _ (op : ℕ) {K t index : List ℕ} {f g : ℕ} (y : Operable K t index) 
   split_o : Split K (joint op K t f g) p (joint op K t f1 g1) (joint op K t f0 g0)
   split_o = c.split
 
-  pub hi-none : {memo1 : List ℕ} → h ≡ 65536 → Gives K t t1 index1 65536 (joint op K t f g) × (65536 < 65536 → Remembered op K (nodes_of t1) memo1)
-  hi-none e = (step-none-hi split_o q1 e, λ z. absurd (omega arith))
+  pub hi-none : h ≡ 65536 → Gives K t t1 index1 65536 (joint op K t f g)
+  hi-none e = step-none-hi split_o q1 e
 
   pub hi-ready : Operable K t1 index1
   hi-ready = record { keys = y.keys; sound = q1.sound; indexed = q1.indexed }
@@ -331,15 +331,15 @@ module _ (op : ℕ) {K t index : List ℕ} {f g : ℕ} (y : Operable K t index) 
       p0 : Gives K t1 t0 index0 l (joint op K t f0 g0)
       p0 = gives_eq (ap₂ (combined op K) (gives_keeps q1 w1 f0 c.f0_known) (gives_keeps q1 w1 g0 c.g0_known)) q0
 
-      pub lo-none : {memo0 : List ℕ} → l ≡ 65536 → Gives K t t0 index0 65536 (joint op K t f g) × (65536 < 65536 → Remembered op K (nodes_of t0) memo0)
-      lo-none e = (step-none-lo split_o q1 w1 p0 e, λ z. absurd (omega arith))
+      pub lo-none : l ≡ 65536 → Gives K t t0 index0 65536 (joint op K t f g)
+      lo-none e = step-none-lo split_o q1 w1 p0 e
 
       module _ (w0 : l < 65536) {t' index' : List ℕ} {r : ℕ} (n : Noded t0 t' index' p l h r) where
         whole : Gives K t t' index' r (joint op K t f g)
         whole = step-node split_o q1 w1 p0 c.label-known w0 n
 
-        pub last_none : {memo0 : List ℕ} → r ≡ 65536 → Gives K t t' index' 65536 (joint op K t f g) × (65536 < 65536 → Remembered op K (nodes_of t') memo0)
-        last_none e = (subst (λ (x : ℕ). Gives K t t' index' x (joint op K t f g)) e whole, λ z. absurd (omega arith))
+        pub last_none : r ≡ 65536 → Gives K t t' index' 65536 (joint op K t f g)
+        last_none e = subst (λ (x : ℕ). Gives K t t' index' x (joint op K t f g)) e whole
 
         pub last_noted : {memo0 memo' : List ℕ} (at : ℕ) {k : ℕ} (e : Packed op f g k) → at ≡ place_of (length memo0) k → Remembered op K (nodes_of t0) memo0
             → Noted memo0 at k r memo' → Gives K t t' index' r (joint op K t f g) × (r < 65536 → Remembered op K (nodes_of t') memo')

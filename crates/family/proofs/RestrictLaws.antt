@@ -249,8 +249,8 @@ module _ {b : Bool} {K : List ℕ} {p : ℕ} {t index memo : List ℕ} {f a : �
     split_o : Split K (restricted b K p (family (nodes_of t) f)) (get_or t a 0) (restricted b K p (family (nodes_of t) (get_or t (a + 2) 0))) (restricted b K p (family (nodes_of t) (get_or t (a + 1) 0)))
     split_o = split_other o.ready.sound f a o.low o.below o.place o.ready.keys b p d
 
-    pub hi-none : {memo1 : List ℕ} → h ≡ 65536 → Gives K t t1 index1 65536 (restricted b K p (family (nodes_of t) f)) × (65536 < 65536 → Kept b K p (nodes_of t1) memo1)
-    hi-none e = (step-none-hi split_o g1 e, λ z. absurd (omega arith))
+    pub hi-none : h ≡ 65536 → Gives K t t1 index1 65536 (restricted b K p (family (nodes_of t) f))
+    hi-none e = step-none-hi split_o g1 e
 
     pub hi-ready : Operable K t1 index1
     hi-ready = record { keys = o.ready.keys; sound = g1.sound; indexed = g1.indexed }
@@ -263,15 +263,15 @@ module _ {b : Bool} {K : List ℕ} {p : ℕ} {t index memo : List ℕ} {f a : �
         g0 : Gives K t1 t0 index0 l (restricted b K p (family (nodes_of t) (get_or t (a + 1) 0)))
         g0 = gives_eq (ap (restricted b K p) (gives_keeps g1 w1 (get_or t (a + 1) 0) lo_len)) q0
 
-        pub lo-none : {memo0 : List ℕ} → l ≡ 65536 → Gives K t t0 index0 65536 (restricted b K p (family (nodes_of t) f)) × (65536 < 65536 → Kept b K p (nodes_of t0) memo0)
-        lo-none e = (step-none-lo split_o g1 w1 g0 e, λ z. absurd (omega arith))
+        pub lo-none : l ≡ 65536 → Gives K t t0 index0 65536 (restricted b K p (family (nodes_of t) f))
+        lo-none e = step-none-lo split_o g1 w1 g0 e
 
         module _ (w0 : l < 65536) {t' index' : List ℕ} {r : ℕ} (n : Noded t0 t' index' (get_or t a 0) l h r) where
           whole : Gives K t t' index' r (restricted b K p (family (nodes_of t) f))
           whole = step-node split_o g1 w1 g0 fine_o.label-known w0 n
 
-          pub last_none : {memo0 : List ℕ} → r ≡ 65536 → Gives K t t' index' 65536 (restricted b K p (family (nodes_of t) f)) × (65536 < 65536 → Kept b K p (nodes_of t') memo0)
-          last_none e = (subst (λ (x : ℕ). Gives K t t' index' x (restricted b K p (family (nodes_of t) f))) e whole, λ z. absurd (omega arith))
+          pub last_none : r ≡ 65536 → Gives K t t' index' 65536 (restricted b K p (family (nodes_of t) f))
+          last_none e = subst (λ (x : ℕ). Gives K t t' index' x (restricted b K p (family (nodes_of t) f))) e whole
 
           -- nothing is stored
           pub last_kept : {memo0 : List ℕ} → Kept b K p (nodes_of t0) memo0

@@ -1,0 +1,17 @@
+use Prim.Native.Nat.{◌*◌, ◌-◌}
+use native.Mathlib.Omega.{arith}
+use Rattle.family.proofs.CutLaws.{top_of}
+use Rattle.family.proofs.RestrictLaws.{label-known}
+use Rattle.family.proofs.top.Goals as goal
+
+pub bounds-keys-at : goal.bounds-keys-at
+bounds-keys-at c = omega (
+  arith,
+  c.wide-at.ensures,
+  label-known c.requires.sound c.args.f (3 * c.wide-k.result - 5)
+      (omega (arith, c.if-f-lt2.false)) c.requires.f_bound (omega (arith, c.wide-k.ensures)),
+)
+
+pub returns : goal.returns
+returns c = top_of c.requires.sound c.args.f (3 * c.wide-k.result - 5) (omega (arith, c.if-f-lt2.false))
+    c.requires.f_bound (omega (arith, c.wide-k.ensures)) _ (rw c.wide-at.ensures at c.widened.ensures.0) c.widened.ensures.1
