@@ -1,5 +1,5 @@
 -- What the functions of `withdraw` ask and ensure for each other: the marks, the pass over the nodes, and the words. Assumes nothing.
-use Rattle.std.specs.Prelude.{◌≡◌, true, false, List, [], ◌∷◌, ◌++◌, ℕ, zero, suc, ◌+◌, ◌-◌, ◌*◌, ◌≤◌, ◌<◌, length, get_or}
+use Rattle.std.specs.Prelude.{◌≡◌, true, false, List, [], ◌∷◌, ◌++◌, ℕ, suc, ◌+◌, ◌-◌, ◌*◌, ◌≤◌, ◌<◌, length, get_or}
 use Rattle.zdd.specs.Table.{Node, node, blank, count, nodes_of, key, has, Nodes}
 use Rattle.table.specs.State.{Indexed}
 use Rattle.zdd.specs.Withdrawal.{rank, Shorter}
