@@ -1,6 +1,6 @@
 -- The packages by lead, the memo, and what search and trial ensure. Q is the problem, in the plain order: search works on positions, and cover permutes what it
 -- is lent. P is the number of the memo's places. Assumes nothing.
-use Rattle.std.specs.Prelude.{◌≡◌, Bool, true, false, List, ℕ, zero, ◌+◌, ◌-◌, ◌*◌, ◌%◌, ◌^◌, ◌<◌, ◌≤◌, ltb, length, get_or}
+use Rattle.std.specs.Prelude.{◌≡◌, Bool, true, false, List, ℕ, ◌+◌, ◌-◌, ◌*◌, ◌%◌, ◌^◌, ◌<◌, ◌≤◌, ltb, length, get_or}
 use Rattle.itemset.specs.Items.{without}
 use Rattle.memo.specs.Memo.{key_at, number_at}
 use Rattle.zdd.specs.Table.{count, capacity, nodes_of, family, Sound}
