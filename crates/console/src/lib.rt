@@ -1,28 +1,56 @@
-// The programs' input and output: from a file descriptor to standard output. A read that fails counts as the end of the file.
+// The programs' input and output: from a reader to a writer. A read or a write that fails ends the program with its error.
 #![tactic(auto)]
 
-ghost use Rattle.std.specs.Prelude.{◌≤◌, length, take};
-ghost use Rattle.printout.specs.Program.{PrintedFor};
+ghost use Rattle.std.specs.Prelude.{◌≡◌, ◌≤◌, length, take, IfOk, IfSome, OnOk};
+ghost use Rattle.std.specs.Io.KnownBytes.{Appends};
+ghost use Rattle.printout.specs.Program.{printed, PrintedFor};
 ghost use Rattle.printout.specs.Written.{Whole};
 ghost use Rattle.console.specs.Turned.{turned, TurnedFor};
 
 use conversion::Conversion;
+use std::io;
 
-// Writes the first k bytes of the text: all that is printed for any file of which the buffer holds the first n bytes. (These are for the contract alone.)
-fn write(buffer: &[u8], n: usize, text: &[u8], k: usize)
-    requires k_in_bounds { k ≤ length text.now }
-    requires printed_for { PrintedFor buffer.now n (take k text.now) }
+// Reads until the buffer is full or the file ends; how many bytes it has put at the start of the buffer, which are the file's first.
+pub fn read_full<R: io::Read>(file: &mut R, buffer: &mut [u8]) -> io::Result<usize>
+    ensures in_bounds { IfOk result (λ n. n ≤ length buffer.new) }
+    ensures bytes { IfOk result (λ n. IfSome (R.remaining file.old) (λ b. take (length buffer.new) b ≡ take n buffer.new)) }
 {
-    io::write_all(1, &text[..k]);
+    let mut done: usize = 0;
+    while done < buffer.len() {
+        let n = file.read(&mut buffer[done..])?;
+        if n == 0 {
+            break;
+        }
+        done += n;
+    }
+    Ok(done)
 }
 
-// Answers the bids file behind a file descriptor. No accepted file has more than 6285 bytes, so that one byte more is enough of any (printout, proofs/Prefix).
-pub fn answer(fd: i32) {
+// Writes the first k bytes of the text: all that is printed for any file of which the buffer holds the first n bytes. (These are for the contract alone.)
+fn write<W: io::Write>(
+    out: &mut W,
+    buffer: &[u8],
+    n: usize,
+    text: &[u8],
+    k: usize,
+) -> io::Result<()>
+    requires k_in_bounds { k ≤ length text.now }
+    requires printed_for { PrintedFor buffer.now n (take k text.now) }
+    ensures { OnOk result (Appends (W.contents out.old) (W.contents out.new) (take k text.now)) }
+{
+    out.write_all(&text[..k])
+}
+
+// Answers a bids file. No accepted file has more than 6285 bytes, so that one byte more is enough of any (printout, proofs/Prefix). Where the reader's bytes are
+// known, as in memory, the writer gets what is printed for them.
+pub fn answer<R: io::Read, W: io::Write>(input: &mut R, out: &mut W) -> io::Result<()>
+    ensures { OnOk result (IfSome (R.remaining input.old) (λ b. Appends (W.contents out.old) (W.contents out.new) (printed b))) }
+{
     let mut file = [0u8; 6286];
-    let n = io::read_full(fd, &mut file);
+    let n = read_full(input, &mut file)?;
     let mut text = [0u8; 16384];
     let k = printout::lines(&file[..n], &mut text);
-    write(&file, n, &text, k);
+    write(out, &file, n, &text, k)
 }
 
 // The file in the other version, or the line of the refusal, at the start of the buffer; its length.
@@ -37,18 +65,28 @@ fn turn(file: &[u8], out: &mut [u8; 16384]) -> usize
 }
 
 // Writes the first k bytes of what was made of any file of which the buffer holds the first n bytes.
-fn write_turned(buffer: &[u8], n: usize, text: &[u8], k: usize)
+fn write_turned<W: io::Write>(
+    out: &mut W,
+    buffer: &[u8],
+    n: usize,
+    text: &[u8],
+    k: usize,
+) -> io::Result<()>
     requires k_in_bounds { k ≤ length text.now }
     requires turned_for { TurnedFor buffer.now n (take k text.now) }
+    ensures { OnOk result (Appends (W.contents out.old) (W.contents out.new) (take k text.now)) }
 {
-    io::write_all(1, &text[..k]);
+    out.write_all(&text[..k])
 }
 
-// Converts the bids file behind a file descriptor to the other version. No accepted file of either has more than 6869 bytes.
-pub fn convert(fd: i32) {
+// Converts a bids file to the other version. No accepted file of either has more than 6869 bytes. Where the reader's bytes are known, the writer gets what they
+// turn into.
+pub fn convert<R: io::Read, W: io::Write>(input: &mut R, out: &mut W) -> io::Result<()>
+    ensures { OnOk result (IfSome (R.remaining input.old) (λ b. Appends (W.contents out.old) (W.contents out.new) (turned b))) }
+{
     let mut file = [0u8; 6870];
-    let n = io::read_full(fd, &mut file);
+    let n = read_full(input, &mut file)?;
     let mut text = [0u8; 16384];
     let k = turn(&file[..n], &mut text);
-    write_turned(&file, n, &text, k);
+    write_turned(out, &file, n, &text, k)
 }

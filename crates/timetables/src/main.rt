@@ -1,6 +1,8 @@
 // The timetables of the bids file on standard input.
 #![tactic(auto)]
 
-fn main() {
-    console::answer(0);
+use std::io;
+
+fn main(rt: HostRuntime) -> io::Result<()> {
+    console::answer(&mut rt.stdin(), &mut io::writer(&rt))
 }
