@@ -1,38 +1,41 @@
 // What the program prints for the files of data/: one for each refusal, and some that are answered.
 #![tactic(auto)]
 
-fn case(name: &[u8]) {
-    io::write_all(1, name);
-    io::write_all(1, b"\n");
-    console::answer(os::open_read(name));
+use std::rt::Files;
+use std::{fs, io};
+
+fn case<R: Files + Print>(rt: &R, name: &str) -> io::Result<()> {
+    rt.println(name)?;
+    let mut file = fs::open(rt, name)?;
+    console::answer(&mut file, &mut io::writer(rt))
 }
 
-fn refused_by_header() {
-    case(b"short");
-    case(b"mark");
-    case(b"version");
-    case(b"version2");
-    case(b"items");
-    case(b"packages");
-    case(b"cut");
-    case(b"long");
+fn refused_by_header<R: Files + Print>(rt: &R) -> io::Result<()> {
+    case(rt, "short")?;
+    case(rt, "mark")?;
+    case(rt, "version")?;
+    case(rt, "version2")?;
+    case(rt, "items")?;
+    case(rt, "packages")?;
+    case(rt, "cut")?;
+    case(rt, "long")
 }
 
-fn refused_by_records() {
-    case(b"check");
-    case(b"school");
-    case(b"site");
-    case(b"slot");
-    case(b"twice");
+fn refused_by_records<R: Files + Print>(rt: &R) -> io::Result<()> {
+    case(rt, "check")?;
+    case(rt, "school")?;
+    case(rt, "site")?;
+    case(rt, "slot")?;
+    case(rt, "twice")
 }
 
-fn main() {
-    refused_by_header();
-    refused_by_records();
-    case(b"spent");
-    case(b"full");
-    case(b"empty");
-    case(b"none");
-    case(b"number");
-    case(b"twentyfour");
+fn main(rt: HostRuntime) -> io::Result<()> {
+    refused_by_header(&rt)?;
+    refused_by_records(&rt)?;
+    case(&rt, "spent")?;
+    case(&rt, "full")?;
+    case(&rt, "empty")?;
+    case(&rt, "none")?;
+    case(&rt, "number")?;
+    case(&rt, "twentyfour")
 }
