@@ -6,12 +6,14 @@ ghost use Rattle.std.specs.Prelude.{◌≤◌};
 
 use bids::Reading;
 use conversion::Conversion;
+use std::rt::Files;
+use std::{fs, io};
 
 // ---- what is printed
 
 // S, T, N and the optional items, which are in one word.
-fn print_reading(word: &[u8], r: Reading) {
-    io::write_all(1, word);
+fn print_reading(rt: &impl Print, word: &[u8], r: Reading) -> io::Result<()> {
+    rt.write_all(word)?;
     match r {
         Reading::Accepted {
             schools,
@@ -19,48 +21,49 @@ fn print_reading(word: &[u8], r: Reading) {
             packages,
             optional,
         } => {
-            weeks::print(b" schools ", schools as u64);
-            weeks::print(b" slots ", slots as u64);
-            weeks::print(b" packages ", packages as u64);
-            weeks::print(b" optional ", optional.w0);
+            weeks::print(rt, b" schools ", schools as u64)?;
+            weeks::print(rt, b" slots ", slots as u64)?;
+            weeks::print(rt, b" packages ", packages as u64)?;
+            weeks::print(rt, b" optional ", optional.w0)
         }
-        Reading::Refused(n) => weeks::print_refused(n),
+        Reading::Refused(n) => weeks::print_refused(rt, n),
     }
 }
 
-fn print_conversion(word: &[u8], r: Conversion) {
-    io::write_all(1, word);
+fn print_conversion(rt: &impl Print, word: &[u8], r: Conversion) -> io::Result<()> {
+    rt.write_all(word)?;
     match r {
         Conversion::Written(n) => {
-            weeks::print(b" ", n as u64);
-            io::write_all(1, b" bytes");
+            weeks::print(rt, b" ", n as u64)?;
+            rt.write_all(b" bytes")
         }
-        Conversion::Refused(n) => weeks::print_refused(n),
+        Conversion::Refused(n) => weeks::print_refused(rt, n),
     }
 }
 
-fn print_byte(x: u8) {
-    io::print_hex(1, x as u64, 2);
+fn print_byte(rt: &impl Print, x: u8) -> io::Result<()> {
+    print!(rt; "{x:02x}")
 }
 
 // Sixteen bytes a line.
-fn print_bytes(bytes: &[u8]) {
+fn print_bytes(rt: &impl Print, bytes: &[u8]) -> io::Result<()> {
     let mut i: usize = 0;
     while i < bytes.len() {
         if i % 16 == 0 {
-            io::write_all(1, b"\n ");
+            rt.write_all(b"\n ")?;
         }
-        io::write_all(1, b" ");
-        print_byte(bytes[i]);
+        rt.write_all(b" ")?;
+        print_byte(rt, bytes[i])?;
         i += 1;
     }
+    Ok(())
 }
 
-fn print_test(yes: bool, holds: &[u8], fails: &[u8]) {
+fn print_test(rt: &impl Print, yes: bool, holds: &[u8], fails: &[u8]) -> io::Result<()> {
     if yes {
-        io::write_all(1, holds);
+        rt.write_all(holds)
     } else {
-        io::write_all(1, fails);
+        rt.write_all(fails)
     }
 }
 
@@ -78,12 +81,12 @@ fn written(r: Conversion) -> usize
 
 // ---- one file
 
-fn back(file: &[u8], other: &[u8]) {
+fn back(rt: &impl Print, file: &[u8], other: &[u8]) -> io::Result<()> {
     let mut again = [9u8; 256];
     let r = conversion::turn(other, &mut again);
-    print_conversion(b"\n  back:", r);
+    print_conversion(rt, b"\n  back:", r)?;
     let k = written(r);
-    print_test(check::same(file, &again[0..k]), b", the same", b", others");
+    print_test(rt, file == &again[0..k], b", the same", b", others")
 }
 
 // Whether all is as it was before the call.
@@ -99,109 +102,125 @@ fn unchanged(buffer: &[u8; 256]) -> bool {
 }
 
 // With k bytes lent.
-fn short(file: &[u8], k: usize)
+fn short(rt: &impl Print, file: &[u8], k: usize) -> io::Result<()>
     requires { k ≤ 256 }
 {
     let mut few = [9u8; 256];
     let r = conversion::turn(file, &mut few[0..k]);
-    print_conversion(b"\n  a byte less:", r);
-    print_test(unchanged(&few), b", buffer unchanged", b", buffer changed");
+    print_conversion(rt, b"\n  a byte less:", r)?;
+    print_test(
+        rt,
+        unchanged(&few),
+        b", buffer unchanged",
+        b", buffer changed",
+    )
 }
 
-fn turned(file: &[u8]) {
+fn turned(rt: &impl Print, file: &[u8]) -> io::Result<()> {
     let mut out = [9u8; 256];
     let n = written(conversion::turn(file, &mut out));
     if n == 0 {
-        print_test(unchanged(&out), b", buffer unchanged", b", buffer changed");
-        return;
+        print_test(
+            rt,
+            unchanged(&out),
+            b", buffer unchanged",
+            b", buffer changed",
+        )?;
+        return Ok(());
     }
-    print_bytes(&out[0..n]);
+    print_bytes(rt, &out[0..n])?;
     let before = [9u8; 256];
     print_test(
-        check::same(&out[n..], &before[n..]),
+        rt,
+        &out[n..] == &before[n..],
         b"\n  rest of the buffer unchanged",
         b"\n  rest of the buffer changed",
-    );
-    back(file, &out[0..n]);
-    short(file, n - 1);
+    )?;
+    back(rt, file, &out[0..n])?;
+    short(rt, file, n - 1)
 }
 
-fn said(file: &[u8]) {
+fn said(rt: &impl Print, file: &[u8]) -> io::Result<()> {
     let mut packages = [0u64; 24];
     let mut costs = [0u16; 8];
     let mut out = [0u8; 256];
-    print_reading(b": read", bids::read(file, &mut packages, &mut costs));
-    print_reading(b", read2", bids::read2(file, &mut packages, &mut costs));
-    print_conversion(b", up", conversion::up(file, &mut out));
-    print_conversion(b", down", conversion::down(file, &mut out));
+    print_reading(rt, b": read", bids::read(file, &mut packages, &mut costs))?;
+    print_reading(rt, b", read2", bids::read2(file, &mut packages, &mut costs))?;
+    print_conversion(rt, b", up", conversion::up(file, &mut out))?;
+    print_conversion(rt, b", down", conversion::down(file, &mut out))
 }
 
-fn case(name: &[u8]) {
+fn case<R: Files + Print>(rt: &R, name: &str) -> io::Result<()> {
     let mut file = [0u8; 256];
-    let n = io::read_full(os::open_read(name), &mut file);
-    io::write_all(1, name);
-    said(&file[..n]);
-    turned(&file[..n]);
-    io::write_all(1, b"\n");
+    let n = console::read_full(&mut fs::open(rt, name)?, &mut file)?;
+    rt.print(name)?;
+    said(rt, &file[..n])?;
+    turned(rt, &file[..n])?;
+    rt.write_all(b"\n")
 }
 
-fn converted() {
-    case(b"example1");
-    case(b"empty1");
-    case(b"example2");
-    case(b"empty2");
+fn converted<R: Files + Print>(rt: &R) -> io::Result<()> {
+    case(rt, "example1")?;
+    case(rt, "empty1")?;
+    case(rt, "example2")?;
+    case(rt, "empty2")
 }
 
-fn refused_as_version_1() {
-    case(b"items1");
-    case(b"cut1");
-    case(b"check1");
-    case(b"school1");
-    case(b"site1");
-    case(b"slot1");
-    case(b"twice1");
+fn refused_as_version_1<R: Files + Print>(rt: &R) -> io::Result<()> {
+    case(rt, "items1")?;
+    case(rt, "cut1")?;
+    case(rt, "check1")?;
+    case(rt, "school1")?;
+    case(rt, "site1")?;
+    case(rt, "slot1")?;
+    case(rt, "twice1")
 }
 
-fn refused_as_version_2() {
-    case(b"short");
-    case(b"mark");
-    case(b"version3");
-    case(b"low_version");
-    case(b"size2");
-    case(b"long2");
-    case(b"check2");
-    case(b"carried");
-    case(b"stray_optional");
-    case(b"twice2");
-    case(b"site2");
-    case(b"slot2");
-    case(b"package2");
+fn refused_as_version_2<R: Files + Print>(rt: &R) -> io::Result<()> {
+    case(rt, "short")?;
+    case(rt, "mark")?;
+    case(rt, "version3")?;
+    case(rt, "low_version")?;
+    case(rt, "size2")?;
+    case(rt, "long2")?;
+    case(rt, "check2")?;
+    case(rt, "carried")?;
+    case(rt, "stray_optional")?;
+    case(rt, "twice2")?;
+    case(rt, "site2")?;
+    case(rt, "slot2")?;
+    case(rt, "package2")
 }
 
-fn refused_by_converter() {
-    case(b"wide");
-    case(b"wide_unused");
-    case(b"low_byte");
-    case(b"optional");
-    case(b"wide_and_optional");
+fn refused_by_converter<R: Files + Print>(rt: &R) -> io::Result<()> {
+    case(rt, "wide")?;
+    case(rt, "wide_unused")?;
+    case(rt, "low_byte")?;
+    case(rt, "optional")?;
+    case(rt, "wide_and_optional")
+}
+
+fn convert<R: Files + Print>(rt: &R, name: &str) -> io::Result<()> {
+    let mut file = fs::open(rt, name)?;
+    console::convert(&mut file, &mut io::writer(rt))
 }
 
 // What the program itself writes for a file of each kind: the other file byte for byte, or its line.
-fn program() {
-    console::convert(os::open_read(b"example1"));
-    console::convert(os::open_read(b"example2"));
-    console::convert(os::open_read(b"short"));
-    console::convert(os::open_read(b"check1"));
-    console::convert(os::open_read(b"version3"));
-    console::convert(os::open_read(b"stray_optional"));
-    console::convert(os::open_read(b"wide"));
-    console::convert(os::open_read(b"optional"));
+fn program<R: Files + Print>(rt: &R) -> io::Result<()> {
+    convert(rt, "example1")?;
+    convert(rt, "example2")?;
+    convert(rt, "short")?;
+    convert(rt, "check1")?;
+    convert(rt, "version3")?;
+    convert(rt, "stray_optional")?;
+    convert(rt, "wide")?;
+    convert(rt, "optional")
 }
 
-fn main() {
-    converted();
-    refused_as_version_1();
-    refused_as_version_2();
-    refused_by_converter();
-    program();
+fn main(rt: HostRuntime) -> io::Result<()> {
+    converted(&rt)?;
+    refused_as_version_1(&rt)?;
+    refused_as_version_2(&rt)?;
+    refused_by_converter(&rt)?;
+    program(&rt)
 }
