@@ -6,11 +6,13 @@
 use bids::Reading;
 use itemset::Items;
 use statement::{Call, Outcome, Picked, Placed, Report, Soundness};
+use std::rt::Files;
+use std::{fs, io};
 use weeks::Week;
 
 // ---- what is printed
 
-fn print_reading(r: Reading) {
+fn print_reading(rt: &impl Print, r: Reading) -> io::Result<()> {
     match r {
         Reading::Accepted {
             schools,
@@ -18,70 +20,84 @@ fn print_reading(r: Reading) {
             packages,
             optional,
         } => {
-            weeks::print(b": schools ", schools as u64);
-            weeks::print(b" slots ", slots as u64);
-            weeks::print(b" packages ", packages as u64);
-            weeks::print(b" optional ", optional.w0);
+            weeks::print(rt, b": schools ", schools as u64)?;
+            weeks::print(rt, b" slots ", slots as u64)?;
+            weeks::print(rt, b" packages ", packages as u64)?;
+            weeks::print(rt, b" optional ", optional.w0)?;
         }
-        Reading::Refused(n) => weeks::print_refused(n),
+        Reading::Refused(n) => weeks::print_refused(rt, n)?,
     }
-    io::write_all(1, b"\n");
+    rt.write_all(b"\n")
 }
 
-fn print_soundness(r: Soundness) {
+fn print_soundness(rt: &impl Print, r: Soundness) -> io::Result<()> {
     match r {
-        Soundness::Sound => {
-            io::write_all(1, b" sound");
-        }
-        Soundness::Refused(n) => weeks::print_refused(n),
+        Soundness::Sound => rt.write_all(b" sound"),
+        Soundness::Refused(n) => weeks::print_refused(rt, n),
     }
 }
 
-fn print_placed(r: Placed) {
+fn print_placed(rt: &impl Print, r: Placed) -> io::Result<()> {
     match r {
-        Placed::Place(k) => weeks::print(b" place ", k),
-        Placed::Refused(n) => weeks::print_refused(n),
+        Placed::Place(k) => weeks::print(rt, b" place ", k),
+        Placed::Refused(n) => weeks::print_refused(rt, n),
     }
 }
 
-fn print_picked(r: Picked) {
+fn print_picked(rt: &impl Print, r: Picked) -> io::Result<()> {
     match r {
-        Picked::Packages(n) => weeks::print(b" packages ", n as u64),
-        Picked::Refused(n) => weeks::print_refused(n),
+        Picked::Packages(n) => weeks::print(rt, b" packages ", n as u64),
+        Picked::Refused(n) => weeks::print_refused(rt, n),
     }
 }
 
 // The answer is given back, 0 after a refusal.
-fn print_report(r: Report) -> u32 {
+fn print_report(rt: &impl Print, r: Report) -> io::Result<u32> {
     let outcome = r.outcome;
-    weeks::print_outcome(outcome);
+    weeks::print_outcome(rt, outcome)?;
     let Outcome::Answer(a) = outcome else {
-        return 0;
+        return Ok(0);
     };
-    weeks::print(b" nodes ", r.made as u64);
-    weeks::print(b" steps ", r.steps as u64);
-    a
+    weeks::print(rt, b" nodes ", r.made as u64)?;
+    weeks::print(rt, b" steps ", r.steps as u64)?;
+    Ok(a)
 }
 
 // ---- one call, with working words for 1009 places of cover's memo, a prime, or for answers up to 4035
 
-fn check(what: &[u8], packages: &[u64], w: Week, order: &[u8], t: &[u32]) {
-    io::write_all(1, what);
-    print_soundness(engine::check(w.m, packages, w.optional, order, t));
-    io::write_all(1, b"\n");
+fn check(
+    rt: &impl Print,
+    what: &[u8],
+    packages: &[u64],
+    w: Week,
+    order: &[u8],
+    t: &[u32],
+) -> io::Result<()> {
+    rt.write_all(what)?;
+    print_soundness(rt, engine::check(w.m, packages, w.optional, order, t))?;
+    rt.write_all(b"\n")
 }
 
 // A call that makes an answer.
-fn make(what: &[u8], packages: &[u64], w: Week, order: &[u8], t: &mut [u32], c: Call) -> u32 {
-    io::write_all(1, what);
+fn make(
+    rt: &impl Print,
+    what: &[u8],
+    packages: &[u64],
+    w: Week,
+    order: &[u8],
+    t: &mut [u32],
+    c: Call,
+) -> io::Result<u32> {
+    rt.write_all(what)?;
     let r = engine::answer(w.m, packages, w.optional, order, t, c, &mut [0u64; 4036]);
-    let a = print_report(r);
-    io::write_all(1, b"\n");
-    a
+    let a = print_report(rt, r)?;
+    rt.write_all(b"\n")?;
+    Ok(a)
 }
 
 // With so many working words.
 fn count(
+    rt: &impl Print,
     what: &[u8],
     packages: &[u64],
     w: Week,
@@ -89,17 +105,18 @@ fn count(
     t: &[u32],
     a: u32,
     words: usize,
-) -> u64 {
+) -> io::Result<u64> {
     let mut work = [0u64; 4036];
     let lent = weeks::least(words, 4036);
-    io::write_all(1, what);
+    rt.write_all(what)?;
     let c = engine::count(w.m, packages, w.optional, order, t, a, &mut work[0..lent]);
-    let n = weeks::print_count(c);
-    io::write_all(1, b"\n");
-    n
+    let n = weeks::print_count(rt, c)?;
+    rt.write_all(b"\n")?;
+    Ok(n)
 }
 
 fn cheapest(
+    rt: &impl Print,
     what: &[u8],
     packages: &[u64],
     w: Week,
@@ -107,8 +124,8 @@ fn cheapest(
     costs: &[u16],
     t: &[u32],
     a: u32,
-) {
-    io::write_all(1, what);
+) -> io::Result<()> {
+    rt.write_all(what)?;
     let r = engine::cheapest(
         w.m,
         packages,
@@ -120,12 +137,21 @@ fn cheapest(
         &mut [0u64; 4036],
         &mut [0u16; 64],
     );
-    weeks::print_priced(r);
-    io::write_all(1, b"\n");
+    weeks::print_priced(rt, r)?;
+    rt.write_all(b"\n")
 }
 
-fn place(what: &[u8], packages: &[u64], w: Week, order: &[u8], t: &[u32], a: u32, list: &[u16]) {
-    io::write_all(1, what);
+fn place(
+    rt: &impl Print,
+    what: &[u8],
+    packages: &[u64],
+    w: Week,
+    order: &[u8],
+    t: &[u32],
+    a: u32,
+    list: &[u16],
+) -> io::Result<()> {
+    rt.write_all(what)?;
     let r = engine::place(
         w.m,
         packages,
@@ -136,11 +162,12 @@ fn place(what: &[u8], packages: &[u64], w: Week, order: &[u8], t: &[u32], a: u32
         list,
         &mut [0u64; 4036],
     );
-    print_placed(r);
-    io::write_all(1, b"\n");
+    print_placed(rt, r)?;
+    rt.write_all(b"\n")
 }
 
 fn pick(
+    rt: &impl Print,
     what: &[u8],
     packages: &[u64],
     w: Week,
@@ -149,8 +176,8 @@ fn pick(
     a: u32,
     k: u64,
     page: &mut [u16],
-) {
-    io::write_all(1, what);
+) -> io::Result<()> {
+    rt.write_all(what)?;
     let r = engine::pick(
         w.m,
         packages,
@@ -162,20 +189,26 @@ fn pick(
         &mut [0u64; 4036],
         page,
     );
-    print_picked(r);
-    io::write_all(1, b"\n");
+    print_picked(rt, r)?;
+    rt.write_all(b"\n")
 }
 
 // ---- a week from its file
 
 // Reads a file of this version.
-fn read(name: &[u8], version: u8, packages: &mut [u64], costs: &mut [u16]) -> Reading {
+fn read<R: Files>(
+    rt: &R,
+    name: &str,
+    version: u8,
+    packages: &mut [u64],
+    costs: &mut [u16],
+) -> io::Result<Reading> {
     let mut file = [0u8; 6285];
-    let n = io::read_full(os::open_read(name), &mut file);
+    let n = console::read_full(&mut fs::open(rt, name)?, &mut file)?;
     if version == 2 {
-        return bids::read2(&file[..n], packages, costs);
+        return Ok(bids::read2(&file[..n], packages, costs));
     }
-    bids::read(&file[..n], packages, costs)
+    Ok(bids::read(&file[..n], packages, costs))
 }
 
 // S + T items, at most 64, so that the sum does not wrap; all are to be covered.
@@ -224,22 +257,32 @@ fn all(w: Week, limit: u32) -> Call {
 // ---- a small week
 
 // The weeks have four items. Of what check is lent besides the table only the order can be wrong.
-fn disordered(packages: &[u64], w: Week, t: &mut [u32]) {
+fn disordered(rt: &impl Print, packages: &[u64], w: Week, t: &mut [u32]) -> io::Result<()> {
     let twice = [0u8, 0, 2, 3];
     make(
+        rt,
         b"cover in an order with an item twice:",
         packages,
         w,
         &twice,
         t,
         all(w, 1000000),
-    );
-    check(b"check in that order:", packages, w, &twice, t);
+    )?;
+    check(rt, b"check in that order:", packages, w, &twice, t)
 }
 
-fn lent(packages: &[u64], w: Week, order: &[u8], costs: &[u16], t: &[u32], a: u32) {
+fn lent(
+    rt: &impl Print,
+    packages: &[u64],
+    w: Week,
+    order: &[u8],
+    costs: &[u16],
+    t: &[u32],
+    a: u32,
+) -> io::Result<()> {
     let few = weeks::least(5, costs.len());
     cheapest(
+        rt,
         b"cheapest with a cost too few:",
         packages,
         w,
@@ -247,15 +290,16 @@ fn lent(packages: &[u64], w: Week, order: &[u8], costs: &[u16], t: &[u32], a: u3
         &costs[0..few],
         t,
         a,
-    );
-    check(b"check of the table:", packages, w, order, t);
+    )?;
+    check(rt, b"check of the table:", packages, w, order, t)?;
     check(
+        rt,
         b"check of a table whose node has hi 0:",
         packages,
         w,
         order,
         &[1u32, 0, 0, 0],
-    );
+    )
 }
 
 fn next(x: u32) -> u32 {
@@ -275,8 +319,16 @@ fn more(m: u32) -> Call {
 }
 
 // The answer has the last node of the table, and 0 2 is a timetable of it.
-fn unknown(packages: &[u64], w: Week, order: &[u8], t: &mut [u32], a: u32) {
+fn unknown(
+    rt: &impl Print,
+    packages: &[u64],
+    w: Week,
+    order: &[u8],
+    t: &mut [u32],
+    a: u32,
+) -> io::Result<()> {
     count(
+        rt,
         b"count of an answer that the table does not have:",
         packages,
         w,
@@ -284,8 +336,9 @@ fn unknown(packages: &[u64], w: Week, order: &[u8], t: &mut [u32], a: u32) {
         t,
         next(a),
         4036,
-    );
+    )?;
     make(
+        rt,
         b"with package N:",
         packages,
         w,
@@ -295,8 +348,9 @@ fn unknown(packages: &[u64], w: Week, order: &[u8], t: &mut [u32], a: u32) {
             a,
             p: beyond(packages),
         },
-    );
+    )?;
     place(
+        rt,
         b"place of a list out of precedence:",
         packages,
         w,
@@ -304,32 +358,50 @@ fn unknown(packages: &[u64], w: Week, order: &[u8], t: &mut [u32], a: u32) {
         t,
         a,
         &[2u16, 0],
-    );
+    )
 }
 
 // An item that there is not, and answers that have items in common.
-fn items(packages: &[u64], w: Week, order: &[u8], t: &mut [u32], a: u32) {
+fn items(
+    rt: &impl Print,
+    packages: &[u64],
+    w: Week,
+    order: &[u8],
+    t: &mut [u32],
+    a: u32,
+) -> io::Result<()> {
     make(
+        rt,
         b"cover of a set with item M:",
         packages,
         w,
         order,
         t,
         more(w.m),
-    );
+    )?;
     make(
+        rt,
         b"join of the answer with itself:",
         packages,
         w,
         order,
         t,
         Call::Join { a, b: a },
-    );
+    )?;
+    Ok(())
 }
 
 // The answer has six nodes, and the table of the last cover room for five.
-fn short(packages: &[u64], w: Week, order: &[u8], t: &[u32], a: u32) {
+fn short(
+    rt: &impl Print,
+    packages: &[u64],
+    w: Week,
+    order: &[u8],
+    t: &[u32],
+    a: u32,
+) -> io::Result<()> {
     count(
+        rt,
         b"count with a word too few:",
         packages,
         w,
@@ -337,28 +409,40 @@ fn short(packages: &[u64], w: Week, order: &[u8], t: &[u32], a: u32) {
         t,
         a,
         a as usize,
-    );
+    )?;
     make(
+        rt,
         b"cover in one step:",
         packages,
         w,
         order,
         &mut [0u32; 31],
         all(w, 1),
-    );
+    )?;
     make(
+        rt,
         b"cover on a table without room:",
         packages,
         w,
         order,
         &mut [0u32; 16],
         all(w, 1000000),
-    );
+    )?;
+    Ok(())
 }
 
-fn absent(packages: &[u64], w: Week, order: &[u8], costs: &[u16], t: &[u32], a: u32) {
-    let k = count(b"count:", packages, w, order, t, a, 4036);
+fn absent(
+    rt: &impl Print,
+    packages: &[u64],
+    w: Week,
+    order: &[u8],
+    costs: &[u16],
+    t: &[u32],
+    a: u32,
+) -> io::Result<()> {
+    let k = count(rt, b"count:", packages, w, order, t, a, 4036)?;
     pick(
+        rt,
         b"pick of that k, past the end:",
         packages,
         w,
@@ -367,9 +451,10 @@ fn absent(packages: &[u64], w: Week, order: &[u8], costs: &[u16], t: &[u32], a: 
         a,
         k,
         &mut [0u16; 8],
-    );
-    cheapest(b"cheapest of 0:", packages, w, order, costs, t, 0);
+    )?;
+    cheapest(rt, b"cheapest of 0:", packages, w, order, costs, t, 0)?;
     place(
+        rt,
         b"place of the empty list:",
         packages,
         w,
@@ -377,8 +462,9 @@ fn absent(packages: &[u64], w: Week, order: &[u8], costs: &[u16], t: &[u32], a: 
         t,
         a,
         &[0u16; 0],
-    );
+    )?;
     pick(
+        rt,
         b"pick on a page of no places:",
         packages,
         w,
@@ -387,34 +473,40 @@ fn absent(packages: &[u64], w: Week, order: &[u8], costs: &[u16], t: &[u32], a: 
         a,
         0,
         &mut [0u16; 0],
-    );
+    )
 }
 
-fn refusals(packages: &[u64], w: Week, order: &[u8], costs: &[u16]) {
+fn refusals(
+    rt: &impl Print,
+    packages: &[u64],
+    w: Week,
+    order: &[u8],
+    costs: &[u16],
+) -> io::Result<()> {
     let mut t = [0u32; 31];
-    let a = make(b"cover:", packages, w, order, &mut t, all(w, 1000000));
-    io::write_all(1, b"its answer:");
-    weeks::print_timetables(packages, w, order, &t, a);
-    io::write_all(1, b"\n");
-    disordered(packages, w, &mut t);
-    lent(packages, w, order, costs, &t, a);
-    unknown(packages, w, order, &mut t, a);
-    items(packages, w, order, &mut t, a);
-    short(packages, w, order, &t, a);
-    absent(packages, w, order, costs, &t, a);
+    let a = make(rt, b"cover:", packages, w, order, &mut t, all(w, 1000000))?;
+    rt.write_all(b"its answer:")?;
+    weeks::print_timetables(rt, packages, w, order, &t, a)?;
+    rt.write_all(b"\n")?;
+    disordered(rt, packages, w, &mut t)?;
+    lent(rt, packages, w, order, costs, &t, a)?;
+    unknown(rt, packages, w, order, &mut t, a)?;
+    items(rt, packages, w, order, &mut t, a)?;
+    short(rt, packages, w, order, &t, a)?;
+    absent(rt, packages, w, order, costs, &t, a)
 }
 
-fn small(name: &[u8], version: u8) {
+fn small<R: Files + Print>(rt: &R, name: &str, version: u8) -> io::Result<()> {
     let mut packages = [0u64; 24];
     let mut costs = [0u16; 8];
-    io::write_all(1, name);
-    let r = read(name, version, &mut packages, &mut costs);
-    print_reading(r);
+    rt.print(name)?;
+    let r = read(rt, name, version, &mut packages, &mut costs)?;
+    print_reading(rt, r)?;
     let order = exact_cover::plain_order();
     let w = week(r);
     let m = weeks::least(w.m as usize, 64);
     let n = weeks::least(number(r), 8);
-    refusals(&packages[0..3 * n], w, &order[0..m], &costs[0..n]);
+    refusals(rt, &packages[0..3 * n], w, &order[0..m], &costs[0..n])
 }
 
 // ---- the week of 2^64 timetables
@@ -431,31 +523,38 @@ fn groups() -> [u8; 64] {
 }
 
 // In the plain order this cover takes too many steps.
-fn uncountable(packages: &[u64], w: Week, order: &[u8], costs: &[u16]) {
+fn uncountable(
+    rt: &impl Print,
+    packages: &[u64],
+    w: Week,
+    order: &[u8],
+    costs: &[u16],
+) -> io::Result<()> {
     let mut t = [0u32; 4801];
     let a = make(
+        rt,
         b"cover group by group:",
         packages,
         w,
         order,
         &mut t,
         all(w, 1000000),
-    );
-    count(b"count:", packages, w, order, &t, a, 4036);
-    cheapest(b"cheapest:", packages, w, order, costs, &t, a);
+    )?;
+    count(rt, b"count:", packages, w, order, &t, a, 4036)?;
+    cheapest(rt, b"cheapest:", packages, w, order, costs, &t, a)
 }
 
-fn many() {
+fn many<R: Files + Print>(rt: &R) -> io::Result<()> {
     let mut packages = [0u64; 1536];
     let mut costs = [0u16; 512];
-    io::write_all(1, b"many");
-    let r = read(b"many", 1, &mut packages, &mut costs);
-    print_reading(r);
-    uncountable(&packages, week(r), &groups(), &costs);
+    rt.write_all(b"many")?;
+    let r = read(rt, "many", 1, &mut packages, &mut costs)?;
+    print_reading(rt, r)?;
+    uncountable(rt, &packages, week(r), &groups(), &costs)
 }
 
-fn main() {
-    small(b"week1", 1);
-    small(b"week2", 2);
-    many();
+fn main(rt: HostRuntime) -> io::Result<()> {
+    small(&rt, "week1", 1)?;
+    small(&rt, "week2", 2)?;
+    many(&rt)
 }
