@@ -7,6 +7,7 @@ ghost use Rattle.std.specs.Prelude.{◌≤◌, ◌<◌};
 
 use itemset::Items;
 use statement::Soundness;
+use std::io;
 
 // ---- the packages
 
@@ -433,33 +434,34 @@ fn row(i: usize) -> [u32; 9] {
     CASES[i % 59]
 }
 
-fn answer(i: usize) {
+fn answer(rt: &impl Print, i: usize) -> io::Result<()> {
     let s = check(row(i));
-    io::write_all(1, b": ");
-    io::print_decimal(1, number(s));
-    io::write_all(1, b"\n");
+    rt.write_all(b": ")?;
+    rt.print(number(s))?;
+    rt.write_all(b"\n")
 }
 
 fn letter(i: usize) -> u8 {
     NAMES[i % 1328]
 }
 
-fn mark(c: u8) {
-    io::write_all(1, &[c]);
+fn mark(rt: &impl Print, c: u8) -> io::Result<()> {
+    rt.write_all(&[c])
 }
 
 // At the end of each name its case is checked.
-fn main() {
+fn main(rt: HostRuntime) -> io::Result<()> {
     let mut i: usize = 0;
     let mut at: usize = 0;
     while at < 1328 {
         let c = letter(at);
         at += 1;
         if c != b'\n' {
-            mark(c);
+            mark(&rt, c)?;
             continue;
         }
-        answer(i);
+        answer(&rt, i)?;
         i += 1;
     }
+    Ok(())
 }
