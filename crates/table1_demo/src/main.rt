@@ -5,6 +5,7 @@ ghost use Rattle.std.specs.Prelude.{◌≤◌};
 
 use itemset::Items;
 use statement::{Counted, Outcome};
+use std::io;
 
 // The package, of items below 64, goes behind the first n if it is wanted and there is room; returns how many there are then.
 fn put(packages: &mut [u64], n: usize, items: u64, wanted: bool) -> usize {
@@ -56,42 +57,43 @@ const NO_ITEMS: Items = Items {
     w2: 0,
 };
 
-fn print(word: &[u8], n: u64) {
-    io::write_all(1, word);
-    io::print_decimal(1, n);
+fn print(rt: &impl Print, word: &[u8], n: u64) -> io::Result<()> {
+    rt.write_all(word)?;
+    rt.print(n)
 }
 
-fn print_word(word: &[u8], n: u32) {
-    print(word, n as u64);
+fn print_word(rt: &impl Print, word: &[u8], n: u32) -> io::Result<()> {
+    print(rt, word, n as u64)
 }
 
-fn print_count(c: Counted) {
+fn print_count(rt: &impl Print, c: Counted) -> io::Result<()> {
     match c {
-        Counted::Count(n) => print(b" timetables ", n),
-        Counted::Refused(n) => print(b" refused ", n as u64),
+        Counted::Count(n) => print(rt, b" timetables ", n),
+        Counted::Refused(n) => print(rt, b" refused ", n as u64),
     }
 }
 
 // How many timetables the answer has; or the refusal of cover.
 fn print_timetables(
+    rt: &impl Print,
     m: u32,
     packages: &[u64],
     order: &[u8],
     t: &[u32],
     work: &mut [u64],
     outcome: Outcome,
-) {
+) -> io::Result<()> {
     match outcome {
         Outcome::Answer(a) => {
             let c = engine::count(m, packages, NO_ITEMS, order, t, a, work);
-            print_count(c)
+            print_count(rt, c)
         }
-        Outcome::Refused(n) => print(b" refused ", n as u64),
+        Outcome::Refused(n) => print(rt, b" refused ", n as u64),
     }
 }
 
 // All m items are covered on a table of 65,534 nodes, with a memo of 65,521 places (a prime: item sets share their low bits).
-fn run(name: &[u8], m: u32, packages: &[u64])
+fn run(rt: &impl Print, name: &[u8], m: u32, packages: &[u64]) -> io::Result<()>
     requires { m ≤ 192 }
 {
     let plain = exact_cover::plain_order();
@@ -102,21 +104,21 @@ fn run(name: &[u8], m: u32, packages: &[u64])
     let report = engine::cover(
         m, packages, NO_ITEMS, order, &mut t, items, 4294967295, &mut work,
     );
-    print_word(name, report.made);
-    print_word(b" steps ", report.steps);
+    print_word(rt, name, report.made)?;
+    print_word(rt, b" steps ", report.steps)?;
     let outcome = report.outcome;
-    print_timetables(m, packages, order, &t, &mut work, outcome);
-    io::write_all(1, b"\n");
+    print_timetables(rt, m, packages, order, &t, &mut work, outcome)?;
+    rt.write_all(b"\n")
 }
 
-fn main() {
+fn main(rt: HostRuntime) -> io::Result<()> {
     let mut sets = [0u64; 1533];
     bell(&mut sets);
-    run(b"bell-09 nodes ", 9, &sets);
+    run(&rt, b"bell-09 nodes ", 9, &sets)?;
     let mut twos = [0u64; 459];
     pairs(&mut twos);
-    run(b"doublefact-17 nodes ", 18, &twos);
+    run(&rt, b"doublefact-17 nodes ", 18, &twos)?;
     let mut placings = [0u64; 336];
     dominoes(&mut placings);
-    run(b"domino.8.8 nodes ", 64, &placings);
+    run(&rt, b"domino.8.8 nodes ", 64, &placings)
 }
