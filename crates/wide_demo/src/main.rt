@@ -6,6 +6,7 @@ ghost use Rattle.std.specs.Prelude.{◌+◌, ◌*◌, ◌≤◌, ◌<◌, length
 
 use itemset::Items;
 use statement::{Counted, Outcome, Report};
+use std::io;
 
 // The lesser of the two.
 fn least(x: usize, y: usize) -> usize
@@ -26,38 +27,52 @@ const NO_ITEMS: Items = Items {
 
 // ---- what is printed
 
-fn print(word: &[u8], n: u64) {
-    io::write_all(1, word);
-    io::print_decimal(1, n);
+fn print(rt: &impl Print, word: &[u8], n: u64) -> io::Result<()> {
+    rt.write_all(word)?;
+    rt.print(n)
 }
 
-fn print_refused(n: u8) {
-    print(b" refused ", n as u64);
+fn print_refused(rt: &impl Print, n: u8) -> io::Result<()> {
+    print(rt, b" refused ", n as u64)
 }
 
-fn print_count(c: Counted) {
+fn print_count(rt: &impl Print, c: Counted) -> io::Result<()> {
     match c {
-        Counted::Count(n) => print(b" timetables ", n),
-        Counted::Refused(n) => print_refused(n),
+        Counted::Count(n) => print(rt, b" timetables ", n),
+        Counted::Refused(n) => print_refused(rt, n),
     }
 }
 
 // What cover gave, and how many timetables the answer has.
-fn print_report(m: u32, packages: &[u64], order: &[u8], t: &[u32], r: Report) {
+fn print_report(
+    rt: &impl Print,
+    m: u32,
+    packages: &[u64],
+    order: &[u8],
+    t: &[u32],
+    r: Report,
+) -> io::Result<()> {
     let outcome = r.outcome;
     match outcome {
         Outcome::Answer(a) => {
-            print(b" nodes ", r.made as u64);
-            print(b" steps ", r.steps as u64);
+            print(rt, b" nodes ", r.made as u64)?;
+            print(rt, b" steps ", r.steps as u64)?;
             let c = engine::count(m, packages, NO_ITEMS, order, t, a, &mut [0u64; 65536]);
-            print_count(c)
+            print_count(rt, c)
         }
-        Outcome::Refused(n) => print_refused(n),
+        Outcome::Refused(n) => print_refused(rt, n),
     }
 }
 
 // Cover of d on a table of 65,534 nodes and in so many working words, at most those of a memo of 65,521 places (a prime, as in table1_demo).
-fn cover(m: u32, packages: &[u64], order: &[u8], d: Items, words: usize) {
+fn cover(
+    rt: &impl Print,
+    m: u32,
+    packages: &[u64],
+    order: &[u8],
+    d: Items,
+    words: usize,
+) -> io::Result<()> {
     let mut t = [0u32; 196603];
     let mut work = [0u64; 262084];
     let lent = least(words, 262084);
@@ -71,15 +86,15 @@ fn cover(m: u32, packages: &[u64], order: &[u8], d: Items, words: usize) {
         4294967295,
         &mut work[0..lent],
     );
-    print_report(m, packages, order, &t, report);
-    io::write_all(1, b"\n");
+    print_report(rt, m, packages, order, &t, report)?;
+    rt.write_all(b"\n")
 }
 
 // The same, in the plain order of all m items; of more than 192 there is none.
-fn run(m: u32, packages: &[u64], d: Items, words: usize) {
+fn run(rt: &impl Print, m: u32, packages: &[u64], d: Items, words: usize) -> io::Result<()> {
     let order = exact_cover::plain_order();
     let lent = least(base::wide(m), 192);
-    cover(m, packages, &order[0..lent], d, words);
+    cover(rt, m, packages, &order[0..lent], d, words)
 }
 
 // All items of the packages.
@@ -105,39 +120,39 @@ const WHOLE: Items = Items {
 };
 
 // The figure with so many working words: P is a quarter of them, rounded down.
-fn figure(words: usize) {
+fn figure(rt: &impl Print, words: usize) -> io::Result<()> {
     let packages = FIGURE;
-    print(b"figure 1 in working words ", words as u64);
-    print(b", places ", (words / 4) as u64);
-    io::write_all(1, b":");
-    run(130, &packages[0..15], WHOLE, words);
+    print(rt, b"figure 1 in working words ", words as u64)?;
+    print(rt, b", places ", (words / 4) as u64)?;
+    rt.write_all(b":")?;
+    run(rt, 130, &packages[0..15], WHOLE, words)
 }
 
 // The figure with so many words of its packages: N is a third of them, rounded down.
-fn figure_lent(words: usize) {
+fn figure_lent(rt: &impl Print, words: usize) -> io::Result<()> {
     let packages = FIGURE;
     let lent = least(words, 17);
-    print(b"figure 1 in package words ", words as u64);
-    print(b", packages ", (words / 3) as u64);
-    io::write_all(1, b":");
-    run(130, &packages[0..lent], WHOLE, 256);
+    print(rt, b"figure 1 in package words ", words as u64)?;
+    print(rt, b", packages ", (words / 3) as u64)?;
+    rt.write_all(b":")?;
+    run(rt, 130, &packages[0..lent], WHOLE, 256)
 }
 
-fn figures() {
-    figure(12);
-    figure(16);
-    figure(20);
-    figure(28);
-    figure(256);
-    figure(3);
-    figure(4);
-    figure(5);
-    figure(6);
-    figure(7);
-    figure_lent(14);
-    figure_lent(15);
-    figure_lent(16);
-    figure_lent(17);
+fn figures(rt: &impl Print) -> io::Result<()> {
+    figure(rt, 12)?;
+    figure(rt, 16)?;
+    figure(rt, 20)?;
+    figure(rt, 28)?;
+    figure(rt, 256)?;
+    figure(rt, 3)?;
+    figure(rt, 4)?;
+    figure(rt, 5)?;
+    figure(rt, 6)?;
+    figure(rt, 7)?;
+    figure_lent(rt, 14)?;
+    figure_lent(rt, 15)?;
+    figure_lent(rt, 16)?;
+    figure_lent(rt, 17)
 }
 
 // ---- the limits of M
@@ -153,24 +168,24 @@ const UPPER: u64 = 18446744073709551614;
 const WEEK: [u64; 12] = [LAST, 1, 0, 0, 0, LAST, LOWER, UPPER, LOWER, LAST, 1, LAST];
 
 // All 192 items with the first so many packages of the week, where M is m.
-fn week(m: u32, packages: usize) {
+fn week(rt: &impl Print, m: u32, packages: usize) -> io::Result<()> {
     let words = WEEK;
     let n = least(packages, 4);
-    print(b"192 items with M ", m as u64);
-    print(b", packages ", packages as u64);
-    io::write_all(1, b":");
-    run(m, &words[0..3 * n], itemset::all_below(192), 256);
+    print(rt, b"192 items with M ", m as u64)?;
+    print(rt, b", packages ", packages as u64)?;
+    rt.write_all(b":")?;
+    run(rt, m, &words[0..3 * n], itemset::all_below(192), 256)
 }
 
-fn weeks() {
-    week(192, 4);
-    week(193, 4);
+fn weeks(rt: &impl Print) -> io::Result<()> {
+    week(rt, 192, 4)?;
+    week(rt, 193, 4)?;
     // The second package has item 191, which is M, and then above it.
-    week(191, 4);
-    week(128, 4);
+    week(rt, 191, 4)?;
+    week(rt, 128, 4)?;
     // Of the first package and D only D has it.
-    week(191, 1);
-    week(128, 1);
+    week(rt, 191, 1)?;
+    week(rt, 128, 1)
 }
 
 // ---- dominoes
@@ -213,25 +228,25 @@ fn dominoes(packages: &mut [u64], next: u32, row: u32, end: u32)
     }
 }
 
-fn domino8() {
+fn domino8(rt: &impl Print) -> io::Result<()> {
     let mut placings = [0u64; 336];
     dominoes(&mut placings, 3, 24, 192);
     let d = items(&placings);
-    io::write_all(1, b"domino.8.8 at every third item of 190:");
-    run(190, &placings, d, 262084);
+    rt.write_all(b"domino.8.8 at every third item of 190:")?;
+    run(rt, 190, &placings, d, 262084)
 }
 
-fn domino10() {
+fn domino10(rt: &impl Print) -> io::Result<()> {
     let mut placings = [0u64; 540];
     dominoes(&mut placings, 1, 10, 100);
     let d = items(&placings);
-    io::write_all(1, b"domino.10.10:");
-    run(100, &placings, d, 262084);
+    rt.write_all(b"domino.10.10:")?;
+    run(rt, 100, &placings, d, 262084)
 }
 
-fn main() {
-    figures();
-    weeks();
-    domino8();
-    domino10();
+fn main(rt: HostRuntime) -> io::Result<()> {
+    figures(&rt)?;
+    weeks(&rt)?;
+    domino8(&rt)?;
+    domino10(&rt)
 }
