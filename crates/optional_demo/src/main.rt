@@ -5,13 +5,14 @@
 ghost use Rattle.std.specs.Prelude.{◌+◌, ◌*◌, ◌≤◌, ◌<◌, length};
 
 use itemset::Items;
+use std::io;
 use weeks::Week;
 
 // Cover in the plain order of all items.
-fn run(packages: &[u64], w: Week) {
+fn run(rt: &impl Print, packages: &[u64], w: Week) -> io::Result<()> {
     let order = exact_cover::plain_order();
     let m = weeks::least(base::wide(w.m), 192);
-    weeks::run(packages, w, &order[0..m]);
+    weeks::run(rt, packages, w, &order[0..m])
 }
 
 // ---- small weeks
@@ -50,39 +51,39 @@ fn small(m: u32, optional: Items, d: Items) -> Week {
     }
 }
 
-fn slots(name: &[u8], optional: u64, d: u64) {
-    io::write_all(1, name);
+fn slots(rt: &impl Print, name: &[u8], optional: u64, d: u64) -> io::Result<()> {
+    rt.write_all(name)?;
     let packages = SLOTS;
-    run(&packages, small(3, low(optional), low(d)));
+    run(rt, &packages, small(3, low(optional), low(d)))
 }
 
-fn late(name: &[u8], optional: u64) {
-    io::write_all(1, name);
+fn late(rt: &impl Print, name: &[u8], optional: u64) -> io::Result<()> {
+    rt.write_all(name)?;
     let packages = LATE;
-    run(&packages, small(3, low(optional), low(7)));
+    run(rt, &packages, small(3, low(optional), low(7)))
 }
 
 // D has item 63 of each word, of which only 191 is in a package.
-fn wide_slots(name: &[u8], optional: Items) {
-    io::write_all(1, name);
+fn wide_slots(rt: &impl Print, name: &[u8], optional: Items) -> io::Result<()> {
+    rt.write_all(name)?;
     let packages = WIDE_SLOTS;
     let d = Items {
         w0: LAST + 1,
         w1: LAST + 2,
         w2: LAST,
     };
-    run(&packages, small(192, optional, d));
+    run(rt, &packages, small(192, optional, d))
 }
 
-fn wide_late(name: &[u8], optional: Items) {
-    io::write_all(1, name);
+fn wide_late(rt: &impl Print, name: &[u8], optional: Items) -> io::Result<()> {
+    rt.write_all(name)?;
     let packages = WIDE_LATE;
     let d = Items {
         w0: 1,
         w1: 2,
         w2: LAST,
     };
-    run(&packages, small(192, optional, d));
+    run(rt, &packages, small(192, optional, d))
 }
 
 const LASTS: Items = Items {
@@ -91,18 +92,22 @@ const LASTS: Items = Items {
     w2: LAST,
 };
 
-fn weeks() {
-    slots(b"four packages, item 2 optional:", 4, 7);
-    slots(b"four packages, nothing optional:", 0, 7);
-    slots(b"four packages, item 2 optional, D empty:", 4, 0);
-    slots(b"four packages, item 2 optional, D {2}:", 4, 4);
-    slots(b"four packages, nothing optional, D {2}:", 0, 4);
-    late(b"two packages, item 0 optional:", 1);
-    late(b"two packages, nothing optional:", 0);
-    wide_slots(b"four wide packages, items 63, 127, 191 optional:", LASTS);
-    wide_slots(b"four wide packages, nothing optional:", low(0));
-    wide_late(b"two wide packages, item 0 optional:", low(1));
-    wide_late(b"two wide packages, nothing optional:", low(0));
+fn weeks(rt: &impl Print) -> io::Result<()> {
+    slots(rt, b"four packages, item 2 optional:", 4, 7)?;
+    slots(rt, b"four packages, nothing optional:", 0, 7)?;
+    slots(rt, b"four packages, item 2 optional, D empty:", 4, 0)?;
+    slots(rt, b"four packages, item 2 optional, D {2}:", 4, 4)?;
+    slots(rt, b"four packages, nothing optional, D {2}:", 0, 4)?;
+    late(rt, b"two packages, item 0 optional:", 1)?;
+    late(rt, b"two packages, nothing optional:", 0)?;
+    wide_slots(
+        rt,
+        b"four wide packages, items 63, 127, 191 optional:",
+        LASTS,
+    )?;
+    wide_slots(rt, b"four wide packages, nothing optional:", low(0))?;
+    wide_late(rt, b"two wide packages, item 0 optional:", low(1))?;
+    wide_late(rt, b"two wide packages, nothing optional:", low(0))
 }
 
 // ---- one set throughout
@@ -111,8 +116,8 @@ fn weeks() {
 const ORDER: [u8; 3] = [0, 1, 2];
 
 // The answer "0 1" of the two packages, counted with these items optional. Where item 0 is compulsory, package 1 comes first, and the table is not sound.
-fn count_with(name: &[u8], optional: Items) {
-    io::write_all(1, name);
+fn count_with(rt: &impl Print, name: &[u8], optional: Items) -> io::Result<()> {
+    rt.write_all(name)?;
     let packages = LATE;
     let mut t = [0u32; 7];
     let mut work = [0u64; 256];
@@ -127,8 +132,8 @@ fn count_with(name: &[u8], optional: Items) {
         &mut work,
     );
     let c = engine::count(3, &packages, optional, &ORDER, &t, 3, &mut work);
-    weeks::print_count(c);
-    io::write_all(1, b"\n");
+    weeks::print_count(rt, c)?;
+    rt.write_all(b"\n")
 }
 
 // ---- refusals
@@ -136,7 +141,7 @@ fn count_with(name: &[u8], optional: Items) {
 // No table: it has no room for the node that it says it has.
 const SPOILT: [u32; 1] = [1];
 
-fn refuse_cover(optional: Items) {
+fn refuse_cover(rt: &impl Print, optional: Items) -> io::Result<()> {
     let packages = SLOTS;
     let mut t = SPOILT;
     let r = engine::cover(
@@ -149,22 +154,22 @@ fn refuse_cover(optional: Items) {
         6,
         &mut [0u64; 256],
     );
-    io::write_all(1, b" cover");
+    rt.write_all(b" cover")?;
     let outcome = r.outcome;
-    weeks::print_outcome(outcome);
+    weeks::print_outcome(rt, outcome)
 }
 
-fn refuse_without(optional: Items) {
+fn refuse_without(rt: &impl Print, optional: Items) -> io::Result<()> {
     let packages = SLOTS;
     let mut t = SPOILT;
     let r = engine::without(3, &packages, optional, &ORDER, &mut t, 1, 0, &mut [0u64; 2]);
-    io::write_all(1, b" without");
+    rt.write_all(b" without")?;
     let outcome = r.outcome;
-    weeks::print_outcome(outcome);
+    weeks::print_outcome(rt, outcome)
 }
 
 // Three costs for the four packages.
-fn refuse_cheapest(optional: Items) {
+fn refuse_cheapest(rt: &impl Print, optional: Items) -> io::Result<()> {
     let packages = SLOTS;
     let t = SPOILT;
     let r = engine::cheapest(
@@ -178,17 +183,17 @@ fn refuse_cheapest(optional: Items) {
         &mut [0u64; 2],
         &mut [0u16; 4],
     );
-    io::write_all(1, b" cheapest");
-    weeks::print_priced(r);
+    rt.write_all(b" cheapest")?;
+    weeks::print_priced(rt, r)
 }
 
 // 4 for the table and 3 for the costs come behind 29 and 30.
-fn refuse(name: &[u8], optional: Items) {
-    io::write_all(1, name);
-    refuse_cover(optional);
-    refuse_without(optional);
-    refuse_cheapest(optional);
-    io::write_all(1, b"\n");
+fn refuse(rt: &impl Print, name: &[u8], optional: Items) -> io::Result<()> {
+    rt.write_all(name)?;
+    refuse_cover(rt, optional)?;
+    refuse_without(rt, optional)?;
+    refuse_cheapest(rt, optional)?;
+    rt.write_all(b"\n")
 }
 
 const ITEM_191: Items = Items {
@@ -197,12 +202,16 @@ const ITEM_191: Items = Items {
     w2: LAST,
 };
 
-fn refusals() {
-    refuse(b"spoilt table, items 0, 2 and 3 of M 3 optional:", low(13));
-    refuse(b"spoilt table, items 0 and 2 optional:", low(5));
-    refuse(b"spoilt table, item 3 of M 3 optional:", low(8));
-    refuse(b"spoilt table, item 191 of M 3 optional:", ITEM_191);
-    refuse(b"spoilt table, item 2 optional:", low(4));
+fn refusals(rt: &impl Print) -> io::Result<()> {
+    refuse(
+        rt,
+        b"spoilt table, items 0, 2 and 3 of M 3 optional:",
+        low(13),
+    )?;
+    refuse(rt, b"spoilt table, items 0 and 2 optional:", low(5))?;
+    refuse(rt, b"spoilt table, item 3 of M 3 optional:", low(8))?;
+    refuse(rt, b"spoilt table, item 191 of M 3 optional:", ITEM_191)?;
+    refuse(rt, b"spoilt table, item 2 optional:", low(4))
 }
 
 // ---- queens
@@ -277,23 +286,23 @@ fn items(first: u32, end: u32, apart: u32) -> Items
 }
 
 // The first n packages of the board are lent.
-fn run_board(board: [u64; 300], n: usize, w: Week)
+fn run_board(rt: &impl Print, board: [u64; 300], n: usize, w: Week) -> io::Result<()>
     requires { n ≤ 100 }
 {
-    weeks::print(b", packages ", n as u64);
-    io::write_all(1, b":");
-    run(&board[0..3 * n], w);
+    weeks::print(rt, b", packages ", n as u64)?;
+    rt.write_all(b":")?;
+    run(rt, &board[0..3 * n], w)
 }
 
 // n queens on n by n squares: rows and columns are compulsory, and a diagonal has one queen at most.
-fn queens(n: u32, m: u32, apart: u32)
+fn queens(rt: &impl Print, n: u32, m: u32, apart: u32) -> io::Result<()>
     requires n_bound { n ≤ 10 }
     requires n_nonzero { 0 < n }
     requires apart_bound { apart < 192 }
 {
-    weeks::print(b"queens ", n as u64);
-    weeks::print(b", items apart ", apart as u64);
-    weeks::print(b", M ", m as u64);
+    weeks::print(rt, b"queens ", n as u64)?;
+    weeks::print(rt, b", items apart ", apart as u64)?;
+    weeks::print(rt, b", M ", m as u64)?;
     let mut board = [0u64; 300];
     let squares = put_queens(&mut board, n, apart);
     let w = Week {
@@ -303,22 +312,24 @@ fn queens(n: u32, m: u32, apart: u32)
         words: 262084,
         shown: 3,
     };
-    run_board(board, squares, w);
+    run_board(rt, board, squares, w)
 }
 
-fn main() {
-    weeks();
+fn main(rt: HostRuntime) -> io::Result<()> {
+    weeks(&rt)?;
     count_with(
+        &rt,
         b"answer 3 of two packages, counted with item 0 optional:",
         low(1),
-    );
+    )?;
     count_with(
+        &rt,
         b"answer 3 of two packages, counted with nothing optional:",
         low(0),
-    );
-    refusals();
-    queens(8, 46, 1);
-    queens(8, 181, 4);
-    queens(8, 173, 65);
-    queens(10, 58, 1);
+    )?;
+    refusals(&rt)?;
+    queens(&rt, 8, 46, 1)?;
+    queens(&rt, 8, 181, 4)?;
+    queens(&rt, 8, 173, 65)?;
+    queens(&rt, 10, 58, 1)
 }
