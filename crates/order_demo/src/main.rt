@@ -6,23 +6,24 @@ ghost use Rattle.std.specs.Prelude.{◌≤◌, ◌<◌};
 
 use itemset::Items;
 use statement::{Call, Measured, Placed};
+use std::io;
 use weeks::Week;
 
 // ---- what is printed
 
-fn print_item(item: u8) {
-    weeks::print(b" ", item as u64);
+fn print_item(rt: &impl Print, item: u8) -> io::Result<()> {
+    weeks::print(rt, b" ", item as u64)
 }
 
 // The items that are lent.
-fn print_order(order: &[u8]) {
-    io::write_all(1, b", order");
+fn print_order(rt: &impl Print, order: &[u8]) -> io::Result<()> {
+    rt.write_all(b", order")?;
     let mut i: usize = 0;
     while i < order.len() {
-        print_item(order[i]);
+        print_item(rt, order[i])?;
         i += 1;
     }
-    io::write_all(1, b":");
+    rt.write_all(b":")
 }
 
 // ---- the figure
@@ -55,19 +56,19 @@ fn small(m: u32, optional: Items, d: Items, words: usize) -> Week {
     }
 }
 
-fn figure(order: [u8; 6], words: usize) {
-    weeks::print(b"figure 1, places ", (words / 4) as u64);
-    print_order(&order);
+fn figure(rt: &impl Print, order: [u8; 6], words: usize) -> io::Result<()> {
+    weeks::print(rt, b"figure 1, places ", (words / 4) as u64)?;
+    print_order(rt, &order)?;
     let packages = FIGURE;
-    weeks::run(&packages, small(6, low(0), low(63), words), &order);
+    weeks::run(rt, &packages, small(6, low(0), low(63), words), &order)
 }
 
-fn figures() {
-    figure(PLAIN, 256);
-    figure(REVERSED, 256);
-    figure(MIXED, 256);
-    figure(MIXED, 28);
-    figure(MIXED, 16);
+fn figures(rt: &impl Print) -> io::Result<()> {
+    figure(rt, PLAIN, 256)?;
+    figure(rt, REVERSED, 256)?;
+    figure(rt, MIXED, 256)?;
+    figure(rt, MIXED, 28)?;
+    figure(rt, MIXED, 16)
 }
 
 // The table of the figure, in the order: all its items are answer 5.
@@ -88,103 +89,118 @@ fn table(order: [u8; 6]) -> [u32; 13] {
     t
 }
 
-fn print_placed(r: Placed) {
+fn print_placed(rt: &impl Print, r: Placed) -> io::Result<()> {
     match r {
-        Placed::Place(k) => weeks::print(b" ", k),
-        Placed::Refused(n) => weeks::print_refused(n),
+        Placed::Place(k) => weeks::print(rt, b" ", k),
+        Placed::Refused(n) => weeks::print_refused(rt, n),
     }
 }
 
 // Where the list stands in the answer of the figure.
-fn print_place(order: &[u8], t: &[u32], a: u32, list: [u16; 3]) {
+fn print_place(rt: &impl Print, order: &[u8], t: &[u32], a: u32, list: [u16; 3]) -> io::Result<()> {
     let packages = FIGURE;
     let r = engine::place(6, &packages, low(0), order, t, a, &list, &mut [0u64; 6]);
-    print_placed(r);
+    print_placed(rt, r)
 }
 
-fn place(order: [u8; 6], list: [u16; 3]) {
-    weeks::print(b"place of ", list[0] as u64);
-    weeks::print(b" ", list[1] as u64);
-    weeks::print(b" ", list[2] as u64);
-    print_order(&order);
+fn place(rt: &impl Print, order: [u8; 6], list: [u16; 3]) -> io::Result<()> {
+    weeks::print(rt, b"place of ", list[0] as u64)?;
+    weeks::print(rt, b" ", list[1] as u64)?;
+    weeks::print(rt, b" ", list[2] as u64)?;
+    print_order(rt, &order)?;
     let t = table(order);
-    print_place(&order, &t, 5, list);
-    io::write_all(1, b"\n");
+    print_place(rt, &order, &t, 5, list)?;
+    rt.write_all(b"\n")
 }
 
 // The answer of that table, counted.
-fn count(t: [u32; 13], order: [u8; 6]) {
-    io::write_all(1, b" count");
-    print_order(&order);
+fn count(rt: &impl Print, t: [u32; 13], order: [u8; 6]) -> io::Result<()> {
+    rt.write_all(b" count")?;
+    print_order(rt, &order)?;
     let packages = FIGURE;
-    weeks::print_timetables(&packages, small(6, low(0), low(63), 0), &order, &t, 5);
-    io::write_all(1, b"\n");
+    weeks::print_timetables(rt, &packages, small(6, low(0), low(63), 0), &order, &t, 5)?;
+    rt.write_all(b"\n")
 }
 
 // The table is made in one order and read in another.
-fn read(made: [u8; 6], order: [u8; 6]) {
-    io::write_all(1, b"cover");
-    print_order(&made);
-    count(table(made), order);
+fn read(rt: &impl Print, made: [u8; 6], order: [u8; 6]) -> io::Result<()> {
+    rt.write_all(b"cover")?;
+    print_order(rt, &made)?;
+    count(rt, table(made), order)
 }
 
-fn readings() {
-    place(PLAIN, [1, 4, 2]);
-    place(REVERSED, [2, 4, 1]);
-    place(REVERSED, [1, 4, 2]);
-    read(PLAIN, PLAIN);
-    read(PLAIN, REVERSED);
+fn readings(rt: &impl Print) -> io::Result<()> {
+    place(rt, PLAIN, [1, 4, 2])?;
+    place(rt, REVERSED, [2, 4, 1])?;
+    place(rt, REVERSED, [1, 4, 2])?;
+    read(rt, PLAIN, PLAIN)?;
+    read(rt, PLAIN, REVERSED)
 }
 
 // ---- refusals
 
-fn refuse_answer(name: &[u8], order: &[u8], c: Call) {
-    io::write_all(1, name);
+fn refuse_answer(rt: &impl Print, name: &[u8], order: &[u8], c: Call) -> io::Result<()> {
+    rt.write_all(name)?;
     let packages = FIGURE;
     let r = engine::answer(6, &packages, low(0), order, &mut [1u32], c, &mut [0u64; 4]);
     let o = r.outcome;
-    weeks::print_outcome(o);
+    weeks::print_outcome(rt, o)
 }
 
-fn refuse_making(order: &[u8]) {
+fn refuse_making(rt: &impl Print, order: &[u8]) -> io::Result<()> {
     let d = low(63);
-    refuse_answer(b" cover", order, Call::Cover { d, limit: 6 });
-    refuse_answer(b" either", order, Call::Either { a: 0, b: 1 });
-    refuse_answer(b" with", order, Call::With { a: 1, p: 0 });
+    refuse_answer(rt, b" cover", order, Call::Cover { d, limit: 6 })?;
+    refuse_answer(rt, b" either", order, Call::Either { a: 0, b: 1 })?;
+    refuse_answer(rt, b" with", order, Call::With { a: 1, p: 0 })
 }
 
-fn print_measured(r: Measured) {
+fn print_measured(rt: &impl Print, r: Measured) -> io::Result<()> {
     match r {
-        Measured::Packages(n) => weeks::print(b" packages ", n as u64),
-        Measured::Refused(n) => weeks::print_refused(n),
+        Measured::Packages(n) => weeks::print(rt, b" packages ", n as u64),
+        Measured::Refused(n) => weeks::print_refused(rt, n),
     }
 }
 
-fn refuse_measure(order: &[u8]) {
+fn refuse_measure(rt: &impl Print, order: &[u8]) -> io::Result<()> {
     let packages = FIGURE;
     let r = engine::measure(6, &packages, low(0), order, &[1u32], 1, 0, &mut [0u64; 2]);
-    io::write_all(1, b" measure");
-    print_measured(r);
+    rt.write_all(b" measure")?;
+    print_measured(rt, r)
 }
 
-fn refuse_count(order: &[u8]) {
+fn refuse_count(rt: &impl Print, order: &[u8]) -> io::Result<()> {
     let packages = FIGURE;
-    io::write_all(1, b" count");
-    weeks::print_timetables(&packages, small(6, low(0), low(0), 0), order, &[1u32], 1);
+    rt.write_all(b" count")?;
+    weeks::print_timetables(
+        rt,
+        &packages,
+        small(6, low(0), low(0), 0),
+        order,
+        &[1u32],
+        1,
+    )
 }
 
-fn refuse_pick(order: &[u8]) {
+fn refuse_pick(rt: &impl Print, order: &[u8]) -> io::Result<()> {
     let packages = FIGURE;
-    io::write_all(1, b" pick");
-    weeks::print_pick(&packages, small(6, low(0), low(0), 0), order, &[1u32], 1, 0);
+    rt.write_all(b" pick")?;
+    weeks::print_pick(
+        rt,
+        &packages,
+        small(6, low(0), low(0), 0),
+        order,
+        &[1u32],
+        1,
+        0,
+    )
 }
 
-fn refuse_place(order: &[u8]) {
-    io::write_all(1, b" place");
-    print_place(order, &[1u32], 1, [2, 4, 1]);
+fn refuse_place(rt: &impl Print, order: &[u8]) -> io::Result<()> {
+    rt.write_all(b" place")?;
+    print_place(rt, order, &[1u32], 1, [2, 4, 1])
 }
 
-fn refuse_cheapest(order: &[u8]) {
+fn refuse_cheapest(rt: &impl Print, order: &[u8]) -> io::Result<()> {
     let packages = FIGURE;
     let r = engine::cheapest(
         6,
@@ -197,35 +213,35 @@ fn refuse_cheapest(order: &[u8]) {
         &mut [0u64; 2],
         &mut [0u16; 4],
     );
-    io::write_all(1, b" cheapest");
-    weeks::print_priced(r);
+    rt.write_all(b" cheapest")?;
+    weeks::print_priced(rt, r)
 }
 
 // The table has no room for the node that it says it has, and cheapest has costs for three packages of the five: 34 comes before 4 and 3.
-fn refuse_all(order: &[u8]) {
-    refuse_making(order);
-    refuse_count(order);
-    refuse_measure(order);
-    refuse_pick(order);
-    refuse_place(order);
-    refuse_cheapest(order);
-    io::write_all(1, b"\n");
+fn refuse_all(rt: &impl Print, order: &[u8]) -> io::Result<()> {
+    refuse_making(rt, order)?;
+    refuse_count(rt, order)?;
+    refuse_measure(rt, order)?;
+    refuse_pick(rt, order)?;
+    refuse_place(rt, order)?;
+    refuse_cheapest(rt, order)?;
+    rt.write_all(b"\n")
 }
 
 // The first so many items of the order are lent.
-fn refuse(order: [u8; 7], items: usize) {
-    io::write_all(1, b"spoilt table, M 6");
+fn refuse(rt: &impl Print, order: [u8; 7], items: usize) -> io::Result<()> {
+    rt.write_all(b"spoilt table, M 6")?;
     let end = weeks::least(items, 7);
-    print_order(&order[0..end]);
-    refuse_all(&order[0..end]);
+    print_order(rt, &order[0..end])?;
+    refuse_all(rt, &order[0..end])
 }
 
-fn refusals() {
-    refuse([0, 1, 2, 3, 4, 4, 0], 6);
-    refuse([0, 1, 2, 3, 4, 6, 0], 6);
-    refuse([0, 1, 2, 3, 4, 5, 6], 5);
-    refuse([0, 1, 2, 3, 4, 5, 6], 7);
-    refuse([0, 1, 2, 3, 4, 5, 6], 6);
+fn refusals(rt: &impl Print) -> io::Result<()> {
+    refuse(rt, [0, 1, 2, 3, 4, 4, 0], 6)?;
+    refuse(rt, [0, 1, 2, 3, 4, 6, 0], 6)?;
+    refuse(rt, [0, 1, 2, 3, 4, 5, 6], 5)?;
+    refuse(rt, [0, 1, 2, 3, 4, 5, 6], 7)?;
+    refuse(rt, [0, 1, 2, 3, 4, 5, 6], 6)
 }
 
 // ---- no items, optional ones, and 192
@@ -271,35 +287,35 @@ fn spread(m: u32, first: u32, apart: u32) -> [u8; 192]
 }
 
 // No package and no item, and the first so many items of the order are lent.
-fn empty(items: usize) {
+fn empty(rt: &impl Print, items: usize) -> io::Result<()> {
     let order = PLAIN;
     let end = weeks::least(items, 6);
-    io::write_all(1, b"M 0");
-    print_order(&order[0..end]);
-    weeks::run(&[], small(0, low(0), low(0), 4), &order[0..end]);
+    rt.write_all(b"M 0")?;
+    print_order(rt, &order[0..end])?;
+    weeks::run(rt, &[], small(0, low(0), low(0), 4), &order[0..end])
 }
 
-fn slots(order: [u8; 3]) {
-    io::write_all(1, b"four packages, item 2 optional");
-    print_order(&order);
+fn slots(rt: &impl Print, order: [u8; 3]) -> io::Result<()> {
+    rt.write_all(b"four packages, item 2 optional")?;
+    print_order(rt, &order)?;
     let packages = SLOTS;
-    weeks::run(&packages, small(3, low(4), low(7), 256), &order);
+    weeks::run(rt, &packages, small(3, low(4), low(7), 256), &order)
 }
 
 // In the reversed order of all 192 items.
-fn wide_slots() {
-    io::write_all(1, b"four wide packages, item 191 optional, order 191 to 0:");
+fn wide_slots(rt: &impl Print) -> io::Result<()> {
+    rt.write_all(b"four wide packages, item 191 optional, order 191 to 0:")?;
     let packages = WIDE_SLOTS;
     let w = small(192, set(0, 0, LAST), set(1, 2, LAST), 256);
-    weeks::run(&packages, w, &spread(192, 191, 191));
+    weeks::run(rt, &packages, w, &spread(192, 191, 191))
 }
 
-fn others() {
-    empty(0);
-    empty(1);
-    slots([0, 1, 2]);
-    slots([2, 1, 0]);
-    wide_slots();
+fn others(rt: &impl Print) -> io::Result<()> {
+    empty(rt, 0)?;
+    empty(rt, 1)?;
+    slots(rt, [0, 1, 2])?;
+    slots(rt, [2, 1, 0])?;
+    wide_slots(rt)
 }
 
 // ---- what the order is for
@@ -317,7 +333,7 @@ fn put(packages: &mut [u64], n: usize, items: u64, wanted: bool) -> usize {
 }
 
 // All m items are covered in the order, in the working words of the largest memo, and no timetable is printed.
-fn whole(name: &[u8], packages: &[u64], m: u32, order: [u8; 192])
+fn whole(rt: &impl Print, name: &[u8], packages: &[u64], m: u32, order: [u8; 192]) -> io::Result<()>
     requires { m ≤ 192 }
 {
     let w = Week {
@@ -327,8 +343,8 @@ fn whole(name: &[u8], packages: &[u64], m: u32, order: [u8; 192])
         words: 262084,
         shown: 0,
     };
-    io::write_all(1, name);
-    weeks::run(packages, w, &order[0..base::wide(m)]);
+    rt.write_all(name)?;
+    weeks::run(rt, packages, w, &order[0..base::wide(m)])
 }
 
 // domino.8.8 of document 000: all domino placings on 8 by 8 cells, as in table1_demo.
@@ -344,17 +360,17 @@ fn dominoes() -> [u64; 336] {
     packages
 }
 
-fn board(name: &[u8], apart: u32)
+fn board(rt: &impl Print, name: &[u8], apart: u32) -> io::Result<()>
     requires { apart < 64 }
 {
     let packages = dominoes();
-    whole(name, &packages, 64, spread(64, 0, apart));
+    whole(rt, name, &packages, 64, spread(64, 0, apart))
 }
 
 // In the plain order cells that are near each other are covered one after the other; every ninth cell is on a diagonal.
-fn boards() {
-    board(b"domino.8.8, order 0 to 63:", 1);
-    board(b"domino.8.8, every ninth cell:", 9);
+fn boards(rt: &impl Print) -> io::Result<()> {
+    board(rt, b"domino.8.8, order 0 to 63:", 1)?;
+    board(rt, b"domino.8.8, every ninth cell:", 9)
 }
 
 // Whether a school wants the slots of these two days. Schools with an even number want evenings, any two, the others mornings that are at most two days apart.
@@ -442,32 +458,32 @@ fn popular_first(packages: [u64; 492]) -> [u8; 192] {
 }
 
 // With the evenings and their schools first the two halves of the week follow each other, and their nodes add up. Where they take turns, nodes multiply.
-fn popular(name: &[u8]) {
+fn popular(rt: &impl Print, name: &[u8]) -> io::Result<()> {
     let packages = programme();
     let order = popular_first(packages);
-    whole(name, &packages, 24, order);
+    whole(rt, name, &packages, 24, order)
 }
 
-fn term(name: &[u8], first: u32, apart: u32)
+fn term(rt: &impl Print, name: &[u8], first: u32, apart: u32) -> io::Result<()>
     requires first_bound { first < 24 }
     requires apart_bound { apart < 24 }
 {
     let packages = programme();
-    whole(name, &packages, 24, spread(24, first, apart));
+    whole(rt, name, &packages, 24, spread(24, first, apart))
 }
 
-fn terms() {
-    popular(b"eight schools, contested slots first:");
-    term(b"eight schools, order 0 to 23:", 0, 1);
-    term(b"eight schools, order 23 to 0:", 23, 23);
-    term(b"eight schools, every fifth item:", 0, 5);
+fn terms(rt: &impl Print) -> io::Result<()> {
+    popular(rt, b"eight schools, contested slots first:")?;
+    term(rt, b"eight schools, order 0 to 23:", 0, 1)?;
+    term(rt, b"eight schools, order 23 to 0:", 23, 23)?;
+    term(rt, b"eight schools, every fifth item:", 0, 5)
 }
 
-fn main() {
-    figures();
-    readings();
-    refusals();
-    others();
-    boards();
-    terms();
+fn main(rt: HostRuntime) -> io::Result<()> {
+    figures(&rt)?;
+    readings(&rt)?;
+    refusals(&rt)?;
+    others(&rt)?;
+    boards(&rt)?;
+    terms(&rt)
 }
