@@ -10,6 +10,7 @@ ghost use Rattle.std.specs.Prelude.{◌≤◌};
 
 use itemset::Items;
 use statement::{Counted, Measured, Picked, Placed, Priced};
+use std::io;
 
 // The texts, one after the other: the calls by their numbers, 0 to 4, and three more.
 const TEXTS: [u8; 48] = *b"countpickplacecheapestmeasure refused cost; page";
@@ -32,80 +33,81 @@ fn least(x: usize, y: usize) -> usize
     y
 }
 
-fn text(i: usize) {
+fn text(rt: &impl Print, i: usize) -> io::Result<()> {
     let s = TEXTS;
     let starts = STARTS;
     let n = i % 8;
     let b = least(starts[n + 1], 48);
     let a = least(starts[n], b);
-    io::write_all(1, &s[a..b]);
+    rt.write_all(&s[a..b])
 }
 
-fn mark(c: u8) {
-    io::write_all(1, &[c]);
+fn mark(rt: &impl Print, c: u8) -> io::Result<()> {
+    rt.write_all(&[c])
 }
 
-fn number(n: u64) {
-    mark(b' ');
-    io::print_decimal(1, n);
+fn number(rt: &impl Print, n: u64) -> io::Result<()> {
+    mark(rt, b' ')?;
+    rt.print(n)
 }
 
-fn half(n: u16) {
-    number(n as u64);
+fn half(rt: &impl Print, n: u16) -> io::Result<()> {
+    number(rt, n as u64)
 }
 
-fn refused(n: u8) {
-    text(REFUSED);
-    number(n as u64);
+fn refused(rt: &impl Print, n: u8) -> io::Result<()> {
+    text(rt, REFUSED)?;
+    number(rt, n as u64)
 }
 
-fn tell_counted(r: Counted) {
+fn tell_counted(rt: &impl Print, r: Counted) -> io::Result<()> {
     match r {
-        Counted::Count(n) => number(n),
-        Counted::Refused(n) => refused(n),
+        Counted::Count(n) => number(rt, n),
+        Counted::Refused(n) => refused(rt, n),
     }
 }
 
-fn tell_measured(r: Measured) {
+fn tell_measured(rt: &impl Print, r: Measured) -> io::Result<()> {
     match r {
-        Measured::Packages(n) => number(n as u64),
-        Measured::Refused(n) => refused(n),
+        Measured::Packages(n) => number(rt, n as u64),
+        Measured::Refused(n) => refused(rt, n),
     }
 }
 
-fn tell_picked(r: Picked) {
+fn tell_picked(rt: &impl Print, r: Picked) -> io::Result<()> {
     match r {
-        Picked::Packages(n) => number(n as u64),
-        Picked::Refused(n) => refused(n),
+        Picked::Packages(n) => number(rt, n as u64),
+        Picked::Refused(n) => refused(rt, n),
     }
 }
 
-fn tell_placed(r: Placed) {
+fn tell_placed(rt: &impl Print, r: Placed) -> io::Result<()> {
     match r {
-        Placed::Place(k) => number(k),
-        Placed::Refused(n) => refused(n),
+        Placed::Place(k) => number(rt, k),
+        Placed::Refused(n) => refused(rt, n),
     }
 }
 
-fn tell_priced(r: Priced) {
+fn tell_priced(rt: &impl Print, r: Priced) -> io::Result<()> {
     match r {
         Priced::Cheapest { packages, cost } => {
-            number(packages as u64);
-            text(COST);
-            number(cost as u64);
+            number(rt, packages as u64)?;
+            text(rt, COST)?;
+            number(rt, cost as u64)
         }
-        Priced::Refused(n) => refused(n),
+        Priced::Refused(n) => refused(rt, n),
     }
 }
 
 // The first n.
-fn numbers(list: [u16; 66], n: usize) {
+fn numbers(rt: &impl Print, list: [u16; 66], n: usize) -> io::Result<()> {
     let end = least(n, 66);
     let mut i: usize = 0;
     while i < end {
-        half(list[i]);
+        half(rt, list[i])?;
         i += 1;
     }
+    Ok(())
 }
 
 // ---- the cases
@@ -284,7 +286,7 @@ fn costs(rest: usize) -> [u16; 5] {
 
 // ---- the calls
 
-fn count(packages: &[u64], optional: Items, t: &[u32], c: Case) {
+fn count(rt: &impl Print, packages: &[u64], optional: Items, t: &[u32], c: Case) -> io::Result<()> {
     let words = least(c.words, 264);
     let mut work = [7u64; 264];
     let order = exact_cover::plain_order();
@@ -298,13 +300,20 @@ fn count(packages: &[u64], optional: Items, t: &[u32], c: Case) {
         c.answer,
         &mut work[0..words],
     );
-    mark(b':');
-    tell_counted(r);
+    mark(rt, b':')?;
+    tell_counted(rt, r)
 }
 
-fn measure(packages: &[u64], optional: Items, t: &[u32], c: Case, k: u64) {
-    number(k);
-    mark(b':');
+fn measure(
+    rt: &impl Print,
+    packages: &[u64],
+    optional: Items,
+    t: &[u32],
+    c: Case,
+    k: u64,
+) -> io::Result<()> {
+    number(rt, k)?;
+    mark(rt, b':')?;
     let words = least(c.words, 264);
     let mut work = [7u64; 264];
     let order = exact_cover::plain_order();
@@ -319,21 +328,28 @@ fn measure(packages: &[u64], optional: Items, t: &[u32], c: Case, k: u64) {
         k,
         &mut work[0..words],
     );
-    tell_measured(r);
+    tell_measured(rt, r)
 }
 
-fn page_after(first: [u16; 5]) {
-    text(PAGE);
-    half(first[0]);
-    half(first[1]);
-    half(first[2]);
-    half(first[3]);
-    half(first[4]);
+fn page_after(rt: &impl Print, first: [u16; 5]) -> io::Result<()> {
+    text(rt, PAGE)?;
+    half(rt, first[0])?;
+    half(rt, first[1])?;
+    half(rt, first[2])?;
+    half(rt, first[3])?;
+    half(rt, first[4])
 }
 
-fn pick(packages: &[u64], optional: Items, t: &[u32], c: Case, k: u64) {
-    number(k);
-    mark(b':');
+fn pick(
+    rt: &impl Print,
+    packages: &[u64],
+    optional: Items,
+    t: &[u32],
+    c: Case,
+    k: u64,
+) -> io::Result<()> {
+    number(rt, k)?;
+    mark(rt, b':')?;
     let words = least(c.words, 264);
     let room = least(c.page, 66);
     let mut work = [7u64; 264];
@@ -351,15 +367,22 @@ fn pick(packages: &[u64], optional: Items, t: &[u32], c: Case, k: u64) {
         &mut work[0..words],
         &mut page[0..room],
     );
-    tell_picked(r);
-    page_after([page[0], page[1], page[2], page[3], page[4]]);
+    tell_picked(rt, r)?;
+    page_after(rt, [page[0], page[1], page[2], page[3], page[4]])
 }
 
-fn place(packages: &[u64], optional: Items, t: &[u32], c: Case, list: [u16; 66]) {
+fn place(
+    rt: &impl Print,
+    packages: &[u64],
+    optional: Items,
+    t: &[u32],
+    c: Case,
+    list: [u16; 66],
+) -> io::Result<()> {
     let n = least(c.rest / 100000, 66);
-    mark(b',');
-    numbers(list, n);
-    mark(b':');
+    mark(rt, b',')?;
+    numbers(rt, list, n)?;
+    mark(rt, b':')?;
     let words = least(c.words, 264);
     let mut work = [7u64; 264];
     let order = exact_cover::plain_order();
@@ -374,11 +397,18 @@ fn place(packages: &[u64], optional: Items, t: &[u32], c: Case, list: [u16; 66])
         &list[0..n],
         &mut work[0..words],
     );
-    tell_placed(r);
+    tell_placed(rt, r)
 }
 
-fn cheapest(packages: &[u64], optional: Items, t: &[u32], c: Case, costs: [u16; 5]) {
-    mark(b':');
+fn cheapest(
+    rt: &impl Print,
+    packages: &[u64],
+    optional: Items,
+    t: &[u32],
+    c: Case,
+    costs: [u16; 5],
+) -> io::Result<()> {
+    mark(rt, b':')?;
     let n = least(c.rest / 100000, 5);
     let words = least(c.words, 264);
     let room = least(c.page, 66);
@@ -397,24 +427,24 @@ fn cheapest(packages: &[u64], optional: Items, t: &[u32], c: Case, costs: [u16; 
         &mut work[0..words],
         &mut page[0..room],
     );
-    tell_priced(r);
-    page_after([page[0], page[1], page[2], page[3], page[4]]);
+    tell_priced(rt, r)?;
+    page_after(rt, [page[0], page[1], page[2], page[3], page[4]])
 }
 
-fn ask(packages: &[u64], optional: Items, t: &[u32], c: Case) {
+fn ask(rt: &impl Print, packages: &[u64], optional: Items, t: &[u32], c: Case) -> io::Result<()> {
     if c.call == 0 {
-        return count(packages, optional, t, c);
+        return count(rt, packages, optional, t, c);
     }
     if c.call == 1 {
-        return pick(packages, optional, t, c, key(c.rest));
+        return pick(rt, packages, optional, t, c, key(c.rest));
     }
     if c.call == 2 {
-        return place(packages, optional, t, c, list(c.rest));
+        return place(rt, packages, optional, t, c, list(c.rest));
     }
     if c.call == 3 {
-        return cheapest(packages, optional, t, c, costs(c.rest));
+        return cheapest(rt, packages, optional, t, c, costs(c.rest));
     }
-    measure(packages, optional, t, c, key(c.rest))
+    measure(rt, packages, optional, t, c, key(c.rest))
 }
 
 // ---- the tables
@@ -426,26 +456,26 @@ const NO_ITEMS: Items = Items {
     w2: 0,
 };
 
-fn on_figure(c: Case) {
+fn on_figure(rt: &impl Print, c: Case) -> io::Result<()> {
     let packages = [23u64, 0, 0, 3, 0, 0, 40, 0, 0, 44, 0, 0, 20, 0, 0];
     let t = [4u32, 2, 0, 1, 4, 0, 2, 1, 0, 3, 0, 4, 2, 0, 0, 0];
-    ask(&packages, NO_ITEMS, &t, c);
+    ask(rt, &packages, NO_ITEMS, &t, c)
 }
 
-fn on_spoilt(c: Case) {
+fn on_spoilt(rt: &impl Print, c: Case) -> io::Result<()> {
     let packages = [23u64, 0, 0, 3, 0, 0, 40, 0, 0, 44, 0, 0, 20, 0, 0];
-    ask(&packages, NO_ITEMS, &[1, 0, 0, 0], c);
+    ask(rt, &packages, NO_ITEMS, &[1, 0, 0, 0], c)
 }
 
 // Items 2, 4 and 6 are optional: the last package has no other.
-fn on_optional(c: Case) {
+fn on_optional(rt: &impl Print, c: Case) -> io::Result<()> {
     let packages = [23u64, 0, 0, 3, 0, 0, 40, 0, 0, 44, 0, 0, 20, 0, 0];
     let optional = Items {
         w0: 84,
         w1: 0,
         w2: 0,
     };
-    ask(&packages, optional, &[1, 0, 0, 0], c);
+    ask(rt, &packages, optional, &[1, 0, 0, 0], c)
 }
 
 // Item 0 in packages 0, 1 and 2; item i in package i + 2: precedence is the order of the numbers.
@@ -477,10 +507,10 @@ fn chains() -> [u32; 394] {
     t
 }
 
-fn on_chains(c: Case) {
+fn on_chains(rt: &impl Print, c: Case) -> io::Result<()> {
     let packages = chain_packages();
     let t = chains();
-    ask(&packages, NO_ITEMS, &t, c);
+    ask(rt, &packages, NO_ITEMS, &t, c)
 }
 
 // Node i has the number i + 2.
@@ -498,8 +528,8 @@ fn path() -> [u32; 1537] {
 }
 
 // Every package has the items 0, 64 and 128.
-fn on_path(c: Case) {
-    mark(b':');
+fn on_path(rt: &impl Print, c: Case) -> io::Result<()> {
+    mark(rt, b':')?;
     let t = path();
     let words = least(c.words, 514);
     let mut work = [7u64; 514];
@@ -517,33 +547,34 @@ fn on_path(c: Case) {
         &mut work[0..words],
         &mut page,
     );
-    tell_priced(r);
-    page_after([page[0], page[1], page[2], page[3], page[4]]);
+    tell_priced(rt, r)?;
+    page_after(rt, [page[0], page[1], page[2], page[3], page[4]])
 }
 
-fn run(c: Case) {
-    text(c.call);
-    number(c.answer as u64);
+fn run(rt: &impl Print, c: Case) -> io::Result<()> {
+    text(rt, c.call)?;
+    number(rt, c.answer as u64)?;
     if c.table == 0 {
-        return on_figure(c);
+        return on_figure(rt, c);
     }
     if c.table == 1 {
-        return on_spoilt(c);
+        return on_spoilt(rt, c);
     }
     if c.table == 2 {
-        return on_chains(c);
+        return on_chains(rt, c);
     }
     if c.table == 3 {
-        return on_path(c);
+        return on_path(rt, c);
     }
-    on_optional(c)
+    on_optional(rt, c)
 }
 
-fn main() {
+fn main(rt: HostRuntime) -> io::Result<()> {
     let mut i: usize = 0;
     while i < 101 {
-        run(row(i));
-        mark(b'\n');
+        run(&rt, row(i))?;
+        mark(&rt, b'\n')?;
         i += 1;
     }
+    Ok(())
 }
