@@ -11,6 +11,7 @@ ghost use Rattle.kiosk.specs.Triples.{nodes_in};
 use itemset::Items;
 use kiosk::Node;
 use statement::{Counted, Soundness};
+use std::io;
 
 fn node(label: u32, lo: u32, hi: u32) -> Node {
     Node {
@@ -54,32 +55,26 @@ fn narrow(n: u8) -> u64 {
     n as u64
 }
 
-fn say_refused(n: u8) {
-    io::write_all(1, b"refused ");
-    io::print_decimal(1, narrow(n));
-    io::write_all(1, b"\n");
+fn say_refused(rt: &impl Print, n: u8) -> io::Result<()> {
+    rt.write_all(b"refused ")?;
+    rt.print(narrow(n))?;
+    rt.write_all(b"\n")
 }
 
-fn say_soundness(s: Soundness) {
+fn say_soundness(rt: &impl Print, s: Soundness) -> io::Result<()> {
     match s {
-        Soundness::Sound => {
-            io::write_all(1, b"sound\n");
-        }
-        Soundness::Refused(n) => {
-            say_refused(n);
-        }
+        Soundness::Sound => rt.write_all(b"sound\n"),
+        Soundness::Refused(n) => say_refused(rt, n),
     }
 }
 
-fn say_counted(c: Counted) {
+fn say_counted(rt: &impl Print, c: Counted) -> io::Result<()> {
     match c {
         Counted::Count(n) => {
-            io::print_decimal(1, n);
-            io::write_all(1, b"\n");
+            rt.print(n)?;
+            rt.write_all(b"\n")
         }
-        Counted::Refused(n) => {
-            say_refused(n);
-        }
+        Counted::Refused(n) => say_refused(rt, n),
     }
 }
 
@@ -90,6 +85,7 @@ fn figure1() -> [u64; 15] {
 
 // The two calls on a list, with m items, these of them optional, in this order, and n nodes.
 fn say_in(
+    rt: &impl Print,
     name: &[u8],
     m: u32,
     optional: Items,
@@ -97,17 +93,17 @@ fn say_in(
     n: u32,
     list: [Node; 6],
     answer: u32,
-) {
+) -> io::Result<()> {
     let packages = figure1();
     let mut work = [0u64; 6];
-    io::write_all(1, name);
-    io::write_all(1, b": check ");
+    rt.write_all(name)?;
+    rt.write_all(b": check ")?;
     let s = check_list(m, &packages, optional, order, n, list);
-    say_soundness(s);
-    io::write_all(1, name);
-    io::write_all(1, b": count ");
+    say_soundness(rt, s)?;
+    rt.write_all(name)?;
+    rt.write_all(b": count ")?;
     let c = count_list(m, &packages, optional, order, n, list, answer, &mut work);
-    say_counted(c);
+    say_counted(rt, c)
 }
 
 // How many of them are lent: m, where there are as many.
@@ -121,10 +117,18 @@ fn lent(m: u32) -> usize
 }
 
 // The two calls in the plain order.
-fn say_with(name: &[u8], m: u32, optional: Items, n: u32, list: [Node; 6], answer: u32) {
+fn say_with(
+    rt: &impl Print,
+    name: &[u8],
+    m: u32,
+    optional: Items,
+    n: u32,
+    list: [Node; 6],
+    answer: u32,
+) -> io::Result<()> {
     let order = exact_cover::plain_order();
     let items = lent(m);
-    say_in(name, m, optional, &order[0..items], n, list, answer);
+    say_in(rt, name, m, optional, &order[0..items], n, list, answer)
 }
 
 // A set of items below 64.
@@ -137,8 +141,15 @@ fn low(word: u64) -> Items {
 }
 
 // The two calls with nothing optional.
-fn say(name: &[u8], m: u32, n: u32, list: [Node; 6], answer: u32) {
-    say_with(name, m, low(0), n, list, answer);
+fn say(
+    rt: &impl Print,
+    name: &[u8],
+    m: u32,
+    n: u32,
+    list: [Node; 6],
+    answer: u32,
+) -> io::Result<()> {
+    say_with(rt, name, m, low(0), n, list, answer)
 }
 
 // Number 2 holds {2} and number 3 {4, 2}: the first two triples of every list but two.
@@ -151,62 +162,93 @@ fn figure(fifth: Node, sixth: Node) -> [Node; 6] {
     list(node(1, 0, 3), node(0, 4, 2), fifth, sixth)
 }
 
-fn good() {
+fn good(rt: &impl Print) -> io::Result<()> {
     let zero = node(0, 0, 0);
     let four = figure(zero, zero);
-    say(b"answer 5", 6, 4, four, 5);
-    say(b"answer 4", 6, 4, four, 4);
-    say(b"answer 1", 6, 4, four, 1);
-    say(b"answer 0", 6, 4, four, 0);
-    say(b"answer 6", 6, 4, four, 6);
+    say(rt, b"answer 5", 6, 4, four, 5)?;
+    say(rt, b"answer 4", 6, 4, four, 4)?;
+    say(rt, b"answer 1", 6, 4, four, 1)?;
+    say(rt, b"answer 0", 6, 4, four, 0)?;
+    say(rt, b"answer 6", 6, 4, four, 6)?;
     let six = figure(node(1, 0, 2), node(0, 0, 1));
-    say(b"six nodes", 6, 6, six, 5);
-    say(b"short work", 6, 6, six, 6);
-    say(b"no node", 6, 0, [zero, zero, zero, zero, zero, zero], 1);
+    say(rt, b"six nodes", 6, 6, six, 5)?;
+    say(rt, b"short work", 6, 6, six, 6)?;
+    say(
+        rt,
+        b"no node",
+        6,
+        0,
+        [zero, zero, zero, zero, zero, zero],
+        1,
+    )
 }
 
 // The number of nodes is not the list's.
-fn misnumbered() {
+fn misnumbered(rt: &impl Print) -> io::Result<()> {
     let zero = node(0, 0, 0);
     let four = figure(zero, zero);
-    say(b"triple past the number", 6, 3, four, 4);
+    say(rt, b"triple past the number", 6, 3, four, 4)?;
     say(
+        rt,
         b"label past the number",
         6,
         4,
         figure(zero, node(1, 0, 0)),
         5,
-    );
-    say(b"lo past the number", 6, 4, figure(zero, node(0, 1, 0)), 5);
-    say(b"hi past the number", 6, 4, figure(zero, node(0, 0, 1)), 5);
-    say(b"number of zeros", 6, 5, four, 5);
-    say(b"number above the length", 6, 7, four, 5);
-    say(b"number above 65534", 6, 65535, four, 5);
-    say(b"greatest number", 6, 4294967295, four, 5);
+    )?;
+    say(
+        rt,
+        b"lo past the number",
+        6,
+        4,
+        figure(zero, node(0, 1, 0)),
+        5,
+    )?;
+    say(
+        rt,
+        b"hi past the number",
+        6,
+        4,
+        figure(zero, node(0, 0, 1)),
+        5,
+    )?;
+    say(rt, b"number of zeros", 6, 5, four, 5)?;
+    say(rt, b"number above the length", 6, 7, four, 5)?;
+    say(rt, b"number above 65534", 6, 65535, four, 5)?;
+    say(rt, b"greatest number", 6, 4294967295, four, 5)
 }
 
-fn damaged() {
+fn damaged(rt: &impl Print) -> io::Result<()> {
     let zero = node(0, 0, 0);
     let third = node(1, 0, 3);
     let fourth = node(0, 4, 2);
     let four = figure(zero, zero);
     say(
+        rt,
         b"lo and hi exchanged",
         6,
         4,
         list(node(1, 3, 0), fourth, zero, zero),
         5,
-    );
-    say(b"triple twice", 6, 5, list(third, fourth, third, zero), 5);
+    )?;
     say(
+        rt,
+        b"triple twice",
+        6,
+        5,
+        list(third, fourth, third, zero),
+        5,
+    )?;
+    say(
+        rt,
         b"unknown label",
         6,
         4,
         list(third, node(5, 4, 2), zero, zero),
         5,
-    );
-    say(b"stray", 5, 4, four, 5);
-    say(b"oversize", 193, 4, four, 5);
+    )?;
+    say(rt, b"stray", 5, 4, four, 5)?;
+    say(rt, b"oversize", 193, 4, four, 5)
 }
 
 // The figure's triples with packages 2 and 4 exchanged: 2 comes before 4.
@@ -223,14 +265,14 @@ fn exchanged() -> [Node; 6] {
 }
 
 // Packages come in the order of their lowest compulsory items. Item 4 is no package's lowest item; without item 2, package 4 has item 4 alone, and is last.
-fn optional() {
+fn optional(rt: &impl Print) -> io::Result<()> {
     let zero = node(0, 0, 0);
     let four = figure(zero, zero);
     let other = exchanged();
-    say_with(b"item 4 optional", 6, low(16), 4, four, 5);
-    say_with(b"item 2 optional", 6, low(4), 4, four, 5);
-    say_with(b"2 before 4, item 2 optional", 6, low(4), 4, other, 5);
-    say(b"2 before 4, nothing optional", 6, 4, other, 5);
+    say_with(rt, b"item 4 optional", 6, low(16), 4, four, 5)?;
+    say_with(rt, b"item 2 optional", 6, low(4), 4, four, 5)?;
+    say_with(rt, b"2 before 4, item 2 optional", 6, low(4), 4, other, 5)?;
+    say(rt, b"2 before 4, nothing optional", 6, 4, other, 5)
 }
 
 const ITEM_191: Items = Items {
@@ -240,22 +282,61 @@ const ITEM_191: Items = Items {
 };
 
 // 29 and 30 come behind 1 and 2, 30 behind 29, and 4 behind both: all but two of the lists have a wrong number of nodes. Package 4 is {2, 4}.
-fn optional_refused() {
+fn optional_refused(rt: &impl Print) -> io::Result<()> {
     let zero = node(0, 0, 0);
     let four = figure(zero, zero);
-    say_with(b"items 2 and 4 optional", 6, low(20), 4, four, 5);
-    say_with(b"items 2 and 4 optional, damaged", 6, low(20), 5, four, 5);
-    say_with(b"items 2, 4 and 6 optional, M 6", 6, low(84), 5, four, 5);
-    say_with(b"items 2, 4 and 6 optional, M 7", 7, low(84), 5, four, 5);
-    say_with(b"items 2, 4 and 6 optional, M 5", 5, low(84), 5, four, 5);
-    say_with(b"item 191 optional, M 192", 192, ITEM_191, 4, four, 5);
-    say_with(b"item 191 optional, M 191", 191, ITEM_191, 5, four, 5);
-    say_with(b"item 191 optional, M 193", 193, ITEM_191, 5, four, 5);
+    say_with(rt, b"items 2 and 4 optional", 6, low(20), 4, four, 5)?;
+    say_with(
+        rt,
+        b"items 2 and 4 optional, damaged",
+        6,
+        low(20),
+        5,
+        four,
+        5,
+    )?;
+    say_with(
+        rt,
+        b"items 2, 4 and 6 optional, M 6",
+        6,
+        low(84),
+        5,
+        four,
+        5,
+    )?;
+    say_with(
+        rt,
+        b"items 2, 4 and 6 optional, M 7",
+        7,
+        low(84),
+        5,
+        four,
+        5,
+    )?;
+    say_with(
+        rt,
+        b"items 2, 4 and 6 optional, M 5",
+        5,
+        low(84),
+        5,
+        four,
+        5,
+    )?;
+    say_with(rt, b"item 191 optional, M 192", 192, ITEM_191, 4, four, 5)?;
+    say_with(rt, b"item 191 optional, M 191", 191, ITEM_191, 5, four, 5)?;
+    say_with(rt, b"item 191 optional, M 193", 193, ITEM_191, 5, four, 5)
 }
 
 // The two calls in an order of the figure's items.
-fn say_six(name: &[u8], optional: Items, order: [u8; 6], n: u32, list: [Node; 6]) {
-    say_in(name, 6, optional, &order, n, list, 5);
+fn say_six(
+    rt: &impl Print,
+    name: &[u8],
+    optional: Items,
+    order: [u8; 6],
+    n: u32,
+    list: [Node; 6],
+) -> io::Result<()> {
+    say_in(rt, name, 6, optional, &order, n, list, 5)
 }
 
 const REVERSED: [u8; 6] = [5, 4, 3, 2, 1, 0];
@@ -276,35 +357,37 @@ fn turned() -> [Node; 6] {
 }
 
 // 34 comes behind 30, and 4 behind it: the damaged list has a wrong number of nodes.
-fn ordered() {
+fn ordered(rt: &impl Print) -> io::Result<()> {
     let zero = node(0, 0, 0);
     let four = figure(zero, zero);
     let other = turned();
-    say_six(b"item 4 twice in the order", low(0), REPEATED, 4, four);
-    say_six(b"the same, damaged", low(0), REPEATED, 5, four);
+    say_six(rt, b"item 4 twice in the order", low(0), REPEATED, 4, four)?;
+    say_six(rt, b"the same, damaged", low(0), REPEATED, 5, four)?;
     say_six(
+        rt,
         b"the same, items 2 and 4 optional",
         low(20),
         REPEATED,
         5,
         four,
-    );
-    say_six(b"order 5 4 3 2 1 0", low(0), REVERSED, 4, four);
+    )?;
+    say_six(rt, b"order 5 4 3 2 1 0", low(0), REVERSED, 4, four)?;
     say_six(
+        rt,
         b"order 5 4 3 2 1 0 and its triples",
         low(0),
         REVERSED,
         4,
         other,
-    );
-    say(b"these triples in the plain order", 6, 4, other, 5);
+    )?;
+    say(rt, b"these triples in the plain order", 6, 4, other, 5)
 }
 
-fn main() {
-    good();
-    misnumbered();
-    damaged();
-    optional();
-    optional_refused();
-    ordered();
+fn main(rt: HostRuntime) -> io::Result<()> {
+    good(&rt)?;
+    misnumbered(&rt)?;
+    damaged(&rt)?;
+    optional(&rt)?;
+    optional_refused(&rt)?;
+    ordered(&rt)
 }
