@@ -6,6 +6,7 @@
 ghost use Rattle.std.specs.Prelude.{◌≤◌};
 
 use itemset::Items;
+use std::io;
 
 // Seven words a call: kind (0 cover, 1 either, 2 both, 3 only, 4 with, 5 without, 6 join), M, two arguments, the first of three words, working words.
 const SCRIPT: [u64; 147] = [
@@ -129,52 +130,59 @@ fn script(calls: [[u64; 7]; 9]) -> [u64; 63] {
 }
 
 // How a call ended, by the first word of its report.
-fn show_outcome(word: u64) {
+fn show_outcome(rt: &impl Print, word: u64) -> io::Result<()> {
     if word < 4294967296 {
-        io::write_all(1, b"answer ");
-        io::print_decimal(1, word);
+        rt.write_all(b"answer ")?;
+        rt.print(word)
     } else {
-        io::write_all(1, b"refused ");
-        io::print_decimal(1, word - 4294967296);
+        rt.write_all(b"refused ")?;
+        rt.print(word - 4294967296)
     }
 }
 
-fn show(i: usize, word: u64, steps: u64, made: u64) {
-    io::print_decimal(1, i as u64);
-    io::write_all(1, b": ");
-    show_outcome(word);
-    io::write_all(1, b" steps ");
-    io::print_decimal(1, steps);
-    io::write_all(1, b" made ");
-    io::print_decimal(1, made);
-    io::write_all(1, b"\n");
+fn show(rt: &impl Print, i: usize, word: u64, steps: u64, made: u64) -> io::Result<()> {
+    rt.print(i)?;
+    rt.write_all(b": ")?;
+    show_outcome(rt, word)?;
+    rt.write_all(b" steps ")?;
+    rt.print(steps)?;
+    rt.write_all(b" made ")?;
+    rt.print(made)?;
+    rt.write_all(b"\n")
 }
 
 // The first n reports.
-fn show_reports(out: &[u64; 63], n: usize) {
+fn show_reports(rt: &impl Print, out: &[u64; 63], n: usize) -> io::Result<()> {
     let mut i: usize = 0;
     while i < 21 {
         if i < n {
-            show(i, out[3 * i], out[3 * i + 1], out[3 * i + 2]);
+            show(rt, i, out[3 * i], out[3 * i + 1], out[3 * i + 2])?;
         }
         i += 1;
     }
+    Ok(())
 }
 
 // What was run: its reports, and how many there are of so many calls.
-fn show_run(what: &[u8], out: &[u64; 63], n: usize, calls: u64) {
-    io::write_all(1, what);
-    io::write_all(1, b"\n");
-    show_reports(out, n);
-    io::write_all(1, b"ran ");
-    io::print_decimal(1, n as u64);
-    io::write_all(1, b" of ");
-    io::print_decimal(1, calls);
-    io::write_all(1, b"\n");
+fn show_run(rt: &impl Print, what: &[u8], out: &[u64; 63], n: usize, calls: u64) -> io::Result<()> {
+    rt.write_all(what)?;
+    rt.write_all(b"\n")?;
+    show_reports(rt, out, n)?;
+    rt.write_all(b"ran ")?;
+    rt.print(n)?;
+    rt.write_all(b" of ")?;
+    rt.print(calls)?;
+    rt.write_all(b"\n")
 }
 
 // The script on a table that is not empty yet, with `room` working words and `places` places for reports.
-fn scenario(what: &[u8], t: &mut [u32], room: usize, places: usize)
+fn scenario(
+    rt: &impl Print,
+    what: &[u8],
+    t: &mut [u32],
+    room: usize,
+    places: usize,
+) -> io::Result<()>
     requires room_bound { room ≤ 256 }
     requires places_bound { places ≤ 21 }
 {
@@ -190,11 +198,18 @@ fn scenario(what: &[u8], t: &mut [u32], room: usize, places: usize)
         &SCRIPT,
         &mut out[0..words],
     );
-    show_run(what, &out, n, 21);
+    show_run(rt, what, &out, n, 21)
 }
 
 // Nine calls, on a table of 8 nodes.
-fn nine(what: &[u8], packages: &[u64], optional: Items, order: &[u8], calls: [[u64; 7]; 9]) {
+fn nine(
+    rt: &impl Print,
+    what: &[u8],
+    packages: &[u64],
+    optional: Items,
+    order: &[u8],
+    calls: [[u64; 7]; 9],
+) -> io::Result<()> {
     let mut t = [7u32; 25];
     let mut work = [7u64; 256];
     let mut out = [0u64; 63];
@@ -207,47 +222,58 @@ fn nine(what: &[u8], packages: &[u64], optional: Items, order: &[u8], calls: [[u
         &script(calls),
         &mut out,
     );
-    show_run(what, &out, n, 9);
+    show_run(rt, what, &out, n, 9)
 }
 
 // The two scripts with joins.
-fn joins() {
+fn joins(rt: &impl Print) -> io::Result<()> {
     nine(
+        rt,
         b"two halves and their joins",
         &HALVES,
         NO_ITEMS,
         &PLAIN[0..2],
         JOIN_CALLS,
-    );
+    )?;
     nine(
+        rt,
         b"two halves, and joins refused",
         &HALVES,
         NO_ITEMS,
         &PLAIN[0..2],
         REFUSED_JOINS,
-    );
+    )
 }
 
-fn main() {
-    scenario(b"a table of 8 nodes", &mut [7u32; 25], 256, 21);
-    scenario(b"a table of 3 nodes", &mut [7u32; 10], 256, 21);
-    scenario(b"no word", &mut [7u32; 0], 256, 21);
-    scenario(b"places for 2 reports", &mut [7u32; 25], 256, 2);
-    scenario(b"fewer working words", &mut [7u32; 25], 200, 21);
-    nine(b"item 2 optional", &SLOTS, ITEM_2, &PLAIN[0..3], SLOT_CALLS);
+fn main(rt: HostRuntime) -> io::Result<()> {
+    scenario(&rt, b"a table of 8 nodes", &mut [7u32; 25], 256, 21)?;
+    scenario(&rt, b"a table of 3 nodes", &mut [7u32; 10], 256, 21)?;
+    scenario(&rt, b"no word", &mut [7u32; 0], 256, 21)?;
+    scenario(&rt, b"places for 2 reports", &mut [7u32; 25], 256, 2)?;
+    scenario(&rt, b"fewer working words", &mut [7u32; 25], 200, 21)?;
     nine(
+        &rt,
+        b"item 2 optional",
+        &SLOTS,
+        ITEM_2,
+        &PLAIN[0..3],
+        SLOT_CALLS,
+    )?;
+    nine(
+        &rt,
         b"the order 5 4 3 2 1 0",
         &figure(),
         NO_ITEMS,
         &REVERSED,
         REVERSED_CALLS,
-    );
+    )?;
     nine(
+        &rt,
         b"item 4 twice in the order",
         &figure(),
         NO_ITEMS,
         &REPEATED,
         REVERSED_CALLS,
-    );
-    joins();
+    )?;
+    joins(&rt)
 }
