@@ -6,6 +6,7 @@
 ghost use Rattle.std.specs.Prelude.{◌≤◌, ◌<◌};
 
 use itemset::Items;
+use std::io;
 
 // Seven words a call: kind (0 cover, 1 either, 2 both, 3 only, 4 with, 5 without), M, two arguments, the first of three words, working words.
 const SCRIPT: [u64; 70] = [
@@ -79,71 +80,73 @@ fn given(out: &[u64; 30], n: usize) -> [u8; 22] {
     marks
 }
 
-fn show_word(what: &[u8], word: u64) {
-    io::write_all(1, what);
-    io::print_decimal(1, word);
+fn show_word(rt: &impl Print, what: &[u8], word: u64) -> io::Result<()> {
+    rt.write_all(what)?;
+    rt.print(word)
 }
 
 // How a call ended, by the first word of its report.
-fn show_outcome(word: u64) {
+fn show_outcome(rt: &impl Print, word: u64) -> io::Result<()> {
     if word < 4294967296 {
-        show_word(b": answer ", word);
+        show_word(rt, b": answer ", word)
     } else {
-        show_word(b": refused ", word - 4294967296);
+        show_word(rt, b": refused ", word - 4294967296)
     }
 }
 
 // The first n reports.
-fn show_reports(out: &[u64; 30], n: usize) {
+fn show_reports(rt: &impl Print, out: &[u64; 30], n: usize) -> io::Result<()> {
     let mut i: usize = 0;
     while i < 10 {
         if i < n {
-            show_word(b"call ", i as u64);
-            show_outcome(out[3 * i]);
-            show_word(b" made ", out[3 * i + 2]);
-            io::write_all(1, b"\n");
+            show_word(rt, b"call ", i as u64)?;
+            show_outcome(rt, out[3 * i])?;
+            show_word(rt, b" made ", out[3 * i + 2])?;
+            rt.write_all(b"\n")?;
         }
         i += 1;
     }
+    Ok(())
 }
 
 // Node k: its label, lo and hi, and the answers given that it is below.
-fn show_node(t: &[u32; 61], marks: &[u8; 22], k: usize)
+fn show_node(rt: &impl Print, t: &[u32; 61], marks: &[u8; 22], k: usize) -> io::Result<()>
     requires { (2 ≤ k) × (k < 22) }
 {
-    show_word(b"node ", k as u64);
-    show_word(b": label ", base::widened(t[3 * k - 5]));
-    show_word(b" lo ", base::widened(t[3 * k - 4]));
-    show_word(b" hi ", base::widened(t[3 * k - 3]));
-    io::write_all(1, b", needed by");
+    show_word(rt, b"node ", k as u64)?;
+    show_word(rt, b": label ", base::widened(t[3 * k - 5]))?;
+    show_word(rt, b" lo ", base::widened(t[3 * k - 4]))?;
+    show_word(rt, b" hi ", base::widened(t[3 * k - 3]))?;
+    rt.write_all(b", needed by")?;
     let mut a: usize = 2;
     while a < 22 {
         if marks[a] == 1 {
             if is_below(t, a, k) {
-                show_word(b" ", a as u64);
+                show_word(rt, b" ", a as u64)?;
             }
         }
         a += 1;
     }
-    io::write_all(1, b"\n");
+    rt.write_all(b"\n")
 }
 
 // The nodes of the table, each with the answers that need it.
-fn show_nodes(t: &[u32; 61], marks: &[u8; 22]) {
-    show_word(b"nodes ", base::widened(t[0]));
-    io::write_all(1, b"\n");
+fn show_nodes(rt: &impl Print, t: &[u32; 61], marks: &[u8; 22]) -> io::Result<()> {
+    show_word(rt, b"nodes ", base::widened(t[0]))?;
+    rt.write_all(b"\n")?;
     let end = base::wide(t[0]) + 2;
     let mut k: usize = 2;
     while k < 22 {
         if k < end {
-            show_node(t, marks, k);
+            show_node(rt, t, marks, k)?;
         }
         k += 1;
     }
+    Ok(())
 }
 
 // The history on a table of so many words.
-fn scenario(what: &[u8], words: usize)
+fn scenario(rt: &impl Print, what: &[u8], words: usize) -> io::Result<()>
     requires { words ≤ 61 }
 {
     let mut t = [7u32; 61];
@@ -158,15 +161,15 @@ fn scenario(what: &[u8], words: usize)
         &SCRIPT,
         &mut out,
     );
-    io::write_all(1, what);
-    io::write_all(1, b"\n");
-    show_reports(&out, n);
+    rt.write_all(what)?;
+    rt.write_all(b"\n")?;
+    show_reports(rt, &out, n)?;
     let marks = given(&out, n);
-    show_nodes(&t, &marks);
+    show_nodes(rt, &t, &marks)
 }
 
-fn main() {
-    scenario(b"room for 20 nodes", 61);
-    scenario(b"room for 12 nodes", 37);
-    scenario(b"room for 11 nodes", 34);
+fn main(rt: HostRuntime) -> io::Result<()> {
+    scenario(&rt, b"room for 20 nodes", 61)?;
+    scenario(&rt, b"room for 12 nodes", 37)?;
+    scenario(&rt, b"room for 11 nodes", 34)
 }
