@@ -9,6 +9,7 @@ ghost use Rattle.std.specs.Prelude.{◌≤◌, ◌<◌};
 
 use itemset::Items;
 use statement::{Counted, Outcome, Report};
+use std::io;
 
 // The lesser of the two.
 fn least(x: usize, y: usize) -> usize
@@ -31,56 +32,54 @@ const SUM: usize = 5;
 
 const COUNT: usize = 6;
 
-fn text(i: usize) {
+fn text(rt: &impl Print, i: usize) -> io::Result<()> {
     let s = TEXTS;
     let starts = STARTS;
     let n = i % 7;
     let b = least(starts[n + 1], 42);
     let a = least(starts[n], b);
-    io::write_all(1, &s[a..b]);
+    rt.write_all(&s[a..b])
 }
 
-fn mark(c: u8) {
-    io::write_all(1, &[c]);
+fn mark(rt: &impl Print, c: u8) -> io::Result<()> {
+    rt.write_all(&[c])
 }
 
-fn number(n: u32) {
-    io::print_decimal(1, n as u64);
+fn number(rt: &impl Print, n: u32) -> io::Result<()> {
+    rt.print(n)
 }
 
-fn refused(r: u8) {
-    mark(b'r');
-    number(r as u32);
+fn refused(rt: &impl Print, r: u8) -> io::Result<()> {
+    mark(rt, b'r')?;
+    number(rt, r as u32)
 }
 
 // How a call ended: "answer+made", or the number of the refusal after an r. It gives the answer, 0 where there is none.
-fn ended(o: Outcome, made: u32) -> u32 {
+fn ended(rt: &impl Print, o: Outcome, made: u32) -> io::Result<u32> {
     match o {
         Outcome::Answer(k) => {
-            number(k);
-            mark(b'+');
-            number(made);
-            k
+            number(rt, k)?;
+            mark(rt, b'+')?;
+            number(rt, made)?;
+            Ok(k)
         }
         Outcome::Refused(r) => {
-            refused(r);
-            0
+            refused(rt, r)?;
+            Ok(0)
         }
     }
 }
 
-fn counted(c: Counted) {
+fn counted(rt: &impl Print, c: Counted) -> io::Result<()> {
     match c {
-        Counted::Count(n) => {
-            io::print_decimal(1, n);
-        }
-        Counted::Refused(r) => refused(r),
+        Counted::Count(n) => rt.print(n),
+        Counted::Refused(r) => refused(rt, r),
     }
 }
 
-fn print_sum(sum: u64) {
-    text(SUM);
-    io::print_decimal(1, sum);
+fn print_sum(rt: &impl Print, sum: u64) -> io::Result<()> {
+    text(rt, SUM)?;
+    rt.print(sum)
 }
 
 // ---- one call
@@ -137,7 +136,13 @@ struct Reply {
     made: u32,
 }
 
-fn lend(packages: [u64; 1539], t: [u32; 12001], memory: [u64; 70000], q: Question) -> Reply {
+fn lend(
+    rt: &impl Print,
+    packages: [u64; 1539],
+    t: [u32; 12001],
+    memory: [u64; 70000],
+    q: Question,
+) -> io::Result<Reply> {
     let n = least(q.packages, 513);
     let room = least(q.room, 12001);
     let words = least(q.words, 70000);
@@ -157,12 +162,12 @@ fn lend(packages: [u64; 1539], t: [u32; 12001], memory: [u64; 70000], q: Questio
     );
     let o = r.outcome;
     let made = r.made;
-    let answer = ended(o, made);
-    Reply {
+    let answer = ended(rt, o, made)?;
+    Ok(Reply {
         table,
         answer,
         made,
-    }
+    })
 }
 
 fn widen(x: u32) -> u64
@@ -184,12 +189,13 @@ fn checksum(t: [u32; 12001], room: usize) -> u64 {
 }
 
 // A call that made nothing has changed nothing.
-fn compare(made: u32, before: u64, after: u64) {
+fn compare(rt: &impl Print, made: u32, before: u64, after: u64) -> io::Result<()> {
     if made == 0 {
         if before != after {
-            mark(b'!');
+            mark(rt, b'!')?;
         }
     }
+    Ok(())
 }
 
 #[derive(Clone, Copy)]
@@ -201,18 +207,23 @@ struct Tried {
 }
 
 // Each working word says beforehand that 401 and 602 make 1, which is not to be believed.
-fn attempt(packages: [u64; 1539], t: [u32; 12001], q: Question) -> Tried {
-    let r = lend(packages, t, [1722321338369u64; 70000], q);
+fn attempt(
+    rt: &impl Print,
+    packages: [u64; 1539],
+    t: [u32; 12001],
+    q: Question,
+) -> io::Result<Tried> {
+    let r = lend(rt, packages, t, [1722321338369u64; 70000], q)?;
     let table = r.table;
     let made = r.made;
     let sum = checksum(table, q.room);
-    compare(made, checksum(t, q.room), sum);
-    Tried {
+    compare(rt, made, checksum(t, q.room), sum)?;
+    Ok(Tried {
         table,
         answer: r.answer,
         made,
         sum,
-    }
+    })
 }
 
 // ---- every pair of the small table
@@ -249,7 +260,7 @@ fn six(fourth: u64) -> [u64; 1539] {
     packages
 }
 
-fn on_small(room: usize, op: usize, a: u32, b: u32) -> Tried {
+fn on_small(rt: &impl Print, room: usize, op: usize, a: u32, b: u32) -> io::Result<Tried> {
     let q = Question {
         m: 3,
         packages: 6,
@@ -259,57 +270,64 @@ fn on_small(room: usize, op: usize, a: u32, b: u32) -> Tried {
         b,
         words: 2,
     };
-    attempt(six(6), small(), q)
+    attempt(rt, six(6), small(), q)
 }
 
 // The call with room to spare; where it makes nodes, also with room for exactly those and with one place fewer, which leaves every word as it was.
 // It gives the checksum of the table after the first.
-fn pair(op: usize, a: u32, b: u32) -> u64 {
-    mark(b' ');
-    let r = on_small(601, op, a, b);
+fn pair(rt: &impl Print, op: usize, a: u32, b: u32) -> io::Result<u64> {
+    mark(rt, b' ')?;
+    let r = on_small(rt, 601, op, a, b)?;
     let made = r.made;
     if made == 0 {
-        return r.sum;
+        return Ok(r.sum);
     }
     if made > 100 {
-        return 0;
+        return Ok(0);
     }
     let room = 3 * base::wide(made) + 25;
-    mark(b'/');
-    on_small(room, op, a, b);
-    mark(b'/');
-    on_small(room - 3, op, a, b);
-    r.sum
+    mark(rt, b'/')?;
+    on_small(rt, room, op, a, b)?;
+    mark(rt, b'/')?;
+    on_small(rt, room - 3, op, a, b)?;
+    Ok(r.sum)
 }
 
-fn row(op: usize, a: u32, last: u32) {
-    text(op);
-    number(a);
-    mark(b':');
+fn row(rt: &impl Print, op: usize, a: u32, last: u32) -> io::Result<()> {
+    text(rt, op)?;
+    number(rt, a)?;
+    mark(rt, b':')?;
     let mut all: u64 = 0;
     let mut b: u32 = 0;
     while b < last {
-        let sum = pair(op, a, b);
+        let sum = pair(rt, op, a, b)?;
         all = (all % 4294967291 * 65599 + sum % 4294967291) % 4294967291;
         b += 1;
     }
-    print_sum(all);
-    mark(b'\n');
+    print_sum(rt, all)?;
+    mark(rt, b'\n')
 }
 
 // Row n is of the call n / 10 and the answer n % 10. The second operands are those below `last`.
-fn rows(first: u32, end: u32, last: u32) {
+fn rows(rt: &impl Print, first: u32, end: u32, last: u32) -> io::Result<()> {
     let mut n: u32 = first;
     while n < end {
-        row(base::wide(n / 10), n % 10, last);
+        row(rt, base::wide(n / 10), n % 10, last)?;
         n += 1;
     }
+    Ok(())
 }
 
 // ---- one call on a line
 
 // How many timetables the answer holds.
-fn print_count(packages: [u64; 1539], t: [u32; 12001], q: Question, answer: u32) {
+fn print_count(
+    rt: &impl Print,
+    packages: [u64; 1539],
+    t: [u32; 12001],
+    q: Question,
+    answer: u32,
+) -> io::Result<()> {
     let n = least(q.packages, 513);
     let room = least(q.room, 12001);
     let order = exact_cover::plain_order();
@@ -324,28 +342,33 @@ fn print_count(packages: [u64; 1539], t: [u32; 12001], q: Question, answer: u32)
         answer,
         &mut tally,
     );
-    text(COUNT);
-    counted(c);
-    mark(b'\n');
+    text(rt, COUNT)?;
+    counted(rt, c)?;
+    mark(rt, b'\n')
 }
 
-fn heading(op: usize, a: u32, b: u32) {
-    text(op);
-    number(a);
-    mark(b' ');
-    number(b);
-    mark(b':');
-    mark(b' ');
+fn heading(rt: &impl Print, op: usize, a: u32, b: u32) -> io::Result<()> {
+    text(rt, op)?;
+    number(rt, a)?;
+    mark(rt, b' ')?;
+    number(rt, b)?;
+    mark(rt, b':')?;
+    mark(rt, b' ')
 }
 
 // The call, the table's checksum after it, and how many timetables the answer holds. It gives the table.
-fn line(packages: [u64; 1539], t: [u32; 12001], q: Question) -> [u32; 12001] {
-    heading(q.op, q.a, q.b);
-    let r = attempt(packages, t, q);
-    print_sum(r.sum);
+fn line(
+    rt: &impl Print,
+    packages: [u64; 1539],
+    t: [u32; 12001],
+    q: Question,
+) -> io::Result<[u32; 12001]> {
+    heading(rt, q.op, q.a, q.b)?;
+    let r = attempt(rt, packages, t, q)?;
+    print_sum(rt, r.sum)?;
     let table = r.table;
-    print_count(packages, table, q, r.answer);
-    table
+    print_count(rt, packages, table, q, r.answer)?;
+    Ok(table)
 }
 
 // ---- refusals
@@ -391,23 +414,25 @@ fn asked(x: [u32; 10]) -> Question {
     }
 }
 
-fn run_case(x: [u32; 10]) {
+fn run_case(rt: &impl Print, x: [u32; 10]) -> io::Result<()> {
     let mut t = small();
     t[0] = x[1];
     t[600] = x[0];
-    line(six(x[4] as u64), t, asked(x));
+    line(rt, six(x[4] as u64), t, asked(x))?;
+    Ok(())
 }
 
 fn case(i: usize) -> [u32; 10] {
     CASES[i % 21]
 }
 
-fn cases() {
+fn cases(rt: &impl Print) -> io::Result<()> {
     let mut i: usize = 0;
     while i < 21 {
-        run_case(case(i));
+        run_case(rt, case(i))?;
         i += 1;
     }
+    Ok(())
 }
 
 // ---- 400 packages, several to an item
@@ -476,22 +501,23 @@ fn step(i: usize, words: usize) -> Question {
     }
 }
 
-fn steps(words: usize) {
+fn steps(rt: &impl Print, words: usize) -> io::Result<()> {
     let packages = items();
     let mut t = chain();
     let mut i: usize = 0;
     while i < 19 {
-        let after = line(packages, t, step(i, words));
+        let after = line(rt, packages, t, step(i, words))?;
         t = after;
         i += 1;
     }
+    Ok(())
 }
 
-fn main() {
-    rows(0, 30, 10);
-    rows(30, 50, 6);
-    cases();
+fn main(rt: HostRuntime) -> io::Result<()> {
+    rows(&rt, 0, 30, 10)?;
+    rows(&rt, 30, 50, 6)?;
+    cases(&rt)?;
     // The memory is a local array, and then the lent words.
-    steps(2);
-    steps(70000);
+    steps(&rt, 2)?;
+    steps(&rt, 70000)
 }
