@@ -6,6 +6,7 @@
 ghost use Rattle.std.specs.Prelude.{◌<◌};
 
 use itemset::Items;
+use std::io;
 use weeks::Week;
 
 // ---- one join
@@ -19,12 +20,12 @@ struct Case {
     words: usize,
 }
 
-fn print_case(c: Case) {
-    weeks::print(b"join ", c.a as u64);
-    weeks::print(b" ", c.b as u64);
-    weeks::print(b", free places ", c.free as u64);
-    weeks::print(b", words ", c.words as u64);
-    io::write_all(1, b":");
+fn print_case(rt: &impl Print, c: Case) -> io::Result<()> {
+    weeks::print(rt, b"join ", c.a as u64)?;
+    weeks::print(rt, b" ", c.b as u64)?;
+    weeks::print(rt, b", free places ", c.free as u64)?;
+    weeks::print(rt, b", words ", c.words as u64)?;
+    rt.write_all(b":")
 }
 
 fn same(x: [u32; 45001], y: [u32; 45001]) -> bool {
@@ -38,11 +39,11 @@ fn same(x: [u32; 45001], y: [u32; 45001]) -> bool {
     true
 }
 
-fn print_end(unchanged: bool) {
+fn print_end(rt: &impl Print, unchanged: bool) -> io::Result<()> {
     if unchanged {
-        io::write_all(1, b", table unchanged");
+        rt.write_all(b", table unchanged")?;
     }
-    io::write_all(1, b"\n");
+    rt.write_all(b"\n")
 }
 
 // The words of a table with so many nodes and so many places behind them.
@@ -51,7 +52,14 @@ fn room(nodes: u32, free: u32) -> usize {
 }
 
 // The join of the two on the table, and its report.
-fn ask(packages: &[u64], w: Week, order: &[u8], t: &mut [u32], c: Case) {
+fn ask(
+    rt: &impl Print,
+    packages: &[u64],
+    w: Week,
+    order: &[u8],
+    t: &mut [u32],
+    c: Case,
+) -> io::Result<()> {
     let mut work = [0u64; 728];
     let words = weeks::least(c.words, 728);
     let r = engine::join(
@@ -64,17 +72,24 @@ fn ask(packages: &[u64], w: Week, order: &[u8], t: &mut [u32], c: Case) {
         c.b,
         &mut work[0..words],
     );
-    weeks::print_report(packages, w, order, t, r);
+    weeks::print_report(rt, packages, w, order, t, r)
 }
 
 // The same with only the free places of the case; it gives the table.
-fn join(packages: &[u64], w: Week, order: &[u8], t: [u32; 45001], c: Case) -> [u32; 45001] {
-    print_case(c);
+fn join(
+    rt: &impl Print,
+    packages: &[u64],
+    w: Week,
+    order: &[u8],
+    t: [u32; 45001],
+    c: Case,
+) -> io::Result<[u32; 45001]> {
+    print_case(rt, c)?;
     let mut table = t;
     let end = weeks::least(room(t[0], c.free), 45001);
-    ask(packages, w, order, &mut table[0..end], c);
-    print_end(same(t, table));
-    table
+    ask(rt, packages, w, order, &mut table[0..end], c)?;
+    print_end(rt, same(t, table))?;
+    Ok(table)
 }
 
 // ---- the halves of a week and their joins
@@ -140,31 +155,50 @@ struct Halves {
 }
 
 // The halves are covered on an empty table of 15,000 nodes, which is given back.
-fn plan(packages: &[u64], w: Week, order: &[u8], h: Halves) -> [u32; 45001] {
+fn plan(
+    rt: &impl Print,
+    packages: &[u64],
+    w: Week,
+    order: &[u8],
+    h: Halves,
+) -> io::Result<[u32; 45001]> {
     let mut t = [0u32; 45001];
-    io::write_all(1, b"first half:");
-    weeks::cover(packages, w, order, &mut t, h.first);
-    io::write_all(1, b"second half:");
-    weeks::cover(packages, w, order, &mut t, h.second);
-    t
+    rt.write_all(b"first half:")?;
+    weeks::cover(rt, packages, w, order, &mut t, h.first)?;
+    rt.write_all(b"second half:")?;
+    weeks::cover(rt, packages, w, order, &mut t, h.second)?;
+    Ok(t)
 }
 
 // The joins of the halves' rows, one after the other on one table.
-fn joins(packages: &[u64], w: Week, order: &[u8], t: [u32; 45001], h: Halves) -> [u32; 45001] {
+fn joins(
+    rt: &impl Print,
+    packages: &[u64],
+    w: Week,
+    order: &[u8],
+    t: [u32; 45001],
+    h: Halves,
+) -> io::Result<[u32; 45001]> {
     let mut table = t;
     let mut i: usize = h.row;
     while i < h.end {
-        let after = join(packages, w, order, table, row(i));
+        let after = join(rt, packages, w, order, table, row(i))?;
         table = after;
         i += 1;
     }
-    table
+    Ok(table)
 }
 
 // The covers, and then the joins.
-fn show(packages: &[u64], w: Week, order: &[u8], h: Halves) -> [u32; 45001] {
-    let t = plan(packages, w, order, h);
-    joins(packages, w, order, t, h)
+fn show(
+    rt: &impl Print,
+    packages: &[u64],
+    w: Week,
+    order: &[u8],
+    h: Halves,
+) -> io::Result<[u32; 45001]> {
+    let t = plan(rt, packages, w, order, h)?;
+    joins(rt, packages, w, order, t, h)
 }
 
 // ---- small weeks
@@ -194,11 +228,8 @@ const FOUR: [u64; 12] = [1, 0, 0, 2, 0, 0, 4, 0, 0, 8, 0, 0];
 
 const ORDER: [u8; 4] = [0, 1, 2, 3];
 
-fn four() {
-    io::write_all(
-        1,
-        b"packages {0}, {1}, {2}, {3}, halves {0, 2} and {1, 3}\n",
-    );
+fn four(rt: &impl Print) -> io::Result<()> {
+    rt.write_all(b"packages {0}, {1}, {2}, {3}, halves {0, 2} and {1, 3}\n")?;
     let packages = FOUR;
     let h = Halves {
         first: low(0b0101),
@@ -206,12 +237,13 @@ fn four() {
         row: 0,
         end: 21,
     };
-    show(&packages, week(4, low(0), 3), &ORDER, h);
+    show(rt, &packages, week(4, low(0), 3), &ORDER, h)?;
+    Ok(())
 }
 
 // The packages are {0, 2} and the second, and so are the halves. Item 2 is optional.
-fn shared(name: &[u8], second: u64) {
-    io::write_all(1, name);
+fn shared(rt: &impl Print, name: &[u8], second: u64) -> io::Result<()> {
+    rt.write_all(name)?;
     let packages = [5u64, 0, 0, second, 0, 0];
     let h = Halves {
         first: low(0b101),
@@ -219,7 +251,8 @@ fn shared(name: &[u8], second: u64) {
         row: 21,
         end: 22,
     };
-    show(&packages, week(3, low(0b100), 3), &ORDER[0..3], h);
+    show(rt, &packages, week(3, low(0b100), 3), &ORDER[0..3], h)?;
+    Ok(())
 }
 
 // ---- two boards of dominoes
@@ -270,7 +303,7 @@ fn turns() -> [u8; 192] {
 }
 
 // The two boards and their joins; then a cover of both finds the answer of the join.
-fn joined(packages: &[u64], order: &[u8], row: usize)
+fn joined(rt: &impl Print, packages: &[u64], order: &[u8], row: usize) -> io::Result<()>
     requires { row < 29 }
 {
     let w = week(72, low(0), 0);
@@ -282,18 +315,18 @@ fn joined(packages: &[u64], order: &[u8], row: usize)
         row,
         end: row + 3,
     };
-    let mut t = show(packages, w, order, h);
-    io::write_all(1, b"both at once:");
-    weeks::cover(packages, w, order, &mut t, all);
+    let mut t = show(rt, packages, w, order, h)?;
+    rt.write_all(b"both at once:")?;
+    weeks::cover(rt, packages, w, order, &mut t, all)
 }
 
 // Where one board comes behind the other the join makes a node for each of the first board's; where they take turns, nodes multiply.
-fn dominoes(name: &[u8], order: [u8; 192], row: usize)
+fn dominoes(rt: &impl Print, name: &[u8], order: [u8; 192], row: usize) -> io::Result<()>
     requires { row < 29 }
 {
-    io::write_all(1, name);
+    rt.write_all(name)?;
     let packages = boards();
-    joined(&packages, &order[0..72], row);
+    joined(rt, &packages, &order[0..72], row)
 }
 
 // ---- more timetables than count can tell
@@ -320,7 +353,7 @@ fn costs() -> [u16; 128] {
     costs
 }
 
-fn cheapest(packages: &[u64], order: &[u8], t: &[u32]) {
+fn cheapest(rt: &impl Print, packages: &[u64], order: &[u8], t: &[u32]) -> io::Result<()> {
     let r = engine::cheapest(
         64,
         packages,
@@ -332,41 +365,55 @@ fn cheapest(packages: &[u64], order: &[u8], t: &[u32]) {
         &mut [0u64; 194],
         &mut [0u16; 64],
     );
-    io::write_all(1, b"cheapest of 193:");
-    weeks::print_priced(r);
-    io::write_all(1, b"\n");
+    rt.write_all(b"cheapest of 193:")?;
+    weeks::print_priced(rt, r)?;
+    rt.write_all(b"\n")
 }
 
 // Each half has 2^32 timetables, and the join 2^64: one more than count can tell.
-fn priced(packages: &[u64], order: &[u8]) {
+fn priced(rt: &impl Print, packages: &[u64], order: &[u8]) -> io::Result<()> {
     let h = Halves {
         first: low(0x00000000ffffffff),
         second: low(0xffffffff00000000),
         row: 28,
         end: 29,
     };
-    let t = show(packages, week(64, low(0), 0), order, h);
-    cheapest(packages, order, &t);
+    let t = show(rt, packages, week(64, low(0), 0), order, h)?;
+    cheapest(rt, packages, order, &t)
 }
 
-fn many(order: [u8; 192]) {
-    io::write_all(
-        1,
+fn many(rt: &impl Print, order: [u8; 192]) -> io::Result<()> {
+    rt.write_all(
         b"items 0 to 63 in two packages each, halves 0 to 31 and 32 to 63: count refuses the 2^64 timetables of the join\n",
-    );
+    )?;
     let packages = pairs();
-    priced(&packages, &order[0..64]);
+    priced(rt, &packages, &order[0..64])
 }
 
-fn main() {
+fn main(rt: HostRuntime) -> io::Result<()> {
     let plain = exact_cover::plain_order();
-    four();
+    four(&rt)?;
     shared(
+        &rt,
         b"packages and halves {0, 2} and {1, 2}, item 2 optional\n",
         6,
-    );
-    shared(b"packages and halves {0, 2} and {1}, item 2 optional\n", 2);
-    dominoes(b"two boards of 6 by 6, one behind the other\n", plain, 22);
-    dominoes(b"two boards of 6 by 6, their cells in turn\n", turns(), 25);
-    many(plain);
+    )?;
+    shared(
+        &rt,
+        b"packages and halves {0, 2} and {1}, item 2 optional\n",
+        2,
+    )?;
+    dominoes(
+        &rt,
+        b"two boards of 6 by 6, one behind the other\n",
+        plain,
+        22,
+    )?;
+    dominoes(
+        &rt,
+        b"two boards of 6 by 6, their cells in turn\n",
+        turns(),
+        25,
+    )?;
+    many(&rt, plain)
 }
