@@ -5,32 +5,34 @@
 
 use itemset::Items;
 use statement::Compared;
+use std::io;
 use weeks::Week;
 
 // ---- what is printed
 
-fn print_package(p: u16) {
-    weeks::print(b" ", p as u64);
+fn print_package(rt: &impl Print, p: u16) -> io::Result<()> {
+    weeks::print(rt, b" ", p as u64)
 }
 
-fn print_list(list: &[u16]) {
+fn print_list(rt: &impl Print, list: &[u16]) -> io::Result<()> {
     let mut i: usize = 0;
     while i < list.len() {
-        print_package(list[i]);
+        print_package(rt, list[i])?;
         i += 1;
     }
+    Ok(())
 }
 
-fn print_compared(r: Compared) {
+fn print_compared(rt: &impl Print, r: Compared) -> io::Result<()> {
     match r {
         Compared::Closest {
             packages,
             difference,
         } => {
-            weeks::print(b" packages ", packages as u64);
-            weeks::print(b" difference ", difference as u64);
+            weeks::print(rt, b" packages ", packages as u64)?;
+            weeks::print(rt, b" difference ", difference as u64)
         }
-        Compared::Refused(n) => weeks::print_refused(n),
+        Compared::Refused(n) => weeks::print_refused(rt, n),
     }
 }
 
@@ -44,19 +46,27 @@ struct Case {
     places: usize,
 }
 
-fn print_case(c: Case) {
-    weeks::print(b", answer ", c.answer as u64);
-    weeks::print(b", words ", c.words as u64);
-    weeks::print(b", places ", c.places as u64);
-    io::write_all(1, b":");
+fn print_case(rt: &impl Print, c: Case) -> io::Result<()> {
+    weeks::print(rt, b", answer ", c.answer as u64)?;
+    weeks::print(rt, b", words ", c.words as u64)?;
+    weeks::print(rt, b", places ", c.places as u64)?;
+    rt.write_all(b":")
 }
 
-fn ask(packages: &[u64], w: Week, order: &[u8], t: &[u32], list: &[u16], c: Case) {
+fn ask(
+    rt: &impl Print,
+    packages: &[u64],
+    w: Week,
+    order: &[u8],
+    t: &[u32],
+    list: &[u16],
+    c: Case,
+) -> io::Result<()> {
     let mut work = [7u64; 514];
     let mut page = [9u16; 64];
     let words = weeks::least(c.words, 514);
     let places = weeks::least(c.places, 64);
-    print_case(c);
+    print_case(rt, c)?;
     let r = engine::closest(
         w.m,
         packages,
@@ -68,10 +78,10 @@ fn ask(packages: &[u64], w: Week, order: &[u8], t: &[u32], list: &[u16], c: Case
         &mut work[0..words],
         &mut page[0..places],
     );
-    print_compared(r);
-    io::write_all(1, b", page");
-    print_list(&[page[0], page[1], page[2], page[3], page[4]]);
-    io::write_all(1, b"\n");
+    print_compared(rt, r)?;
+    rt.write_all(b", page")?;
+    print_list(rt, &[page[0], page[1], page[2], page[3], page[4]])?;
+    rt.write_all(b"\n")
 }
 
 // ---- the lists
@@ -134,13 +144,20 @@ fn listed(x: [u16; 9]) -> usize {
 }
 
 // The question of a row.
-fn given(packages: &[u64], w: Week, order: &[u8], t: &[u32], row: usize) {
+fn given(
+    rt: &impl Print,
+    packages: &[u64],
+    w: Week,
+    order: &[u8],
+    t: &[u32],
+    row: usize,
+) -> io::Result<()> {
     let x = CASES[row % 32];
     let n = weeks::least(listed(x), 5);
     let list = [x[4], x[5], x[6], x[7], x[8]];
-    io::write_all(1, b"list");
-    print_list(&list[0..n]);
-    ask(packages, w, order, t, &list[0..n], sizes(x));
+    rt.write_all(b"list")?;
+    print_list(rt, &list[0..n])?;
+    ask(rt, packages, w, order, t, &list[0..n], sizes(x))
 }
 
 // Some rows one after the other.
@@ -150,19 +167,27 @@ struct Rows {
     end: usize,
 }
 
-fn questions(packages: &[u64], w: Week, order: &[u8], t: &[u32], rows: Rows) {
+fn questions(
+    rt: &impl Print,
+    packages: &[u64],
+    w: Week,
+    order: &[u8],
+    t: &[u32],
+    rows: Rows,
+) -> io::Result<()> {
     let mut i: usize = rows.first;
     while i < rows.end {
-        given(packages, w, order, t, i);
+        given(rt, packages, w, order, t, i)?;
         i += 1;
     }
+    Ok(())
 }
 
 // All items of the week are covered, and then the rows are asked.
-fn show(packages: &[u64], w: Week, order: &[u8], rows: Rows) {
+fn show(rt: &impl Print, packages: &[u64], w: Week, order: &[u8], rows: Rows) -> io::Result<()> {
     let mut t = [0u32; 61];
-    weeks::cover(packages, w, order, &mut t, w.d);
-    questions(packages, w, order, &t, rows);
+    weeks::cover(rt, packages, w, order, &mut t, w.d)?;
+    questions(rt, packages, w, order, &t, rows)
 }
 
 // ---- small weeks
@@ -194,62 +219,67 @@ const PLAIN: [u8; 6] = [0, 1, 2, 3, 4, 5];
 
 const REVERSED: [u8; 6] = [5, 4, 3, 2, 1, 0];
 
-fn figure() {
-    io::write_all(1, b"figure 1:");
+fn figure(rt: &impl Print) -> io::Result<()> {
+    rt.write_all(b"figure 1:")?;
     let packages = FIGURE;
     show(
+        rt,
         &packages,
         week(6, low(0)),
         &PLAIN,
         Rows { first: 0, end: 19 },
-    );
+    )
 }
 
 // The table has no room for the node that it says it has.
-fn spoilt() {
-    io::write_all(1, b"figure 1, spoilt table\n");
+fn spoilt(rt: &impl Print) -> io::Result<()> {
+    rt.write_all(b"figure 1, spoilt table\n")?;
     let packages = FIGURE;
     questions(
+        rt,
         &packages,
         week(6, low(0)),
         &PLAIN,
         &[1u32],
         Rows { first: 19, end: 20 },
-    );
+    )
 }
 
 // In the reversed order package 2 comes first.
-fn reversed() {
-    io::write_all(1, b"figure 1, order 5 4 3 2 1 0:");
+fn reversed(rt: &impl Print) -> io::Result<()> {
+    rt.write_all(b"figure 1, order 5 4 3 2 1 0:")?;
     let packages = FIGURE;
     show(
+        rt,
         &packages,
         week(6, low(0)),
         &REVERSED,
         Rows { first: 20, end: 23 },
-    );
+    )
 }
 
-fn equals() {
-    io::write_all(1, b"packages {0}, {0}:");
+fn equals(rt: &impl Print) -> io::Result<()> {
+    rt.write_all(b"packages {0}, {0}:")?;
     let packages = [1u64, 0, 0, 1, 0, 0];
     show(
+        rt,
         &packages,
         week(1, low(0)),
         &PLAIN[0..1],
         Rows { first: 23, end: 26 },
-    );
+    )
 }
 
-fn slots() {
-    io::write_all(1, b"packages {0}, {0, 2}, {1, 2}, {1}, item 2 optional:");
+fn slots(rt: &impl Print) -> io::Result<()> {
+    rt.write_all(b"packages {0}, {0, 2}, {1, 2}, {1}, item 2 optional:")?;
     let packages = [1u64, 0, 0, 5, 0, 0, 6, 0, 0, 2, 0, 0];
     show(
+        rt,
         &packages,
         week(3, low(4)),
         &PLAIN[0..3],
         Rows { first: 26, end: 29 },
-    );
+    )
 }
 
 // ---- the longest list
@@ -276,34 +306,41 @@ fn all() -> [u16; 512] {
 }
 
 // The question of a row, but of all packages.
-fn ask_all(packages: &[u64], w: Week, order: &[u8], t: &[u32], row: usize) {
+fn ask_all(
+    rt: &impl Print,
+    packages: &[u64],
+    w: Week,
+    order: &[u8],
+    t: &[u32],
+    row: usize,
+) -> io::Result<()> {
     let list = all();
-    io::write_all(1, b"list 0 to 511");
-    ask(packages, w, order, t, &list, sizes(CASES[row % 32]));
+    rt.write_all(b"list 0 to 511")?;
+    ask(rt, packages, w, order, t, &list, sizes(CASES[row % 32]))
 }
 
 // A timetable has one package of each item; all are as close, and the first is given, though count cannot tell how many there are.
-fn ask_each(packages: &[u64], order: &[u8]) {
+fn ask_each(rt: &impl Print, packages: &[u64], order: &[u8]) -> io::Result<()> {
     let mut t = [0u32; 1537];
     let w = week(64, low(0));
-    weeks::cover(packages, w, order, &mut t, w.d);
-    ask_all(packages, w, order, &t, 29);
-    ask_all(packages, w, order, &t, 30);
-    ask_all(packages, w, order, &t, 31);
+    weeks::cover(rt, packages, w, order, &mut t, w.d)?;
+    ask_all(rt, packages, w, order, &t, 29)?;
+    ask_all(rt, packages, w, order, &t, 30)?;
+    ask_all(rt, packages, w, order, &t, 31)
 }
 
-fn longest() {
-    io::write_all(1, b"items 0 to 63 in eight packages each:");
+fn longest(rt: &impl Print) -> io::Result<()> {
+    rt.write_all(b"items 0 to 63 in eight packages each:")?;
     let packages = eights();
     let order = exact_cover::plain_order();
-    ask_each(&packages, &order[0..64]);
+    ask_each(rt, &packages, &order[0..64])
 }
 
-fn main() {
-    figure();
-    spoilt();
-    reversed();
-    equals();
-    slots();
-    longest();
+fn main(rt: HostRuntime) -> io::Result<()> {
+    figure(&rt)?;
+    spoilt(&rt)?;
+    reversed(&rt)?;
+    equals(&rt)?;
+    slots(&rt)?;
+    longest(&rt)
 }
