@@ -5,32 +5,35 @@
 
 use itemset::Items;
 use statement::Withdrawal;
+use std::io;
 use weeks::Week;
 
 // ---- what is printed
 
-fn print_package(p: u16) {
-    weeks::print(b" ", p as u64);
+fn print_package(rt: &impl Print, p: u16) -> io::Result<()> {
+    weeks::print(rt, b" ", p as u64)
 }
 
-fn print_packages(list: &[u16]) {
+fn print_packages(rt: &impl Print, list: &[u16]) -> io::Result<()> {
     let mut i: usize = 0;
     while i < list.len() {
-        print_package(list[i]);
+        print_package(rt, list[i])?;
         i += 1;
     }
+    Ok(())
 }
 
-fn print_word(n: u32) {
-    weeks::print(b" ", n as u64);
+fn print_word(rt: &impl Print, n: u32) -> io::Result<()> {
+    weeks::print(rt, b" ", n as u64)
 }
 
-fn print_words(list: &[u32]) {
+fn print_words(rt: &impl Print, list: &[u32]) -> io::Result<()> {
     let mut i: usize = 0;
     while i < list.len() {
-        print_word(list[i]);
+        print_word(rt, list[i])?;
         i += 1;
     }
+    Ok(())
 }
 
 fn same(x: [u32; 19], y: [u32; 19]) -> bool {
@@ -44,52 +47,61 @@ fn same(x: [u32; 19], y: [u32; 19]) -> bool {
     true
 }
 
-fn print_table(before: [u32; 19], after: [u32; 19]) {
+fn print_table(rt: &impl Print, before: [u32; 19], after: [u32; 19]) -> io::Result<()> {
     if same(before, after) {
-        io::write_all(1, b", table unchanged\n");
-        return;
+        rt.write_all(b", table unchanged\n")?;
+        return Ok(());
     }
-    io::write_all(1, b", table");
-    print_words(&after);
-    io::write_all(1, b"\n");
+    rt.write_all(b", table")?;
+    print_words(rt, &after)?;
+    rt.write_all(b"\n")
 }
 
 // Whether it was not refused.
-fn print_left(r: Withdrawal) -> bool {
+fn print_left(rt: &impl Print, r: Withdrawal) -> io::Result<bool> {
     match r {
         Withdrawal::Nodes(n) => {
-            weeks::print(b" nodes ", n as u64);
-            true
+            weeks::print(rt, b" nodes ", n as u64)?;
+            Ok(true)
         }
         Withdrawal::Refused(n) => {
-            weeks::print_refused(n);
-            false
+            weeks::print_refused(rt, n)?;
+            Ok(false)
         }
     }
 }
 
-fn print_entry(packages: &[u64], w: Week, t: &[u32], listed: u32, entry: u32) {
-    weeks::print(b"  ", listed as u64);
-    weeks::print(b": answer ", entry as u64);
-    weeks::print_timetables(packages, w, &[0u8], t, entry);
-    io::write_all(1, b"\n");
+fn print_entry(
+    rt: &impl Print,
+    packages: &[u64],
+    w: Week,
+    t: &[u32],
+    listed: u32,
+    entry: u32,
+) -> io::Result<()> {
+    weeks::print(rt, b"  ", listed as u64)?;
+    weeks::print(rt, b": answer ", entry as u64)?;
+    weeks::print_timetables(rt, packages, w, &[0u8], t, entry)?;
+    rt.write_all(b"\n")
 }
 
 // The first n of the listed answers and what stands in their places.
 fn print_entries(
+    rt: &impl Print,
     packages: &[u64],
     w: Week,
     t: &[u32],
     listed: [u32; 6],
     entries: [u32; 6],
     n: usize,
-) {
+) -> io::Result<()> {
     let end = weeks::least(n, 6);
     let mut i: usize = 0;
     while i < end {
-        print_entry(packages, w, t, listed[i], entries[i]);
+        print_entry(rt, packages, w, t, listed[i], entries[i])?;
         i += 1;
     }
+    Ok(())
 }
 
 // ---- one withdrawal
@@ -146,27 +158,28 @@ fn answers_of(x: [u16; 12]) -> [u32; 6] {
     ]
 }
 
-fn print_case(gone: &[u16], answers: &[u32], words: usize) {
-    io::write_all(1, b"withdraw");
-    print_packages(gone);
-    io::write_all(1, b", answers");
-    print_words(answers);
-    weeks::print(b", words ", words as u64);
-    io::write_all(1, b":");
+fn print_case(rt: &impl Print, gone: &[u16], answers: &[u32], words: usize) -> io::Result<()> {
+    rt.write_all(b"withdraw")?;
+    print_packages(rt, gone)?;
+    rt.write_all(b", answers")?;
+    print_words(rt, answers)?;
+    weeks::print(rt, b", words ", words as u64)?;
+    rt.write_all(b":")
 }
 
 // The withdrawal, and whether it was not refused.
 fn ask(
+    rt: &impl Print,
     packages: &[u64],
     w: Week,
     t: &mut [u32],
     gone: &[u16],
     answers: &mut [u32],
     words: usize,
-) -> bool {
+) -> io::Result<bool> {
     let mut work = [7u64; 8];
     let lent = weeks::least(words, 8);
-    print_case(gone, answers, words);
+    print_case(rt, gone, answers, words)?;
     let r = engine::withdraw(
         w.m,
         packages,
@@ -177,7 +190,7 @@ fn ask(
         answers,
         &mut work[0..lent],
     );
-    print_left(r)
+    print_left(rt, r)
 }
 
 // How many words the packages that remain have, of three packages, where so many are withdrawn. (They are equal, so the first of them will do.)
@@ -189,7 +202,13 @@ fn rest(answered: bool, gone: usize) -> usize {
 }
 
 // The row's withdrawal from the table, which is given back.
-fn withdraw(packages: [u64; 9], w: Week, t: [u32; 19], row: usize) -> [u32; 19] {
+fn withdraw(
+    rt: &impl Print,
+    packages: [u64; 9],
+    w: Week,
+    t: [u32; 19],
+    row: usize,
+) -> io::Result<[u32; 19]> {
     let x = CASES[row % 13];
     let gone = [x[2], x[3], x[4]];
     let listed = answers_of(x);
@@ -199,17 +218,18 @@ fn withdraw(packages: [u64; 9], w: Week, t: [u32; 19], row: usize) -> [u32; 19] 
     let g = weeks::least(size.gone, 3);
     let n = weeks::least(size.listed, 6);
     let answered = ask(
+        rt,
         &packages,
         w,
         &mut table,
         &gone[0..g],
         &mut entries[0..n],
         size.words,
-    );
+    )?;
     let end = weeks::least(rest(answered, g), 9);
-    print_table(t, table);
-    print_entries(&packages[0..end], w, &table, listed, entries, n);
-    table
+    print_table(rt, t, table)?;
+    print_entries(rt, &packages[0..end], w, &table, listed, entries, n)?;
+    Ok(table)
 }
 
 // ---- the week
@@ -231,69 +251,70 @@ fn week() -> Week {
     }
 }
 
-fn without(w: Week, t: &mut [u32], a: u32, p: u32) {
+fn without(rt: &impl Print, w: Week, t: &mut [u32], a: u32, p: u32) -> io::Result<()> {
     let packages = PACKAGES;
     let mut work = [0u64; 2];
     let r = engine::without(w.m, &packages, w.optional, &[0u8], t, a, p, &mut work);
-    weeks::print(b"without ", p as u64);
-    io::write_all(1, b":");
-    weeks::print_report(&packages, w, &[0u8], t, r);
-    io::write_all(1, b"\n");
+    weeks::print(rt, b"without ", p as u64)?;
+    rt.write_all(b":")?;
+    weeks::print_report(rt, &packages, w, &[0u8], t, r)?;
+    rt.write_all(b"\n")
 }
 
-fn with(w: Week, t: &mut [u32], a: u32, p: u32) {
+fn with(rt: &impl Print, w: Week, t: &mut [u32], a: u32, p: u32) -> io::Result<()> {
     let packages = PACKAGES;
     let mut work = [0u64; 2];
     let r = engine::with(w.m, &packages, w.optional, &[0u8], t, a, p, &mut work);
-    weeks::print(b"with ", p as u64);
-    io::write_all(1, b":");
-    weeks::print_report(&packages, w, &[0u8], t, r);
-    io::write_all(1, b"\n");
+    weeks::print(rt, b"with ", p as u64)?;
+    rt.write_all(b":")?;
+    weeks::print_report(rt, &packages, w, &[0u8], t, r)?;
+    rt.write_all(b"\n")
 }
 
 // All timetables, those without package 2 and those without package 1.
-fn plan(w: Week) -> [u32; 19] {
+fn plan(rt: &impl Print, w: Week) -> io::Result<[u32; 19]> {
     let mut t = [0u32; 19];
     let packages = PACKAGES;
-    io::write_all(1, b"cover:");
-    weeks::cover(&packages, w, &[0u8], &mut t, w.d);
-    without(w, &mut t, 4, 2);
-    without(w, &mut t, 4, 1);
-    t
+    rt.write_all(b"cover:")?;
+    weeks::cover(rt, &packages, w, &[0u8], &mut t, w.d)?;
+    without(rt, w, &mut t, 4, 2)?;
+    without(rt, w, &mut t, 4, 1)?;
+    Ok(t)
 }
 
 // The rows from the second on, each on the same table.
-fn cases(w: Week, t: [u32; 19]) {
+fn cases(rt: &impl Print, w: Week, t: [u32; 19]) -> io::Result<()> {
     let mut i: usize = 1;
     while i < 12 {
-        withdraw(PACKAGES, w, t, i);
+        withdraw(rt, PACKAGES, w, t, i)?;
         i += 1;
     }
+    Ok(())
 }
 
 // By the package that remains.
-fn cover_again(w: Week, t: [u32; 19]) {
+fn cover_again(rt: &impl Print, w: Week, t: [u32; 19]) -> io::Result<()> {
     let mut table = t;
     let packages = PACKAGES;
-    io::write_all(1, b"cover:");
-    weeks::cover(&packages[0..3], w, &[0u8], &mut table, w.d);
+    rt.write_all(b"cover:")?;
+    weeks::cover(rt, &packages[0..3], w, &[0u8], &mut table, w.d)
 }
 
 // The table is full, and the timetable of package 0 alone finds no place. With the cover listed, and no other answer, there is room.
-fn room(w: Week, t: [u32; 19]) {
+fn room(rt: &impl Print, w: Week, t: [u32; 19]) -> io::Result<()> {
     let mut table = t;
-    io::write_all(1, b"with six nodes the table is full\n");
-    with(w, &mut table, 4, 0);
-    let mut after = withdraw(PACKAGES, w, table, 12);
-    with(w, &mut after, 4, 0);
+    rt.write_all(b"with six nodes the table is full\n")?;
+    with(rt, w, &mut table, 4, 0)?;
+    let mut after = withdraw(rt, PACKAGES, w, table, 12)?;
+    with(rt, w, &mut after, 4, 0)
 }
 
-fn main() {
+fn main(rt: HostRuntime) -> io::Result<()> {
     let w = week();
-    io::write_all(1, b"packages {0}, {0}, {0}, a table for six nodes\n");
-    let t = plan(w);
-    let one = withdraw(PACKAGES, w, t, 0);
-    cover_again(w, one);
-    cases(w, t);
-    room(w, t);
+    rt.write_all(b"packages {0}, {0}, {0}, a table for six nodes\n")?;
+    let t = plan(&rt, w)?;
+    let one = withdraw(&rt, PACKAGES, w, t, 0)?;
+    cover_again(&rt, w, one)?;
+    cases(&rt, w, t)?;
+    room(&rt, w, t)
 }
