@@ -1,5 +1,3 @@
 -- Laws of the kiosk's words, and of the call that fills them.
 pub mod Filled
 pub mod Same
-pub mod Filling
-pub mod Walking

@@ -1,7 +1,5 @@
 // The kiosk's calls: the soundness check and count on nodes that are lent as a list of triples, their number beside it. They promise what the two
 // calls of `engine` promise of the table whose words are that number and then the triples' (`statement`'s specs/Kiosk).
-//
-// The three functions that take a `&[Node]` are walks by hand: `flatten`, `check` and `count`. What is decided is decided below them, on words.
 #![tactic(auto)]
 
 ghost use Rattle.std.specs.Prelude.{◌≡◌, length};
