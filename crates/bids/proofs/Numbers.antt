@@ -8,6 +8,7 @@ use native.Mathlib.Omega.{arith}
 use lib.Pow.{pow-add}
 use lib.ListN.{length, get_or, take, drop, length-append}
 use lib.Seq.{take_all, take-length, take-take, take-add, take_at, drop_at, drop-drop, drop-cons, get_or-take, get_or-drop}
+use Rattle.std.specs.Int.Bits.{bit_xor}
 use Rattle.bids.specs.Bytes.{byte_at, number_at, bytes_of, fnv_from, fnv}
 
 -- ---- bytes that stand in a file
@@ -126,7 +127,7 @@ pow_bytes (suc w) = rw mul-suc (omega (arith, pow-add 2 (8 * w) 8, pow_bytes w, 
 fnv_from-small : (h : ℕ) (xs : List ℕ) → h < 2 ^ 32 → fnv_from h xs < 2 ^ 32
 unfolding fnv_from
 fnv_from-small h [] l = l
-fnv_from-small h (x ∷ xs) l = fnv_from-small _ xs (omega arith)
+fnv_from-small h (x ∷ xs) l = fnv_from-small (bit_xor h x * 16777619 % 2 ^ 32) xs (omega arith)
 
 pub fnv-small : (b : List ℕ) → fnv b < 256 ^ 4
 unfolding fnv
