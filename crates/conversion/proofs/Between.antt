@@ -16,7 +16,6 @@ use Rattle.statement.specs.Replies.{refused, gives, reply}
 use Rattle.statement.specs.Postconditions.{written}
 use Rattle.statement.proofs.FirstOf.{pass, hit, none, passed}
 use Rattle.statement.proofs.TestLaws.{was_given}
-use Rattle.bids.specs.Ranges.{first}
 use Rattle.bids.specs.Contents.{Contents, nth_school, nth_package, same_school, school_in}
 use Rattle.bids.specs.Format.{optional_slots, schools_in, file_length, contents, cut, content_tests, refusal}
 use Rattle.bids.specs.Format as F

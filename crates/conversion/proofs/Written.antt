@@ -32,18 +32,18 @@ module _ {A : Type 0} (f : A → List ℕ) {w : ℕ} (size : (x : A) → length 
   -- they stand from i on where record j stands w * j further
   joined-apart : {b : List ℕ} {i : ℕ} (d : A) (xs : List A) → Stands b i (joined f xs) → (j : ℕ) → j < length xs → Stands b (i + w * j) (f (get_or xs j d))
   unfolding joined
-  joined-apart d [] p j h = absurd (omega arith)
-  joined-apart d (x ∷ xs) p zero h = stands_moved (omega arith) (stands_left (f x) (joined f xs) p)
-  joined-apart d (x ∷ xs) p (suc j) h =
-      stands_moved (omega (arith, mul-suc w j)) (joined-apart d xs (stands_right (f x) (joined f xs) (size x) p) j (omega arith))
+  joined-apart {b} {i} d [] p j h = absurd (omega arith)
+  joined-apart {b} {i} d (x ∷ xs) p zero h = stands_moved (omega arith) (stands_left (f x) (joined f xs) p)
+  joined-apart {b} {i} d (x ∷ xs) p (suc j) h =
+      stands_moved (omega (arith, mul-suc w j)) (joined-apart {b = b} {i = i + w} d xs (stands_right (f x) (joined f xs) (size x) p) j (omega arith))
 
   joined_together : {b : List ℕ} {i : ℕ} (d : A) (xs : List A) → ((j : ℕ) → j < length xs → Stands b (i + w * j) (f (get_or xs j d)))
       → Stands b i (joined f xs)
   unfolding joined
-  joined_together d [] p = record { here = refl }
+  joined_together {b} {i} d [] p = record { here = refl }
   joined_together {b} {i} d (x ∷ xs) p =
       stands_both (size x) (stands_moved (omega arith) (p 0 (omega arith)))
-      (joined_together d xs (λ j h. stands_moved (omega (arith, mul-suc w j)) (p (suc j) (omega arith))))
+      (joined_together {b = b} {i = i + w} d xs (λ j h. stands_moved (omega (arith, mul-suc w j)) (p (suc j) (omega arith))))
 
 -- ---- lengths
 
