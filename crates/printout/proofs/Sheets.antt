@@ -25,7 +25,7 @@ use Rattle.statement.proofs.FirstOf.{passed}
 use Rattle.statement.proofs.Made.{made-missing}
 use Rattle.statement.proofs.TestLaws.{was_refused}
 use Rattle.bids.specs.Contents.{packages_of, costs_of, problem_in}
-use Rattle.bids.specs.Format.{version1, schools, slots, packages, contents, refusal}
+use Rattle.bids.specs.Format.{version1, contents, refusal}
 use Rattle.bids.specs.Contract.{read_refusal, ReadPost, read_reply}
 use Rattle.bids.specs.declared.Reading.{Reading}
 use Rattle.bids.specs.declared.Reading.TheVariants.{Accepted, Refused}
