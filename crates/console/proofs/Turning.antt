@@ -3,7 +3,7 @@ use mathlib.Core.Path.{◌≡◌, refl, sym, ap, ◌∙◌}
 use mathlib.Core.Bool.{Bool, true, false}
 use mathlib.Core.Logic.{⊎_elim}
 use mathlib.Core.List.{List, ◌∷◌, ◌++◌}
-use Prim.Native.Nat.{ℕ, ◌+◌, ◌≤◌, ◌<◌}
+use Prim.Native.Nat.{ℕ, ◌≤◌, ◌<◌}
 use native.Mathlib.Decide.{dec_lt}
 use native.Mathlib.Nat.{eq-zero-or-pos}
 use native.Mathlib.Omega.{arith}
@@ -14,7 +14,7 @@ use Rattle.statement.specs.Refusals.{first_of}
 use Rattle.statement.specs.Replies.{refused, gives}
 use Rattle.statement.proofs.FirstOf.{avoided}
 use Rattle.statement.proofs.TestLaws.{was_given, was_refused}
-use Rattle.bids.specs.Format.{version1, version2, schools, packages, contents, cut, header_tests, record_tests, refusal}
+use Rattle.bids.specs.Format.{version1, version2, contents, cut, header_tests, record_tests, refusal}
 use Rattle.bids.specs.Contract.{Legible}
 use Rattle.bids.specs.declared.Layout.{Layout}
 use Rattle.bids.proofs.Accepted.{accepted}
