@@ -1,5 +1,5 @@
-# What a caller from C needs. The gate is .ci/run; nothing here is part of it. `rt`, a C compiler, for test-c one of C++ and, for test-rust
-# and bench, cargo are on the path.
+# What a caller from C needs. The gate is .ci/run; nothing here is part of it. `rt`, a C compiler, objcopy of binutils, for test-c a compiler of C++ and,
+# for test-rust and bench, cargo are on the path.
 PREFIX ?= /usr/local
 VERSION = 0.8.0
 CC ?= cc
@@ -17,16 +17,18 @@ header = include/mogedorn.h
 
 .PHONY: lib install example stack test-c test-rust test-refusals bench picks words withdraw bucket files clean-c
 
-# Proves the library and writes the archive. Its functions are set to start at multiples of 64 bytes, for speed: see docs/PERFORMANCE.md.
+# Proves the library, with all below it, and writes the archive. Its functions are set to start at multiples of 64 bytes, for speed: see docs/PERFORMANCE.md.
 define write-archive
-rt staticlib capi
+cd crates/capi && rt lib
+mkdir -p $(dir $(archive))
+cp crates/capi/out/libcapi.a $(archive)
 $(OBJCOPY) --set-section-alignment '.text.*=64' $(archive)
 endef
 
 lib:
 	$(write-archive)
 
-$(archive): crates.txt $(shell find crates -name '*.rt')
+$(archive): crates.txt $(shell find crates -name out -prune -o -name '*.rt' -print)
 	$(write-archive)
 
 install: $(archive)
