@@ -27,8 +27,8 @@
  * earliest is lowest.
  *
  * Optional set and order both decide whether a table is sound. Lend one optional set and one order to all calls on a table, as one list of packages, but that a
- * withdrawal shortens the list: what is promised of a history of calls is promised of such. A table made under another order is refused (4) where its labels no longer ascend in precedence; where
- * they still do it is sound under this order too.
+ * withdrawal shortens the list. What is promised of a whole history of calls is promised of one that is lent one list, without a withdrawal. A table made under
+ * another order is refused (4) where its labels no longer ascend in precedence; where they still do it is sound under this order too.
  *
  * Most callers will keep m, packages, optional set and order in one struct and call the inline functions at the end, mogedorn_week_cover and so on: there a
  * null order is 0 .. M - 1. To an entry itself pass the order explicitly, whatever it is: its pointer is not null, and its length is M.
