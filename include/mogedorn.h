@@ -49,7 +49,8 @@
  * A refused call leaves table, page, buffers and the list of answers as they were. The first line of the table of refusals that applies is given, and only then.
  *
  * Stack and time are not proved, only that every call ends. Stack: measured by `make stack`: each entry on a stack filled with a pattern, on inputs that make
- * it go deepest, the lowest changed byte counted; here rounded up. Lend a thread that much and what its own code takes. The recursion is bounded: by 192 items in
+ * it go deepest, the lowest changed byte counted; here rounded up, as the toolchain before this one built them (this one's archive took as much or less at each
+ * entry). Lend a thread that much and what its own code takes. The recursion is bounded: by 192 items in
  * cover, by 512 packages in the others. Time: cover is bounded by its step limit; count, measure, pick, place, cheapest, closest, with, without and withdraw go through
  * the table; either, both and only may take very long where too few words are lent for large answers, see there, which was not met with join. A table made on
  * purpose to fill one bucket of the node index is checked in quadratic time: 65,534 nodes in 4.5 s.
