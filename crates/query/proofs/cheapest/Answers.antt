@@ -1,5 +1,4 @@
-use Rattle.query.proofs.Differences.{lightest-cheapest, weight-cheapest, cost_weighable}
-use borrow.Author.Rules.{rules}
+use Rattle.query.proofs.Differences.{lightest-cheapest, weight-cheapest}
 use Rattle.query.proofs.cheapest.Goals as goal
 
 pub returns : goal.returns

@@ -2,7 +2,6 @@ use Prim.Native.Nat.{ℕ}
 use native.Mathlib.Omega.{arith}
 use lib.ListN.{length-replicate}
 use Rattle.query.proofs.Differences.{listed-known, difference_weighable, lightest-closest, weight-closest}
-use borrow.Author.Rules.{rules}
 use Rattle.query.proofs.closest.Goals as goal
 
 pub mark-requires-clause-s_value : goal.mark-requires-clause-s_value
@@ -13,6 +12,6 @@ lightest-requires-clause-weighable c = difference_weighable c.requires.comparabl
 
 pub returns : goal.returns
 returns c = rw (
-      weight-closest c.requires.comparable _ c.mark.ensures c.args.a c.requires.a_nonzero.1 c.requires.a_nonzero.0,
-      lightest-closest c.requires.comparable _ c.mark.ensures c.args.a c.requires.a_nonzero.1 c.requires.a_nonzero.0,
-    ) at c.lightest.ensures
+  weight-closest c.requires.comparable _ c.mark.ensures c.args.a c.requires.a_nonzero.1 c.requires.a_nonzero.0,
+  lightest-closest c.requires.comparable _ c.mark.ensures c.args.a c.requires.a_nonzero.1 c.requires.a_nonzero.0,
+) at c.lightest.ensures

@@ -1,6 +1,5 @@
 use Rattle.query.proofs.CountWords.{told_none, told_many, told_count}
 use native.Mathlib.Omega.{arith}
-use borrow.Author.Rules.{rules}
 use Rattle.query.proofs.count.Goals as goal
 
 pub returns-then-a-eq0-clause-told : goal.returns-then-a-eq0-clause-told
@@ -11,4 +10,4 @@ returns-then-c-clause-told c = told_many c.args.t.now c.args.a _ (c.counts.ensur
 
 pub returns-clause-told : goal.returns-clause-told
 returns-clause-told c = told_count c.requires.readable c.args.a _ (omega arith) c.requires.a_bound.0 (c.counts.ensures.each c.args.a (omega arith))
-          (omega (arith, c.slice_known-2-1.given c.args.a))
+    (omega (arith, c.slice_known-2-1.given c.args.a))

@@ -1,9 +1,8 @@
 use Rattle.query.proofs.CountWords.{word_one, read-hi, read-both}
-use Rattle.query.proofs.Parts.{parts, branch}
+use Rattle.query.proofs.Parts.{parts}
 use Rattle.query.specs.Reading.{count_word}
 use native.Mathlib.Omega.{arith}
 use mathlib.Core.Path.{sym, ap, ◌∙◌}
-use borrow.Author.Rules.{rules}
 use Rattle.query.proofs.count_word.Goals as goal
 
 pub returns-then-k-eq1 : goal.returns-then-k-eq1

@@ -1,17 +1,13 @@
-use lib.ListN.{length-set}
 use Rattle.query.proofs.CountWords.{word-zero, filled_none, filled_more}
-use Rattle.query.specs.Reading.{Filled, count_word}
-use lib.ListN.{length}
+use Rattle.query.specs.Reading.{count_word}
 use native.Mathlib.Omega.{arith}
-use Prim.Native.Nat.{◌+◌, ◌-◌, ◌<◌, ◌≤◌}
-use mathlib.Core.Path.{◌≡◌, refl, sym, ◌∙◌}
-use borrow.Author.Rules.{rules}
+use mathlib.Core.Path.{refl, sym}
 use Rattle.query.proofs.counts.Goals as goal
 
 pub loop-k-init : goal.loop-k-init
 loop-k-init c = (
-      filled_more (count_word c.args.t.now) 0 c.args.work.now 0 (filled_none (count_word c.args.t.now) c.args.work.now) (omega arith) (sym (word-zero c.args.t.now)),
-      refl,
-      omega arith,
-      omega arith,
-    )
+  filled_more (count_word c.args.t.now) 0 c.args.work.now 0 (filled_none (count_word c.args.t.now) c.args.work.now) (omega arith) (sym (word-zero c.args.t.now)),
+  refl,
+  omega arith,
+  omega arith,
+)

@@ -1,11 +1,7 @@
-use lib.ListN.{length-set}
-use Rattle.query.proofs.CountWords.{word-zero, filled_none, filled_more}
 use Rattle.query.specs.Reading.{Filled, count_word}
 use lib.ListN.{length}
-use native.Mathlib.Omega.{arith}
 use Prim.Native.Nat.{◌+◌, ◌-◌, ◌<◌, ◌≤◌}
-use mathlib.Core.Path.{◌≡◌, refl, sym, ◌∙◌}
-use borrow.Author.Rules.{rules}
+use mathlib.Core.Path.{◌≡◌}
 use Rattle.query.proofs.counts.Given as goal
 
 abbrev pub invariant-loop-k : goal.invariant-loop-k

@@ -1,8 +1,5 @@
-use Rattle.query.proofs.Precede.{Along, along_start, along_end, along_unknown, along_last, along_unknown_2, along_disordered, along_more}
-use lib.ListN.{length}
+use Rattle.query.proofs.Precede.{along_end, along_unknown, along_last, along_unknown_2, along_disordered, along_more}
 use native.Mathlib.Omega.{arith}
-use Prim.Native.Nat.{◌-◌}
-use borrow.Author.Rules.{rules}
 use Rattle.query.proofs.in_precedence.Goals as goal
 
 pub returns-then-keys-p : goal.returns-then-keys-p

@@ -1,8 +1,6 @@
-use Rattle.query.proofs.Precede.{Along, along_start, along_end, along_unknown, along_last, along_unknown_2, along_disordered, along_more}
+use Rattle.query.proofs.Precede.{Along}
 use lib.ListN.{length}
-use native.Mathlib.Omega.{arith}
 use Prim.Native.Nat.{◌-◌}
-use borrow.Author.Rules.{rules}
 use Rattle.query.proofs.in_precedence.Given as goal
 
 abbrev pub invariant-loop-i : goal.invariant-loop-i

@@ -1,7 +1,6 @@
 use Rattle.query.proofs.WeightWords.{bounded, weight-at}
 use native.Mathlib.Omega.{arith}
 use mathlib.Core.Path.{◌∙◌}
-use borrow.Author.Rules.{rules}
 use Rattle.query.proofs.lightest.Goals as goal
 
 pub overflow_cast-x : goal.overflow_cast-x
@@ -10,8 +9,8 @@ overflow_cast-x c = let v = bounded c.requires.weighable (λ p. omega (arith, c.
 
 pub returns : goal.returns
 returns c = (
-      c.write_lightest-m.ensures.0,
-      c.weigh.ensures.each c.args.a (omega arith) ∙ weight-at c.args.weights.now c.args.scale c.args.t.now c.args.a c.requires.a_nonzero.0,
-      c.write_lightest-m.ensures.1,
-      c.write_lightest-m.ensures.2,
-    )
+  c.write_lightest-m.ensures.0,
+  c.weigh.ensures.each c.args.a (omega arith) ∙ weight-at c.args.weights.now c.args.scale c.args.t.now c.args.a c.requires.a_nonzero.0,
+  c.write_lightest-m.ensures.1,
+  c.write_lightest-m.ensures.2,
+)

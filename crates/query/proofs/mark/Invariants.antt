@@ -1,9 +1,6 @@
 use Prim.Native.Nat.{◌-◌}
-use native.Mathlib.Omega.{arith}
 use lib.ListN.{length}
-use Rattle.query.proofs.Precede.{known_at}
-use Rattle.query.proofs.Differences.{Marking, marking_start, marking_more, marking_end}
-use borrow.Author.Rules.{rules}
+use Rattle.query.proofs.Differences.{Marking}
 use Rattle.query.proofs.mark.Given as goal
 
 abbrev pub invariant-loop-i : goal.invariant-loop-i

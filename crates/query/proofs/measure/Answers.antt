@@ -1,11 +1,8 @@
-use Rattle.query.proofs.Walks.{PickWalk, walk_start, walk_end, walk_inside, here, walk_hi, walk_lo}
+use Rattle.query.proofs.Walks.{walk_end, walk_inside, here, walk_hi, walk_lo}
 use Rattle.query.proofs.Parts.{branch}
-use Rattle.query.specs.Questions.{family_at, nth}
 use lib.ListN.{length}
 use native.Mathlib.Omega.{arith}
-use Prim.Native.Nat.{◌+◌, ◌≤◌}
-use mathlib.Core.Path.{◌≡◌, ap}
-use borrow.Author.Rules.{rules}
+use mathlib.Core.Path.{ap}
 use Rattle.query.proofs.measure.Goals as goal
 
 pub hi-h-requires : goal.hi-h-requires

@@ -1,11 +1,8 @@
-use Rattle.query.proofs.Walks.{PickWalk, walk_start, walk_end, walk_inside, here, walk_hi, walk_lo}
-use Rattle.query.proofs.Parts.{branch}
+use Rattle.query.proofs.Walks.{PickWalk}
 use Rattle.query.specs.Questions.{family_at, nth}
 use lib.ListN.{length}
-use native.Mathlib.Omega.{arith}
 use Prim.Native.Nat.{◌+◌, ◌≤◌}
-use mathlib.Core.Path.{◌≡◌, ap}
-use borrow.Author.Rules.{rules}
+use mathlib.Core.Path.{◌≡◌}
 use Rattle.query.proofs.measure.Given as goal
 
 abbrev pub invariant-loop-node : goal.invariant-loop-node

@@ -1,11 +1,9 @@
-use Rattle.query.proofs.WeightWords.{filled_less, at_end, Way, way_start, mark, way_hi, way_lo, goes_hi, goes_lo}
-use Rattle.query.proofs.Parts.{branch}
+use Rattle.query.proofs.WeightWords.{Way}
 use Rattle.query.specs.Questions.{family_at}
 use Rattle.query.specs.Reading.{lightest}
 use lib.ListN.{length}
-use native.Mathlib.Omega.{arith}
 use Prim.Native.Nat.{◌+◌}
-use mathlib.Core.Path.{◌≡◌, ap}
+use mathlib.Core.Path.{◌≡◌}
 use Rattle.query.proofs.measure_lightest.Given as goal
 
 abbrev pub invariant-loop-node : goal.invariant-loop-node

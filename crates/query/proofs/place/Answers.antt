@@ -1,8 +1,6 @@
-use Rattle.query.proofs.Seeks.{Seek, seek_start, seek-none, seek-more, seek_end, spot, seek-hi, seek-lo}
-use Rattle.query.proofs.Parts.{branch}
+use Rattle.query.proofs.Seeks.{seek-none, seek-more, seek_end, spot, seek-hi, seek-lo}
 use native.Mathlib.Omega.{arith}
 use mathlib.Core.Path.{sym, ◌∙◌}
-use borrow.Author.Rules.{rules}
 use Rattle.query.proofs.place.Goals as goal
 
 pub returns-then-node-eq0 : goal.returns-then-node-eq0

@@ -1,8 +1,4 @@
-use Rattle.query.proofs.Seeks.{Seek, seek_start, seek-none, seek-more, seek_end, spot, seek-hi, seek-lo}
-use Rattle.query.proofs.Parts.{branch}
-use native.Mathlib.Omega.{arith}
-use mathlib.Core.Path.{sym, ◌∙◌}
-use borrow.Author.Rules.{rules}
+use Rattle.query.proofs.Seeks.{Seek}
 use Rattle.query.proofs.place.Given as goal
 
 abbrev pub invariant-loop-node : goal.invariant-loop-node

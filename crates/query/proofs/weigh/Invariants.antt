@@ -1,11 +1,7 @@
-use mathlib.Core.Path.{◌≡◌, refl, ◌∙◌}
+use mathlib.Core.Path.{◌≡◌}
 use Prim.Native.Nat.{◌+◌, ◌-◌, ◌<◌, ◌≤◌}
-use native.Mathlib.Omega.{arith}
-use lib.ListN.{length, length-set}
+use lib.ListN.{length}
 use Rattle.query.specs.Reading.{Filled, weight_word}
-use Rattle.query.proofs.CountWords.{filled_more}
-use Rattle.query.proofs.WeightWords.{ends-long, filled-ends}
-use borrow.Author.Rules.{rules}
 use Rattle.query.proofs.weigh.Given as goal
 
 abbrev pub invariant-loop-k : goal.invariant-loop-k

@@ -1,6 +1,5 @@
 use native.Mathlib.Omega.{arith}
 use Rattle.query.proofs.WeightWords.{at, hi-ready, lo-ready, word_of}
-use borrow.Author.Rules.{rules}
 use Rattle.query.proofs.weight_word.Goals as goal
 
 pub weight_hi-x-requires-clause-k_in_bounds : goal.weight_hi-x-requires-clause-k_in_bounds
@@ -17,12 +16,12 @@ weight_lo-y-requires-clause-k_bound c = (lo-ready (at (c.requires.weighable, (c.
 
 pub overflow_sub-result : goal.overflow_sub-result
 overflow_sub-result c = omega (
-      arith,
-      word_of (at (c.requires.weighable, (c.requires.lt_k, c.requires.filled))) (λ p. omega (arith, c.shared_slice_known-1.given p)) c.weight_hi-x.ensures c.weight_lo-y.ensures c.lesser.ensures,
-    )
+  arith,
+  word_of (at (c.requires.weighable, (c.requires.lt_k, c.requires.filled))) (λ p. omega (arith, c.shared_slice_known-1.given p)) c.weight_hi-x.ensures c.weight_lo-y.ensures c.lesser.ensures,
+)
 
 pub returns : goal.returns
 returns c = omega (
-      arith,
-      word_of (at (c.requires.weighable, (c.requires.lt_k, c.requires.filled))) (λ p. omega (arith, c.shared_slice_known-1.given p)) c.weight_hi-x.ensures c.weight_lo-y.ensures c.lesser.ensures,
-    )
+  arith,
+  word_of (at (c.requires.weighable, (c.requires.lt_k, c.requires.filled))) (λ p. omega (arith, c.shared_slice_known-1.given p)) c.weight_hi-x.ensures c.weight_lo-y.ensures c.lesser.ensures,
+)

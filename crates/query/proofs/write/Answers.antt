@@ -1,10 +1,7 @@
-use Rattle.query.proofs.Pages.{Page, page_start, page_room, page_more, page_end}
-use Rattle.query.proofs.Walks.{PickWalk, walk_start, walk_end, walk_inside, here, walk_hi, walk_lo}
+use Rattle.query.proofs.Pages.{page_room, page_more, page_end}
+use Rattle.query.proofs.Walks.{walk_end, walk_inside, here, walk_hi, walk_lo}
 use Rattle.query.proofs.Parts.{branch}
-use Rattle.query.specs.Questions.{family_at, nth}
 use native.Mathlib.Omega.{arith}
-use Prim.Native.Nat.{◌≤◌}
-use borrow.Author.Rules.{rules}
 use Rattle.query.proofs.write.Goals as goal
 
 pub hi-h-requires : goal.hi-h-requires

@@ -1,9 +1,7 @@
-use Rattle.query.proofs.WeightWords.{filled_less, at_end, Way, way_start, mark, way_hi, way_lo, goes_hi, goes_lo}
-use Rattle.query.proofs.Pages.{Page, page_start, page_room, page_more, page_end}
-use Rattle.query.proofs.Parts.{branch}
+use Rattle.query.proofs.WeightWords.{Way}
+use Rattle.query.proofs.Pages.{Page}
 use Rattle.query.specs.Questions.{family_at}
 use Rattle.query.specs.Reading.{lightest}
-use native.Mathlib.Omega.{arith}
 use Rattle.query.proofs.write_lightest.Given as goal
 
 abbrev pub invariant-loop-node : goal.invariant-loop-node
