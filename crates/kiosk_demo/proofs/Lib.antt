@@ -1,2 +1,0 @@
--- Laws of a local list that is lent.
-pub mod Listing
