@@ -14,6 +14,13 @@ import sys
 
 # names of the library that lemmas are about
 LIBRARY = set("length map filter take drop append set get_or any all reverse sum min max suc zero cons nil replicate not and or flat elem cond".split())
+# names whose words only look like two names: sentences, and plain words that are functions elsewhere
+WHOLE = {w.replace("_", "-"): w for w in (
+    "all_of_it closest_of_member fork_not_one got_none_lo hi_set_in in_any_order join_refused_alike joins_left_one made_at_most no_spare_node none_of_one "
+    "rows_of_seven same_or_later same_or_moved second_of_five second_of_public second_of_reversed split_join_left withdraw_not_admitted turn_pass "
+    "onward_pass each_pass gather_pass opened_rest priced_rest rest_inside"
+).split()}
+WHOLE["in-plain-order"] = "in_plain_order_lem"
 WORD = r"(?<![\w'\-◌])%s(?![\w'\-◌])"
 
 
@@ -80,6 +87,7 @@ def main():
         functions |= set(re.findall(r"\bfn (\w+)", read(path)))
     known = functions | LIBRARY
     wanted = {n: respelled(n, known) for n in kinds if re.match(r"[a-z]", n)}
+    wanted |= {n: WHOLE[n.replace("_", "-")] for n in wanted if "-" in n and n.replace("_", "-") in WHOLE}
     wanted |= {"short-page": "a_short_page", "unknown-package": "an_unknown_package"}
     wanted = {n: to for n, to in wanted.items() if n != to}
     # a definition may share the name of a function of src/, and a field that of anything that is no field; a lemma that would have a definition's name gets `_lem`

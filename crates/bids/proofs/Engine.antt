@@ -86,21 +86,21 @@ pub record Spares {A : Type 0} (ns : List ℕ) (m : ℕ) (order : List ℕ) (x :
 
 module _ {L : Layout} {b : List ℕ} {m : ℕ} {words : List ℕ} {o : ℕ} (l : LentOf L b m words o) where
   -- by the contracts of the calls, whoever makes them
-  pub in_any-order : (order : List ℕ) → Sayable (problem_of words o order) m (34 ∷ [])
-  in_any-order order = rw (l.items, l.packages, l.optional) (reordered_sayable (accepted_fit L b l.accepted) order)
+  pub in_any_order : (order : List ℕ) → Sayable (problem_of words o order) m (34 ∷ [])
+  in_any_order order = rw (l.items, l.packages, l.optional) (reordered_sayable (accepted_fit L b l.accepted) order)
 
-  pub in_plain-order : Sayable (problem_of words o (up_to m)) m []
-  in_plain-order = rw (l.items, l.packages, l.optional) (fit_sayable (accepted_fit L b l.accepted))
+  pub in_plain_order_lem : Sayable (problem_of words o (up_to m)) m []
+  in_plain_order_lem = rw (l.items, l.packages, l.optional) (fit_sayable (accepted_fit L b l.accepted))
 
   -- a call says only the numbers `front` and ns, which are none of those
   spares : {A : Type 0} {order : List ℕ} (ns : List ℕ) (x : Reply A) → ((front : List ℕ) → Sayable (problem_of words o order) m front → says_only (front ++ ns) x ≡ true)
       → any (λ (n : ℕ). any (eqb n) (1 ∷ 2 ∷ 29 ∷ 30 ∷ [])) (34 ∷ ns) ≡ false → any (λ (n : ℕ). any (eqb n) (1 ∷ 2 ∷ 29 ∷ 30 ∷ 34 ∷ [])) ns ≡ false
       → Spares ns m order x
   spares {order = order} ns x f d e = record {
-    never = never_said _ (34 ∷ ns) x d (f (34 ∷ []) (in_any-order order));
-    only = f (34 ∷ []) (in_any-order order);
-    never_plain = λ q. never_said _ ns x e (f [] (rw q in_plain-order));
-    only-plain = λ q. f [] (rw q in_plain-order);
+    never = never_said _ (34 ∷ ns) x d (f (34 ∷ []) (in_any_order order));
+    only = f (34 ∷ []) (in_any_order order);
+    never_plain = λ q. never_said _ ns x e (f [] (rw q in_plain_order_lem));
+    only-plain = λ q. f [] (rw q in_plain_order_lem);
   }
 
 call-apart : (c : Call) → (any (λ (n : ℕ). any (eqb n) (1 ∷ 2 ∷ 29 ∷ 30 ∷ [])) (34 ∷ call_numbers c) ≡ false)

@@ -82,7 +82,7 @@ module _ (L : Layout) where
         go (no q) = ap (refusal L) (take_all m b (omega arith))
 
   -- an accepted file is not cut by that many bytes
-  pub all-of_it : (b : List ℕ) (m : ℕ) → Legible L → refusal L b ≡ 0 → longest L ≤ m → take m b ≡ b
-  all-of_it b m l z p =
+  pub all_of_it : (b : List ℕ) (m : ℕ) → Legible L → refusal L b ≡ 0 → longest L ≤ m → take m b ≡ b
+  all_of_it b m l z p =
       let k = accepted_sized L b z l refl refl refl in
       take_all m b (omega (arith, k.long, short_enough {s = schools b} {n = packages b} (omega (arith, k.items)) k.few))

@@ -165,8 +165,8 @@ module _ {Q : Problem} {P : ℕ} {leads homes : List ℕ} (ps : Packs Q P leads 
       pub rest_is : B ≡ without A (row Q k)
       rest_is = z ∙ ap (without A) r
 
-      pub rest-inside : insideb (row Q k) A ≡ true
-      rest-inside = rw r at i
+      pub rest_inside : insideb (row Q k) A ≡ true
+      rest_inside = rw r at i
 
       pub rest_less : B < A
       rest_less = omega (arith, z, without_back A x i, r, open_pos Q (row Q k) (ps.rows.some k (omega (arith, a.inside))))
@@ -200,9 +200,9 @@ module _ {Q : Problem} {P : ℕ} {leads homes : List ℕ} (ps : Packs Q P leads 
           (λ q x y. other q (q + 1) refl (λ z. (next_last p k e a).gap (q + 1) (omega arith) (omega arith) (omega arith) z)) u
 
       -- k does not lie inside A
-      pub turn-pass : (p k : ℕ) → p ≡ k + 1 → At Q A p → insideb (row Q k) A ≡ false
+      pub turn_pass : (p k : ℕ) → p ≡ k + 1 → At Q A p → insideb (row Q k) A ≡ false
           → Turn Q P homes at A limit t₀ memo₀ n₀ b₀ t index memo p l n b → Turn Q P homes at A limit t₀ memo₀ n₀ b₀ t index memo (get_or leads (k + 194) 0) l n b
-      turn-pass p k e a i u =
+      turn_pass p k e a i u =
           turn_later p k e a (turn_skip 1 k p (omega arith) (λ q x y. let z : q ≡ k = omega arith in ap (fits Q A) z ∙ unfit k i) u)
 
       -- search met the limit

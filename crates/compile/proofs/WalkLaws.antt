@@ -19,7 +19,7 @@ use Rattle.exact_cover.specs.Cover.{fits, down, candidates}
 use Rattle.exact_cover.specs.Steps.{Walk, enter, store, known, each, search}
 use Rattle.exact_cover.proofs.Fuel.{search-known, search_new}
 use Rattle.exact_cover.proofs.Walks.{shift, search-shift}
-use Rattle.exact_cover.proofs.Loops.{each_take, each-pass}
+use Rattle.exact_cover.proofs.Loops.{each_take, each_pass}
 use Rattle.compile.specs.State.{Is, tried}
 
 search-more : (Q : Problem) (h : ℕ → ℕ) (A : ℕ) (w : Walk) → w.entered ≤ (search Q h A w).entered
@@ -58,13 +58,13 @@ module _ (Q : Problem) (h : ℕ → ℕ) (A : ℕ) where
   onward_skip zero n m w e f = let z : m ≡ n = omega arith in ap (λ (k : ℕ). onward k w) z
   onward_skip (suc d) n m w e f =
       onward_skip d (suc n) m w (omega arith) (λ q a b. f q (omega arith) b)
-      ∙ each-pass (fits Q A) n (sub Q h A) w (f n (le_refl n) (omega arith))
+      ∙ each_pass (fits Q A) n (sub Q h A) w (f n (le_refl n) (omega arith))
 
   pub onward-take : (n : ℕ) (w : Walk) → fits Q A n ≡ true → onward (suc n) w ≡ onward n (sub Q h A n w)
   onward-take n w e = each_take (fits Q A) n (sub Q h A) w e
 
-  pub onward-pass : (n : ℕ) (w : Walk) → fits Q A n ≡ false → onward (suc n) w ≡ onward n w
-  onward-pass n w e = each-pass (fits Q A) n (sub Q h A) w e
+  pub onward_pass : (n : ℕ) (w : Walk) → fits Q A n ≡ false → onward (suc n) w ≡ onward n w
+  onward_pass n w e = each_pass (fits Q A) n (sub Q h A) w e
 
   pub onward-more : (n : ℕ) (w : Walk) → w.entered ≤ (onward n w).entered
   onward-more n w = each_more (sub Q h A) sub_more (filter (fits Q A) (down n)) w

@@ -19,7 +19,7 @@ use Rattle.bids.specs.Contract.{Legible}
 use Rattle.bids.specs.declared.Layout.{Layout}
 use Rattle.bids.proofs.Accepted.{accepted}
 use Rattle.bids.proofs.Places.{legible1, legible2}
-use Rattle.bids.proofs.Prefix.{longest, longest1, longest2, word_same, enough, all-of_it, short_enough}
+use Rattle.bids.proofs.Prefix.{longest, longest1, longest2, word_same, enough, all_of_it, short_enough}
 use Rattle.bids.proofs.Records.{school_count, package_count}
 use Rattle.conversion.specs.Writing.{file_of}
 use Rattle.conversion.specs.Contract.{choose, says2, own_layout, other_layout, lost_tests, convert_refusal, convert_reply, ConvertPost}
@@ -43,7 +43,7 @@ module _ (from to : Layout) (l : Legible from) where
   same_as : (b : List ℕ) (m : ℕ) → longest from < m → 13 ≤ longest from → turned_as from to (take m b) ≡ turned_as from to b
   same_as b m p h =
       ⊎_elim
-      (λ (z : refusal from b ≡ 0). ap (turned_as from to) (all-of_it from b m l z (omega arith)))
+      (λ (z : refusal from b ≡ 0). ap (turned_as from to) (all_of_it from b m l z (omega arith)))
       (λ (q : 0 < refusal from b).
       let f : refusal from b ≡ 0 → ⊥ = λ z. omega arith in
       sym (said (refusal from b) _ (by_file from to (take m b) 16384 (sym (enough from b m p h)) f) f) ∙ said (refusal from b) _ (by_file from to b 16384 refl f) f)

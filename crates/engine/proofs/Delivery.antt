@@ -77,8 +77,8 @@ module _ {Q : Problem} (m : ℕ) {ts : List (Bool × ℕ)} {t keys : List ℕ} {
   opened-packages e f = record { says = sym (fit_refused Q m ts e f); ready = λ z. absurd (f z) }
 
   module _ (e : first_of (package_tests Q m []) ≡ 0) where
-    pub opened-rest : Opened ts Q t keys a r → Opened (package_tests Q m ts) Q t keys a r
-    opened-rest o = record { says = o.says ∙ sym (fit_passes ts (fit_of [] e).0); ready = o.ready }
+    pub opened_rest : Opened ts Q t keys a r → Opened (package_tests Q m ts) Q t keys a r
+    opened_rest o = record { says = o.says ∙ sym (fit_passes ts (fit_of [] e).0); ready = o.ready }
 
     pub opened_again : Opened (package_tests Q m ts) Q t keys a r → Opened ts Q t keys a r
     opened_again o = record { says = o.says ∙ fit_passes ts (fit_of [] e).0; ready = o.ready }
@@ -89,8 +89,8 @@ module _ {Q : Problem} (C : List ℕ) {t keys : List ℕ} {a : ℕ} where
   pub priced_3 : {ts : List (Bool × ℕ)} → (length C ≡ length Q.packages → ⊥) → Opened ((unpriced Q C, 3) ∷ ts) Q t keys a 3
   priced_3 h = record { says = sym (hit 3 _ (not-priced Q C h)); ready = λ z. absurd (omega arith) }
 
-  pub priced-rest : {ts : List (Bool × ℕ)} {r : ℕ} → length C ≡ length Q.packages → Opened ts Q t keys a r → Opened ((unpriced Q C, 3) ∷ ts) Q t keys a r
-  priced-rest e o = record { says = o.says ∙ sym (pass 3 _ (all-priced Q C e)); ready = o.ready }
+  pub priced_rest : {ts : List (Bool × ℕ)} {r : ℕ} → length C ≡ length Q.packages → Opened ts Q t keys a r → Opened ((unpriced Q C, 3) ∷ ts) Q t keys a r
+  priced_rest e o = record { says = o.says ∙ sym (pass 3 _ (all-priced Q C e)); ready = o.ready }
 
 -- ---- other tests stand behind them
 

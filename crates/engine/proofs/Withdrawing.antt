@@ -112,9 +112,9 @@ module _ {Q : Problem} {m : ℕ} {t gone answers : List ℕ} {words : ℕ} where
   }
 
   module _ {keys index : List ℕ} {r : ℕ} (o : Admitted Q m t keys index r) where
-    pub withdraw-not_admitted : (r ≡ 0 → ⊥) → WithdrawPost Q m t gone answers words (Refused r) t answers
+    pub withdraw_not_admitted : (r ≡ 0 → ⊥) → WithdrawPost Q m t gone answers words (Refused r) t answers
     unfolding withdraw_refusal
-    withdraw-not_admitted f = declines (admit-refused _ o f) f
+    withdraw_not_admitted f = declines (admit-refused _ o f) f
 
     -- otherwise its own tests decide
     module _ (z : r ≡ 0) {n : ℕ} (p : WithdrawTested Q t gone answers words n) where

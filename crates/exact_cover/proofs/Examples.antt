@@ -62,9 +62,9 @@ unfolding keys_from keys_of order all_sets sets holders all_inside takes once wi
 none-of-none = refl
 
 -- one item and no packages
-none-of_one : covering (none 1) 1 ≡ []
+none_of_one : covering (none 1) 1 ≡ []
 unfolding keys_from keys_of order all_sets sets holders all_inside takes once width covers filter covering count_from earliest lead holds insideb without
-none-of_one = refl
+none_of_one = refl
 
 -- two packages of the same item
 two_of_one : covering (record { packages = 1 ∷ 1 ∷ []; optional = 0; order = up_to 1 }) 1 ≡ (0 ∷ []) ∷ (1 ∷ []) ∷ []

@@ -22,12 +22,12 @@ module _ (c : ℕ → Bool) (n : ℕ) where
   unfolding gather
   gather-take f acc e = ap (λ (ps : List ℕ). gather f ps acc) (down_yes e)
 
-  pub gather-pass : (f : ℕ → List (List ℕ)) (acc : List (List ℕ)) → c n ≡ false → gather f (filter c (down (suc n))) acc ≡ gather f (filter c (down n)) acc
-  gather-pass f acc e = ap (λ (ps : List ℕ). gather f ps acc) (down-not e)
+  pub gather_pass : (f : ℕ → List (List ℕ)) (acc : List (List ℕ)) → c n ≡ false → gather f (filter c (down (suc n))) acc ≡ gather f (filter c (down n)) acc
+  gather_pass f acc e = ap (λ (ps : List ℕ). gather f ps acc) (down-not e)
 
   pub each_take : (f : ℕ → Walk → Walk) (w : Walk) → c n ≡ true → each f (filter c (down (suc n))) w ≡ each f (filter c (down n)) (f n w)
   unfolding each
   each_take f w e = ap (λ (ps : List ℕ). each f ps w) (down_yes e)
 
-  pub each-pass : (f : ℕ → Walk → Walk) (w : Walk) → c n ≡ false → each f (filter c (down (suc n))) w ≡ each f (filter c (down n)) w
-  each-pass f w e = ap (λ (ps : List ℕ). each f ps w) (down-not e)
+  pub each_pass : (f : ℕ → Walk → Walk) (w : Walk) → c n ≡ false → each f (filter c (down (suc n))) w ≡ each f (filter c (down n)) w
+  each_pass f w e = ap (λ (ps : List ℕ). each f ps w) (down-not e)

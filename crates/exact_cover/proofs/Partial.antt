@@ -24,7 +24,7 @@ use Rattle.exact_cover.proofs.Order.{key-number}
 use Rattle.exact_cover.proofs.First.{fits-holds, fits-inside, apart}
 use Rattle.exact_cover.proofs.Listing.{wide, covering-gather}
 use Rattle.exact_cover.proofs.Solve.{covering_member}
-use Rattle.exact_cover.proofs.Loops.{gather-take, gather-pass}
+use Rattle.exact_cover.proofs.Loops.{gather-take, gather_pass}
 
 -- the covers of what p leaves of A
 abbrev pub left : Problem → ℕ → ℕ → Family
@@ -78,7 +78,7 @@ module _ (Q : Problem) (good : Rows Q) (A : ℕ) (w : A < 2 ^ span Q) (o : done 
   -- n is no candidate
   pub partial_pass : (n : ℕ) (acc : Family) → fits Q A n ≡ false → Partial Q A (suc n) acc → Partial Q A n acc
   partial_pass n acc e p = record {
-    rest = sym (gather-pass (fits Q A) n (begun Q A) acc e) ∙ p.rest;
+    rest = sym (gather_pass (fits Q A) n (begun Q A) acc e) ∙ p.rest;
     begins = λ q t m. let r = p.begins q t m in (omega (arith, r.0), r.1, r.2);
   }
 

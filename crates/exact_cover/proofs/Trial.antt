@@ -9,7 +9,7 @@ use lib.ListN.{length}
 use Rattle.zdd.specs.Table.{Node, Family, fork, family, Nodes}
 use Rattle.zdd.proofs.Grow.{family-zero}
 use Rattle.zdd.specs.Work.{Got}
-use Rattle.zdd.proofs.Got.{got_eq, got_there, got_split_lo, got_none-lo}
+use Rattle.zdd.proofs.Got.{got_eq, got_there, got_split_lo, got_none_lo}
 use Rattle.exact_cover.specs.Problem.{Problem, span, done, Rows}
 use Rattle.exact_cover.specs.Cover.{covering, fits, keys_of}
 use Rattle.exact_cover.proofs.Partial.{Partial, left, partial_start, partial_skip, partial_take, partial_split, partial_end}
@@ -46,7 +46,7 @@ module _ (Q : Problem) (good : Rows Q) (A : ℕ) (w : A < 2 ^ span Q) (o : done 
   trial-none n l m e t g1 = record {
     acc = fork n (left Q A n) t.acc;
     part = partial_take Q good A w o n t.acc m e t.part;
-    got = got_none-lo (partial_split Q good A w o n t.acc m e t.part) t.got g1;
+    got = got_none_lo (partial_split Q good A w o n t.acc m e t.part) t.got g1;
   }
 
   pub trial_end : (l : ℕ) {ns' : List Node} {b' : Bool} → Trial Q A c ns b 0 l ns' b' → Got (keys_of Q) c ns b l ns' b' (covering Q A)

@@ -172,8 +172,8 @@ module _ (f g : ℕ) where
   pub joins_right : g ≡ 0 → Ends 3 f g 0
   joins_right z K ns q c = answered q 3 0 (end_right_join q z)
 
-  pub joins-left_one : f ≡ 1 → Ends 3 f g g
-  joins-left_one z K ns q c = answered q 3 g (end_left_one q z)
+  pub joins_left_one : f ≡ 1 → Ends 3 f g g
+  joins_left_one z K ns q c = answered q 3 g (end_left_one q z)
 
   pub joins_right_one : g ≡ 1 → Ends 3 f g f
   joins_right_one z K ns q c = answered q 3 f (end_right_one q z)

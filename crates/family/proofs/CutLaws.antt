@@ -15,7 +15,7 @@ use Rattle.zdd.proofs.Words.{length-nodes}
 use Rattle.zdd.proofs.TableLaws.{over-of-key}
 use Rattle.zdd.proofs.Parts.{split_same, split_left, split_right}
 use Rattle.zdd.proofs.Join.{apart-turn}
-use Rattle.zdd.proofs.JoinParts.{split_join-left, split_join_right, hi-apart, lo-apart, labels_apart}
+use Rattle.zdd.proofs.JoinParts.{split_join_left, split_join_right, hi-apart, lo-apart, labels_apart}
 use Rattle.family.specs.Memo.{combined, Combinable, beside_of, Two, Top, Cut}
 use Rattle.family.proofs.RestrictLaws.{two_more, word-node, word-label}
 
@@ -59,7 +59,7 @@ module _ {K : List ℕ} (k : Keys K) {ns : List Node} (n : Nodes K ns) where
   left_split zero = left_tested ◌||◌ refl
   left_split (suc zero) = left_tested ◌&&◌ refl
   left_split (suc (suc zero)) = left_tested minus refl
-  left_split (suc (suc (suc m))) = split_join-left k n
+  left_split (suc (suc (suc m))) = split_join_left k n
 
   pub node-left : (op i g : ℕ) → i < length ns → g < suc (suc (length ns)) → Over K ns (suc (key K (node_at i).label)) g → Combinable op ns (suc (suc i)) g
       → Cut op K ns (suc (suc i)) g (node_at i).label (node_at i).hi (beside_of op g) (node_at i).lo g

@@ -1,5 +1,5 @@
 -- The contracts can be met: a history of six calls on Figure 1, and a pick and a measure on the table that it leaves, each field by computation; and what the third
--- demand and `no_spare-node` say of it. A table with a spare node does not meet them. Assumes nothing.
+-- demand and `no_spare_node` say of it. A table with a spare node does not meet them. Assumes nothing.
 use mathlib.Core.Path.{◌≡◌, refl, ap, ◌∙◌}
 use mathlib.Core.Logic.{◌⊎◌, inl, inr}
 use mathlib.Core.Bool.{true}
@@ -34,7 +34,7 @@ use Rattle.history.specs.Histories.{entry, Calls, given, History, start, next, S
 use Rattle.statement.specs.Replies.{gives, measure_reply}
 use Rattle.history.proofs.Contract.{gives_one}
 use Rattle.history.proofs.Demand.{demand3}
-use Rattle.history.proofs.Spare.{no_spare-node}
+use Rattle.history.proofs.Spare.{no_spare_node}
 use Rattle.statement.specs.Examples.{figure1, figure1_in, reversed, public_slot, four_slots, halves_table, empty_table}
 
 -- 2 is {2}; 3 is {4, 2}; 4 is {1, 4, 2}; 5 is {0, 2} and {1, 4, 2}
@@ -182,9 +182,9 @@ unfolding holds insideb without belowb count_from earliest times each_once lead 
 picked = record { result = refl; pages = refl }
 
 -- it is what the demand says
-second_of-five : Returns (1 ∷ 4 ∷ 2 ∷ []) (7 ∷ 7 ∷ 7 ∷ 7 ∷ []) (Packages 3) (1 ∷ 4 ∷ 2 ∷ 7 ∷ [])
+second_of_five : Returns (1 ∷ 4 ∷ 2 ∷ []) (7 ∷ 7 ∷ 7 ∷ 7 ∷ []) (Packages 3) (1 ∷ 4 ∷ 2 ∷ 7 ∷ [])
 unfolding holds insideb without belowb size count_from earliest times each_once lead done order all_sets sets filter keys_from keys_of holders all_inside takes once covers width value_of
-second_of-five =
+second_of_five =
     (demanded.picks (posting 0) (posted 0 (omega arith)) (omega arith) 6 (Memᴰ.head refl) 6 (omega arith) 1
     (7 ∷ 7 ∷ 7 ∷ 7 ∷ []) (Packages 3) (1 ∷ 4 ∷ 2 ∷ 7 ∷ []) picked).0 (omega arith) (omega arith)
 
@@ -212,7 +212,7 @@ unfolding nodes_of new_below
 below-six = refl
 
 needed : Needed calls final
-needed = no_spare-node figure1 calls final history
+needed = no_spare_node figure1 calls final history
 
 -- 3 is no answer given, and is below one
 three_needed : (a : ℕ) × (a ∈ given calls) × Below (nodes_of final) a 3
@@ -300,15 +300,15 @@ unfolding holds insideb without belowb count_from earliest times each_once lead 
     nothing_compulsory disordered unsound unknown_answer short_work uncountable past_end short_page pick_refusal width value_of
 public-picked = record { result = refl; pages = refl }
 
-second_of-public : Returns (0 ∷ 3 ∷ []) (7 ∷ 7 ∷ []) (Packages 2) (0 ∷ 3 ∷ [])
+second_of_public : Returns (0 ∷ 3 ∷ []) (7 ∷ 7 ∷ []) (Packages 2) (0 ∷ 3 ∷ [])
 unfolding holds insideb without belowb size count_from earliest times each_once lead done order all_sets sets filter keys_from keys_of holders all_inside takes once covers width value_of
-second_of-public =
+second_of_public =
     (public_demanded.picks (public-posting 1) (public_posted 1 (omega arith)) (omega arith) 3 (Memᴰ.head refl) 6 (omega arith) 1
     (7 ∷ 7 ∷ []) (Packages 2) (0 ∷ 3 ∷ []) public-picked).0 (omega arith) (omega arith)
 
 -- each of its nodes is below an answer given
 public_needed : Needed public-calls public_table
-public_needed = no_spare-node public_slot public-calls public_table public_history
+public_needed = no_spare_node public_slot public-calls public_table public_history
 
 -- ---- a history in another order [document 02, No. 4]
 
@@ -338,7 +338,7 @@ reversed_demanded = demand3 (figure1_in reversed) reversed-calls reversed_table 
 
 -- each of its nodes is below an answer given
 reversed_needed : Needed reversed-calls reversed_table
-reversed_needed = no_spare-node (figure1_in reversed) reversed-calls reversed_table reversed_history
+reversed_needed = no_spare_node (figure1_in reversed) reversed-calls reversed_table reversed_history
 
 -- the second timetable, written by the order
 reversed-picked : PickPost (figure1_in reversed) 6 reversed_table 5 1 6 (7 ∷ 7 ∷ 7 ∷ []) (Packages 3) (2 ∷ 4 ∷ 1 ∷ [])
@@ -346,9 +346,9 @@ unfolding holds insideb without belowb count_from earliest times each_once lead 
     stray_optional nothing_compulsory disordered unsound unknown_answer short_work uncountable past_end short_page pick_refusal width value_of
 reversed-picked = record { result = refl; pages = refl }
 
-second_of-reversed : Returns (2 ∷ 4 ∷ 1 ∷ []) (7 ∷ 7 ∷ 7 ∷ []) (Packages 3) (2 ∷ 4 ∷ 1 ∷ [])
+second_of_reversed : Returns (2 ∷ 4 ∷ 1 ∷ []) (7 ∷ 7 ∷ 7 ∷ []) (Packages 3) (2 ∷ 4 ∷ 1 ∷ [])
 unfolding holds insideb without belowb size count_from earliest times each_once lead done order all_sets sets filter keys_from keys_of holders all_inside takes once covers width value_of
-second_of-reversed =
+second_of_reversed =
     (reversed_demanded.picks (get_or (ledger (figure1_in reversed) reversed-calls) 0 (record { number = 0; set = no_timetable }))
     (in_list (ledger (figure1_in reversed) reversed-calls) 0 (record { number = 0; set = no_timetable }) (omega arith)) (omega arith) 6 (Memᴰ.head refl) 6 (omega arith) 1
     (7 ∷ 7 ∷ 7 ∷ []) (Packages 3) (2 ∷ 4 ∷ 1 ∷ []) reversed-picked).0 (omega arith) (omega arith)
@@ -441,7 +441,7 @@ joined_demanded = demand3 four_slots joined-calls joined_table joined_history
 
 -- each of its nodes is below an answer given
 joined_needed : Needed joined-calls joined_table
-joined_needed = no_spare-node four_slots joined-calls joined_table joined_history
+joined_needed = no_spare_node four_slots joined-calls joined_table joined_history
 
 abbrev joined-posting : ℕ → Posting
 joined-posting k = get_or (ledger four_slots joined-calls) k (record { number = 0; set = no_timetable })

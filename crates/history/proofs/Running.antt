@@ -23,7 +23,7 @@ use Rattle.history.specs.Script.{call_at, calls, passes, every, runs, runnable, 
 use Rattle.history.specs.Parts.{marked, noted, Stored}
 use Rattle.history.proofs.Contract.{operand_known, answer-below, as_long, nodes-made}
 use Rattle.history.proofs.Demand.{demand3}
-use Rattle.history.proofs.Spare.{no_spare-node}
+use Rattle.history.proofs.Spare.{no_spare_node}
 use Rattle.history.proofs.Requests.{every-at, every-same, Runs, may_run, runs_same}
 use Rattle.history.proofs.Reports.{calls-none, calls_same, calls-next}
 use Rattle.history.proofs.Marks.{Marks, marks_none, marks_more, marks_give, marked-passes}
@@ -133,7 +133,7 @@ module _ {Q : Problem} {script : List ℕ} {room : ℕ} {t₀ out₀ : List ℕ}
   ran t₁ l e = record {
     history = R.history;
     demanded = demand3 Q (calls script out i) t R.history;
-    needed = no_spare-node Q (calls script out i) t R.history;
+    needed = no_spare_node Q (calls script out i) t R.history;
     long = R.long ∙ l;
     wide = R.wide;
     rest = R.rest;

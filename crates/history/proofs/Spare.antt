@@ -52,8 +52,8 @@ serves Q (start zero) = λ k b h. absurd (omega arith)
 serves Q (start (suc n)) = λ k b h. absurd (omega arith)
 serves Q (next {h} {t} H c r t' o p) = serves_next Q (given h) t c r t' (outcome_reply r.outcome) refl p (serves Q H)
 
-pub no_spare-node : NoSpareNode
-no_spare-node Q h t H k b = (
+pub no_spare_node : NoSpareNode
+no_spare_node Q h t H k b = (
   λ l. serves Q H k b (omega arith),
   λ s. omega (arith, below-known (nodes_sound Q H) s.2 (omega (arith, (given_holds Q H s.0 s.1).0, length-nodes t)), length-nodes t),
 )

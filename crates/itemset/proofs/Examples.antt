@@ -56,6 +56,6 @@ unfolding value_of
 value-of_three = refl
 
 -- seven words are two packages
-rows-of_seven : sets_of (1 ∷ 0 ∷ 0 ∷ 0 ∷ 1 ∷ 0 ∷ 9 ∷ []) ≡ 1 ∷ 2 ^ 64 ∷ []
+rows_of_seven : sets_of (1 ∷ 0 ∷ 0 ∷ 0 ∷ 1 ∷ 0 ∷ 9 ∷ []) ≡ 1 ∷ 2 ^ 64 ∷ []
 unfolding value_of sets_of
-rows-of_seven = refl
+rows_of_seven = refl

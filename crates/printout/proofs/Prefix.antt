@@ -9,7 +9,7 @@ use native.Mathlib.Omega.{arith}
 use lib.ListN.{length, take}
 use Rattle.bids.specs.Format.{version1, refusal}
 use Rattle.bids.proofs.Places.{legible1}
-use Rattle.bids.proofs.Prefix.{longest1, enough, all-of_it}
+use Rattle.bids.proofs.Prefix.{longest1, enough, all_of_it}
 use Rattle.printout.specs.Written.{Whole}
 use Rattle.printout.specs.Program.{printed, PrintedFor}
 use Rattle.printout.proofs.Sheets.{said}
@@ -19,7 +19,7 @@ pub same_text : (b : List ℕ) (m : ℕ) → 6286 ≤ m → printed (take m b) �
 unfolding printed
 same_text b m p =
     ⊎_elim
-    (λ (z : refusal version1 b ≡ 0). ap printed (all-of_it version1 b m legible1 z (omega (arith, longest1))))
+    (λ (z : refusal version1 b ≡ 0). ap printed (all_of_it version1 b m legible1 z (omega (arith, longest1))))
     (λ (l : 0 < refusal version1 b).
     sym (said (refusal version1 b) _ (enough version1 b m (omega (arith, longest1)) (omega (arith, longest1))) (λ z. omega arith))
     ∙ said (refusal version1 b) _ refl (λ z. omega arith))

@@ -67,8 +67,8 @@ module _ {t : List ℕ} (R : Readable t) where
               ap (in_precedence R.keys) u.1 ∙ label_in (suc (suc i)) (omega arith) h u.0 u.2 (hi u.0 u.2)
           sides (inr u) hi lo = lo u
 
-  pub hi-set_in : (k : ℕ) → 1 < k → k < count t + 2 → (s : List ℕ) → elem s (family_at t (hi_of t k)) ≡ true → in_precedence R.keys (label_of t k ∷ s) ≡ true
-  hi-set_in k a b s e =
+  pub hi_set_in : (k : ℕ) → 1 < k → k < count t + 2 → (s : List ℕ) → elem s (family_at t (hi_of t k)) ≡ true → in_precedence R.keys (label_of t k ∷ s) ≡ true
+  hi_set_in k a b s e =
       let P = parts R k a b in
       label_in k a b s e (set_in (hi_of t k) (omega (arith, P.hi-below)) s e)
 
@@ -279,7 +279,7 @@ module _ {t s : List ℕ} (R : Comparable t s) (W : List ℕ) (M : Marked s (rep
     start_small = omega (arith, listed-short K s R.listed, R.few);
     bias_small = omega arith;
     above = λ k a b u e.
-        let i = hi-set_in R.table k a b u e in
+        let i = hi_set_in R.table k a b u e in
         let A = after K (label_of t k) u i in
         omega (
           arith,

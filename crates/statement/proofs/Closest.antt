@@ -168,12 +168,12 @@ module _ {Q : Problem} {m : ℕ} {t : List ℕ} {a : ℕ} (R : Open Q m t a) (s 
       ∙ pass 15 _ (page_fits page (closest s (family_at t a)) (subst⁻¹ (λ (u : List ℕ). length u ≤ length page) closest_itself l)) ∙ none
 
 -- THEOREM: a timetable that place finds is its own closest, with the difference 0
-pub closest-of_member : {Q : Problem} {m : ℕ} {t : List ℕ} {a : ℕ} {s : List ℕ} {words : ℕ} {r : Placed} {k : ℕ}
+pub closest_of_member : {Q : Problem} {m : ℕ} {t : List ℕ} {a : ℕ} {s : List ℕ} {words : ℕ} {r : Placed} {k : ℕ}
     → PlacePost Q m t a s words r → place_reply r ≡ gives k
     → (words' : ℕ) → a + 1 ≤ words' → (page : List ℕ) → length s ≤ length page
     → (r' : Compared) (page' : List ℕ) → ClosestPost Q m t a s words' page r' page'
     → (closest_reply r' ≡ gives (length s, 0)) × (page' ≡ s ++ drop (length s) page)
-closest-of_member {Q} {m} {t} {a} {s} {words} {r} {k} L e words' w page l r' page' P =
+closest_of_member {Q} {m} {t} {a} {s} {words} {r} {k} L e words' w page l r' page' P =
     let z = was_given k (place_refusal Q m t a s words) (position s (family_at t a)) (sym e ∙ L.result) in
     let R = placed-ready Q m t a s words z.0 in
     let O = opened R.0 in

@@ -76,8 +76,8 @@ module _ (Q : Problem) (m : ℕ) (C t : List ℕ) (a words : ℕ) (page : List �
     pub says : cheapest_refusal Q m C t a words page ≡ first_of last_tests
 
   -- THEOREM: but for that the refusal is what it was
-  pub same-or_moved : (cheapest_refusal Q m C t a words page ≡ old_cheapest_refusal Q m C t a words page) ⊎ Moved
-  same-or_moved = go (first_of (priced_tests Q m C t a)) refl (dec_lt words (a + 1)) (dec_lt words (2 * (a + 1)))
+  pub same_or_moved : (cheapest_refusal Q m C t a words page ≡ old_cheapest_refusal Q m C t a words page) ⊎ Moved
+  same_or_moved = go (first_of (priced_tests Q m C t a)) refl (dec_lt words (a + 1)) (dec_lt words (2 * (a + 1)))
     where
       go : (n : ℕ) → first_of (priced_tests Q m C t a) ≡ n → Dec (words < a + 1) → Dec (words < 2 * (a + 1))
           → (cheapest_refusal Q m C t a words page ≡ old_cheapest_refusal Q m C t a words page) ⊎ Moved
@@ -118,7 +118,7 @@ module _ {Q : Problem} {m : ℕ} {C t : List ℕ} {a words : ℕ} {page : List �
         P.pages ∙ ap (λ (n : ℕ). written n s page) e ∙ sym P₀.pages,
       ))
       (λ (z : Moved Q m C t a words page). inr z)
-      (same-or_moved Q m C t a words page)
+      (same_or_moved Q m C t a words page)
 
   same : {n : ℕ} → old_cheapest_refusal Q m C t a words page ≡ n → (n ≡ 8 → ⊥) → (cheapest_reply r ≡ cheapest_reply r₀) × (page' ≡ page₀)
   same e f = ⊎_elim

@@ -1,6 +1,6 @@
 -- THEOREMS about join, from its contract [document 02, No. 5]. A join that answers has as many timetables as the product of its operands' numbers
 -- (`join-count`), and each is the union of one of a and one of b in just one way (`join_splits`). The join of (b, a) is refused as that of (a, b) is
--- (`join-refused_alike`), and behind it it is found: the same number, and no node made (`join-turned`). With 1 a join is the other answer, with 0 it is 0, and
+-- (`join_refused_alike`), and behind it it is found: the same number, and no node made (`join-turned`). With 1 a join is the other answer, with 0 it is 0, and
 -- no node is made (`join_one`, `one_join`, `join-zero`, `zero-join`). An answer from 2 on overlaps itself (`join_self`). Assumes nothing.
 use mathlib.Core.Path.{◌≡◌, refl, sym, ap, ap₂, ◌∙◌}
 use mathlib.Core.Bool.{Bool, true, false, not, ◌||◌, or_comm}
@@ -114,9 +114,9 @@ module _ (Q : Problem) (m : ℕ) (t : List ℕ) (a b words : ℕ) where
 
 module _ (Q : Problem) (m : ℕ) (t : List ℕ) (a b : ℕ) where
   -- THEOREM: (b, a) is refused exactly as (a, b) is
-  pub join-refused_alike : (words : ℕ) → call_refusal Q m t (Join a b) words ≡ call_refusal Q m t (Join b a) words
+  pub join_refused_alike : (words : ℕ) → call_refusal Q m t (Join a b) words ≡ call_refusal Q m t (Join b a) words
   unfolding call_refusal unsound unknown_answer
-  join-refused_alike words =
+  join_refused_alike words =
       fit_exchanged _ _ (λ f. exchanged (unsound Q t) 4 _ _ (λ s.
       ap (λ (x : Bool). first_of ((x, 5) ∷ own a b)) (or_comm (unknown_answer t a) (unknown_answer t b))
       ∙ exchanged (unknown_answer t b || unknown_answer t a) 5 (own a b) (own b a) (λ n.

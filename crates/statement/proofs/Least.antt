@@ -111,8 +111,8 @@ module _ (P : List ℕ → Bool) where
           )
 
 -- in a family, what stands no later is the same or stands before
-same-or_later : (F : Family) (s t : List ℕ) → elem s F ≡ true → elem t F ≡ true → position s F ≤ position t F → (t ≡ s) ⊎ (position s F < position t F)
-same-or_later F s t e f l = go (dec_lt (position s F) (position t F))
+same_or_later : (F : Family) (s t : List ℕ) → elem s F ≡ true → elem t F ≡ true → position s F ≤ position t F → (t ≡ s) ⊎ (position s F < position t F)
+same_or_later F s t e f l = go (dec_lt (position s F) (position t F))
   where
     go : Dec (position s F < position t F) → (t ≡ s) ⊎ (position s F < position t F)
     go (yes h) = inr h
@@ -132,7 +132,7 @@ least_is v (u ∷ F) l =
     record {
       member = r.0;
       least = none-at v (v h) G r.1;
-      first = λ t e q. same-or_later G h t r.0 e (r.2 t e (ap (λ (x : ℕ). none_below v x G) q ∙ r.1));
+      first = λ t e q. same_or_later G h t r.0 e (r.2 t e (ap (λ (x : ℕ). none_below v x G) q ∙ r.1));
     }
 
 -- THEOREM: document 01's cheapest

@@ -33,9 +33,9 @@ fork-some : (p : ℕ) (F1 F0 : Family) → (F1 ≡ [] → ⊥) → fork p F1 F0 
 fork-some p [] F0 a e = a refl
 fork-some p (f ∷ F1) F0 a e = cons≢nil e
 
-fork-not_one : (p : ℕ) (F1 F0 : Family) → (F1 ≡ [] → ⊥) → fork p F1 F0 ≡ [] ∷ [] → ⊥
-fork-not_one p [] F0 a e = a refl
-fork-not_one p (f ∷ F1) F0 a e = cons≢nil (head-eq_of_cons-eq e)
+fork_not_one : (p : ℕ) (F1 F0 : Family) → (F1 ≡ [] → ⊥) → fork p F1 F0 ≡ [] ∷ [] → ⊥
+fork_not_one p [] F0 a e = a refl
+fork_not_one p (f ∷ F1) F0 a e = cons≢nil (head-eq_of_cons-eq e)
 
 -- only number 0 has no set
 pub family-some : {K : List ℕ} {ns : List Node} → Nodes K ns → (k : ℕ) → k < suc (suc (length ns)) → 0 < k → family ns k ≡ [] → ⊥
@@ -103,7 +103,7 @@ module _ {K : List ℕ} {ns : List Node} (n : Nodes K ns) where
       ones zero b e = absurd (cons≢nil (e ∙ family-zero ns))
       ones (suc zero) b e = refl
       ones (suc (suc j)) b e =
-          absurd (fork-not_one (get_or ns j blank).label (family ns (get_or ns j blank).hi) (family ns (get_or ns j blank).lo)
+          absurd (fork_not_one (get_or ns j blank).label (family ns (get_or ns j blank).hi) (family ns (get_or ns j blank).lo)
           (hi-family-some n j (omega arith)) (sym (e ∙ family-parts n j (omega arith))))
 
       steps : (i : ℕ) → i < length ns
@@ -115,7 +115,7 @@ module _ {K : List ℕ} {ns : List Node} (n : Nodes K ns) where
       steps i w r l zero b e =
           absurd (fork-some (get_or ns i blank).label (family ns (get_or ns i blank).hi) (family ns (get_or ns i blank).lo) (hi-family-some n i w) (e ∙ family-zero ns))
       steps i w r l (suc zero) b e =
-          absurd (fork-not_one (get_or ns i blank).label (family ns (get_or ns i blank).hi) (family ns (get_or ns i blank).lo) (hi-family-some n i w) (e ∙ family_one ns))
+          absurd (fork_not_one (get_or ns i blank).label (family ns (get_or ns i blank).hi) (family ns (get_or ns i blank).lo) (hi-family-some n i w) (e ∙ family_one ns))
       steps i w r l (suc (suc j)) b e =
           let v : j < length ns = omega arith in
           let p = parts i j w v (e ∙ family-parts n j v) in

@@ -67,9 +67,9 @@ got_split_lo {p = p} {l = l} s g0 g1 g =
     (λ e. ap₂ (fork p) (g1.holds e) (nowaste_keeps g1.work.nowaste l g0.known ∙ g0.holds (worked_calm g1.work e))) g
 
 -- the number of hi is 0: no node, and the number is lo's
-pub got_none-lo : {K : List ℕ} {c p l : ℕ} {ns n1 n0 : List Node} {b b1 b0 : Bool} {R R1 R0 : Family} → Split K R p R1 R0
+pub got_none_lo : {K : List ℕ} {c p l : ℕ} {ns n1 n0 : List Node} {b b1 b0 : Bool} {R R1 R0 : Family} → Split K R p R1 R0
     → Got K c ns b l n0 b0 R0 → Got K c n0 b0 0 n1 b1 R1 → Got K c ns b l n1 b1 R
-got_none-lo {K} {c} {p} {l} {ns} {n1} {n0} {b} {b1} {b0} s g0 g1 =
+got_none_lo {K} {c} {p} {l} {ns} {n1} {n0} {b} {b1} {b0} s g0 g1 =
     got_split_lo s g0 g1 (got_eq (ap (λ (F : Family). fork p F (family n1 l)) (sym (family-zero n1)))
     (got_there c b1 l g1.sound (omega (arith, g0.known, nowaste_length g1.work.nowaste))))
 

@@ -1,5 +1,5 @@
 -- The join by first labels. THEOREM `join-left`: where p comes before every label of F1, F0 and G, the join of the fork of p, F1 and F0 with G is the fork of
--- p and the joins of F1 and of F0 with G. `split_join-left`, `split_join_right`: the same for the numbers of a table. Assumes nothing.
+-- p and the joins of F1 and of F0 with G. `split_join_left`, `split_join_right`: the same for the numbers of a table. Assumes nothing.
 use mathlib.Core.Path.{◌≡◌, sym, ap, ◌∙◌, subst, subst⁻¹}
 use mathlib.Core.Logic.{⊎_elim}
 use mathlib.Core.Bool.{Bool, true, ◌||◌, or_assoc}
@@ -125,10 +125,10 @@ module _ (K : List ℕ) (k : Keys K) where
 
 module _ {K : List ℕ} (k : Keys K) {ns : List Node} (n : Nodes K ns) where
   -- a node, and a number that begins after its label
-  pub split_join-left : (i g : ℕ) → i < length ns → g < suc (suc (length ns)) → Over K ns (suc (key K (get_or ns i blank).label)) g
+  pub split_join_left : (i g : ℕ) → i < length ns → g < suc (suc (length ns)) → Over K ns (suc (key K (get_or ns i blank).label)) g
       → Split K (join K (family ns (suc (suc i))) (family ns g)) (get_or ns i blank).label
       (join K (family ns (get_or ns i blank).hi) (family ns g)) (join K (family ns (get_or ns i blank).lo) (family ns g))
-  split_join-left i g w b o =
+  split_join_left i g w b o =
       let x : Node = get_or ns i blank in
       subst⁻¹ (λ (F : Family). Split K (join K F (family ns g)) x.label (join K (family ns x.hi) (family ns g)) (join K (family ns x.lo) (family ns g))) (family-parts n i w)
       (join-left K k x.label (n.each i w).label-known (family ns x.hi) (family ns x.lo) (family ns g)
@@ -140,7 +140,7 @@ module _ {K : List ℕ} (k : Keys K) {ns : List Node} (n : Nodes K ns) where
       (join K (family ns f) (family ns (get_or ns j blank).hi)) (join K (family ns f) (family ns (get_or ns j blank).lo))
   split_join_right f j a w o =
       let turn : (g : ℕ) → join K (family ns g) (family ns f) ≡ join K (family ns f) (family ns g) = λ g. join_comm K k (family ns g) (family ns f) in
-      rw (sym (turn (suc (suc j))), sym (turn (get_or ns j blank).hi), sym (turn (get_or ns j blank).lo)) (split_join-left j f w a o)
+      rw (sym (turn (suc (suc j))), sym (turn (get_or ns j blank).hi), sym (turn (get_or ns j blank).lo)) (split_join_left j f w a o)
 
 -- ---- families with no label in common
 

@@ -194,12 +194,12 @@ module _ {K : List ℕ} {ns ns' : List Node} {F : Family} (n : Nodes K ns') (w :
       s H m = fresh_sound (branches G) (families ns') H m
 
   -- THEOREM: no more nodes are made than were missing
-  pub made-at_most : length w.new ≤ missing ns F
-  made-at_most = omega (arith, still (under_self F))
+  pub made_at_most : length w.new ≤ missing ns F
+  made_at_most = omega (arith, still (under_self F))
 
   -- THEOREM: as many, where F has a number
   pub made_exactly : (a : ℕ) → a < suc (suc (length ns')) → family ns' a ≡ F → length w.new ≡ missing ns F
-  made_exactly a h e = le_antisymm made-at_most least
+  made_exactly a h e = le_antisymm made_at_most least
     where
       least : missing ns F ≤ length w.new
       least =

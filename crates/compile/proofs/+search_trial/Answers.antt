@@ -1,5 +1,5 @@
-use Rattle.compile.proofs.TurnLaws.{turn_start, turn_later, turn-pass, turn-over, turn-none, turn_idle, turn-made, turn-done}
-use Rattle.compile.proofs.TurnLaws.{search-over, search-empty, search_hit, search-tried, at_first, at_later, rest_is, rest-inside, rest_less}
+use Rattle.compile.proofs.TurnLaws.{turn_start, turn_later, turn_pass, turn-over, turn-none, turn_idle, turn-made, turn-done}
+use Rattle.compile.proofs.TurnLaws.{search-over, search-empty, search_hit, search-tried, at_first, at_later, rest_is, rest_inside, rest_less}
 use Rattle.exact_cover.proofs.Lead.{lead_lt, done-found}
 use Rattle.exact_cover.proofs.Permuted.{plain-small, plain-lead}
 use Rattle.exact_cover.specs.Problem.{lead, done, Rows}
@@ -59,7 +59,7 @@ trial-loop-p-init t c = let small = plain-small (items_lt c.args.items (known c.
 pub trial-loop-p-preserved-then-not-inside : goal.trial-loop-p-preserved-then-not-inside
 trial-loop-p-preserved-then-not-inside t c = let small = plain-small (items_lt c.args.items (known c.args.items c.well_formed.1.1.1.1.1.1.1.1.1.0)) in
     let e : c.loop-p.p ≡ c.wide-k.result + 1 = omega (arith, c.wide-k.ensures, c.loop-p-test.true) in (
-      turn-pass c.requires.packs (value c.args.items) c.args.at small c.requires.value.0 c.loop-p.p c.wide-k.result e c.loop-p.invariant.1.0
+      turn_pass c.requires.packs (value c.args.items) c.args.at small c.requires.value.0 c.loop-p.p c.wide-k.result e c.loop-p.invariant.1.0
           (rw c.items-pack.ensures at (sym c.inside.ensures ∙ c.if-not-inside.true)) c.loop-p.invariant.0,
       (at_later c.requires.packs (value c.args.items) c.args.at small c.requires.value.0 c.loop-p.p c.wide-k.result e c.loop-p.invariant.1.0, c.loop-p.invariant.1.1),
     )
@@ -87,7 +87,7 @@ trial-returns-then-r t c = let small = plain-small (items_lt c.args.items (known
     let e : c.loop-p.p ≡ c.wide-k.result + 1 = omega (arith, c.wide-k.ensures, c.loop-p-test.true) in
     let i = sym c.inside.ensures ∙ c.if-not-inside.false in
     turn-over c.requires.packs (value c.args.items) c.args.at small c.requires.value.0 c.loop-p.p c.wide-k.result _ _ e c.loop-p.invariant.1.0
-    (rest-inside c.requires.packs (value c.args.items) c.args.at small c.requires.value.0 c.loop-p.p c.wide-k.result e c.loop-p.invariant.1.0 _ _ c.items-pack.ensures c.without-rest.ensures i)
+    (rest_inside c.requires.packs (value c.args.items) c.args.at small c.requires.value.0 c.loop-p.p c.wide-k.result e c.loop-p.invariant.1.0 _ _ c.items-pack.ensures c.without-rest.ensures i)
     (rest_is c.requires.packs (value c.args.items) c.args.at small c.requires.value.0 c.loop-p.p c.wide-k.result e c.loop-p.invariant.1.0 _ _ c.items-pack.ensures c.without-rest.ensures i) c.place_without-there.ensures
     c.if-r.true c.loop-p.invariant.0 c.search-r.ensures
 
@@ -97,7 +97,7 @@ trial-loop-p-preserved-then-y-eq0 t c = let small = plain-small (items_lt c.args
     let i = sym c.inside.ensures ∙ c.if-not-inside.false in (
       turn_later c.requires.packs (value c.args.items) c.args.at small c.requires.value.0 c.loop-p.p c.wide-k.result e c.loop-p.invariant.1.0
           (turn-none c.requires.packs (value c.args.items) c.args.at small c.requires.value.0 c.loop-p.p c.wide-k.result _ _ e c.loop-p.invariant.1.0
-          (rest-inside c.requires.packs (value c.args.items) c.args.at small c.requires.value.0 c.loop-p.p c.wide-k.result e c.loop-p.invariant.1.0 _ _ c.items-pack.ensures c.without-rest.ensures i)
+          (rest_inside c.requires.packs (value c.args.items) c.args.at small c.requires.value.0 c.loop-p.p c.wide-k.result e c.loop-p.invariant.1.0 _ _ c.items-pack.ensures c.without-rest.ensures i)
           (rest_is c.requires.packs (value c.args.items) c.args.at small c.requires.value.0 c.loop-p.p c.wide-k.result e c.loop-p.invariant.1.0 _ _ c.items-pack.ensures c.without-rest.ensures i) c.place_without-there.ensures
           c.if-r.false c.loop-p.invariant.0 c.search-r.ensures c.if-y-eq0.true),
       (at_later c.requires.packs (value c.args.items) c.args.at small c.requires.value.0 c.loop-p.p c.wide-k.result e c.loop-p.invariant.1.0, c.loop-p.invariant.1.1),
@@ -109,7 +109,7 @@ trial-loop-p-preserved-then-r-2 t c = let small = plain-small (items_lt c.args.i
     let i = sym c.inside.ensures ∙ c.if-not-inside.false in (
       turn_later c.requires.packs (value c.args.items) c.args.at small c.requires.value.0 c.loop-p.p c.wide-k.result e c.loop-p.invariant.1.0
           (turn_idle c.requires.packs (value c.args.items) c.args.at small c.requires.value.0 c.loop-p.p c.wide-k.result _ _ e c.loop-p.invariant.1.0
-          (rest-inside c.requires.packs (value c.args.items) c.args.at small c.requires.value.0 c.loop-p.p c.wide-k.result e c.loop-p.invariant.1.0 _ _ c.items-pack.ensures c.without-rest.ensures i)
+          (rest_inside c.requires.packs (value c.args.items) c.args.at small c.requires.value.0 c.loop-p.p c.wide-k.result e c.loop-p.invariant.1.0 _ _ c.items-pack.ensures c.without-rest.ensures i)
           (rest_is c.requires.packs (value c.args.items) c.args.at small c.requires.value.0 c.loop-p.p c.wide-k.result e c.loop-p.invariant.1.0 _ _ c.items-pack.ensures c.without-rest.ensures i) c.place_without-there.ensures
           c.if-r.false c.loop-p.invariant.0 c.search-r.ensures c.if-r-2.true),
       (at_later c.requires.packs (value c.args.items) c.args.at small c.requires.value.0 c.loop-p.p c.wide-k.result e c.loop-p.invariant.1.0, c.loop-p.invariant.1.1),
@@ -121,7 +121,7 @@ trial-loop-p-preserved t c = let small = plain-small (items_lt c.args.items (kno
     let i = sym c.inside.ensures ∙ c.if-not-inside.false in (
       turn_later c.requires.packs (value c.args.items) c.args.at small c.requires.value.0 c.loop-p.p c.wide-k.result e c.loop-p.invariant.1.0
           (turn-made c.requires.packs (value c.args.items) c.args.at small c.requires.value.0 c.loop-p.p c.wide-k.result _ _ e c.loop-p.invariant.1.0
-          (rest-inside c.requires.packs (value c.args.items) c.args.at small c.requires.value.0 c.loop-p.p c.wide-k.result e c.loop-p.invariant.1.0 _ _ c.items-pack.ensures c.without-rest.ensures i)
+          (rest_inside c.requires.packs (value c.args.items) c.args.at small c.requires.value.0 c.loop-p.p c.wide-k.result e c.loop-p.invariant.1.0 _ _ c.items-pack.ensures c.without-rest.ensures i)
           (rest_is c.requires.packs (value c.args.items) c.args.at small c.requires.value.0 c.loop-p.p c.wide-k.result e c.loop-p.invariant.1.0 _ _ c.items-pack.ensures c.without-rest.ensures i) c.place_without-there.ensures
           c.if-r.false c.loop-p.invariant.0 c.search-r.ensures c.if-r-2.false (omega (arith, c.if-y-eq0.false)) _ _ (sym c.wide-k.ensures) c.unique-z.ensures),
       (at_later c.requires.packs (value c.args.items) c.args.at small c.requires.value.0 c.loop-p.p c.wide-k.result e c.loop-p.invariant.1.0, c.loop-p.invariant.1.1),

@@ -1,4 +1,4 @@
-use Rattle.engine.proofs.Withdrawing.{withdraw-not_admitted, withdraw-declined, withdraw_asks, withdraw-done}
+use Rattle.engine.proofs.Withdrawing.{withdraw_not_admitted, withdraw-declined, withdraw_asks, withdraw-done}
 use Rattle.guard.proofs.GuardLaws.{blank}
 use mathlib.Core.Path.{refl}
 use Rattle.engine.proofs.withdraw.Goals as goal
@@ -7,7 +7,7 @@ pub admit-r-requires : goal.admit-r-requires
 admit-r-requires c = blank 512 131072 refl refl
 
 pub returns-then-r-ne0 : goal.returns-then-r-ne0
-returns-then-r-ne0 c = withdraw-not_admitted c.admit-r.ensures c.if-r-ne0.true
+returns-then-r-ne0 c = withdraw_not_admitted c.admit-r.ensures c.if-r-ne0.true
 
 pub returns-then-own-ne0 : goal.returns-then-own-ne0
 returns-then-own-ne0 c = withdraw-declined c.admit-r.ensures c.if-r-ne0.false (c.withdraw_refusal-own.ensures _ _) c.if-own-ne0.true
