@@ -1,17 +1,16 @@
 -- How the code makes an order, looks at it, inverts it and takes a set to its positions. Assumes nothing.
 use mathlib.Core.Path.{◌≡◌, refl, sym, ap, ◌∙◌}
-use mathlib.Core.Bool.{Bool, true, false, ◌&&◌}
+use mathlib.Core.Bool.{Bool, true, false}
 use mathlib.Core.Logic.{⊎_elim}
 use mathlib.Core.List.{List, [], ◌∷◌}
 use Prim.Native.Nat.{ℕ, suc, ◌+◌, ◌^◌, ◌≤◌, ◌<◌}
 use native.Mathlib.Nat.{eq-zero-or-pos}
 use native.Mathlib.Decide.{ℕ_discrete}
-use native.Mathlib.Numerals.{add-one}
 use native.Mathlib.Omega.{arith}
 use lib.Dec.{eqb, ltb}
 use lib.Pow.{pow_pos}
-use lib.ListN.{length, get_or, drop, set, length-set, drop_of_length-le}
-use lib.Seq.{drop-cons, get_or-set_same, get_or-set_other, ext_get_or}
+use lib.ListN.{length, get_or, set, length-set}
+use lib.Seq.{get_or-set_same, get_or-set_other, ext_get_or}
 use borrow.Author.Tests.{eqb-true, eqb-false, eq-eqb, ne_eqb, ltb-true, ltb-false}
 use Rattle.base.proofs.Bools.{by_test, same_test, and_left, and_right}
 use Rattle.itemset.specs.Items.{holds, insideb, without, union, lowest}
@@ -29,40 +28,12 @@ pub record Counted (k : ℕ) (order : List ℕ) : Type 0 where
   pub long : length order ≡ 192
   pub each : (j : ℕ) → j < k → get_or order j 0 ≡ j
 
-pub counted_start : {order : List ℕ} → length order ≡ 192 → Counted 0 order
-counted_start e = record { long = e; each = λ j l. absurd (omega arith) }
-
-pub counted-more : {order : List ℕ} (k : ℕ) → k < 192 → Counted k order → Counted (k + 1) (set order k k)
-counted-more {order} k h f = record { long = length-set order k k ∙ f.long; each = λ j l. at j l (ℕ_discrete j k) }
-  where
-    at : (j : ℕ) → j < k + 1 → Dec (j ≡ k) → get_or (set order k k) j 0 ≡ j
-    at j l (yes q) = rw q (get_or-set_same order k k 0 (omega (arith, f.long)))
-    at j l (no q) = get_or-set_other order k j k 0 q ∙ f.each j (omega arith)
-
 pub counted-all : {order : List ℕ} (k : ℕ) → 192 ≤ k → Counted k order → order ≡ up_to 192
 counted-all {order} k h f =
     ext_get_or 0 order (up_to 192) (f.long ∙ sym (length-count 0 192))
     (λ j l. f.each j (omega (arith, f.long)) ∙ sym (plain_at 192 j (omega (arith, f.long))))
 
 -- ---- whether an order is plain: what is left to look at says it
-
-pub plain_here : (j : ℕ) (order : List ℕ) → j < length order → plain_from j (drop j order) ≡ eqb (get_or order j 0) j && plain_from (suc j) (drop (suc j) order)
-unfolding plain_from
-plain_here j order l = ap (plain_from j) (drop-cons order j 0 l)
-
-pub plain-next : {b : Bool} (j : ℕ) (order : List ℕ) → j < length order → get_or order j 0 ≡ j → plain_from j (drop j order) ≡ b
-    → plain_from (j + 1) (drop (j + 1) order) ≡ b
-plain-next j order l e h =
-    ap (λ (n : ℕ). plain_from n (drop n order)) (add-one j)
-    ∙ ap (λ (t : Bool). t && plain_from (suc j) (drop (suc j) order)) (sym (eq-eqb (get_or order j 0) j e)) ∙ sym (plain_here j order l) ∙ h
-
-pub plain-not : {b : Bool} (j : ℕ) (order : List ℕ) → j < length order → (get_or order j 0 ≡ j → ⊥) → plain_from j (drop j order) ≡ b → false ≡ b
-plain-not j order l e h =
-    ap (λ (t : Bool). t && plain_from (suc j) (drop (suc j) order)) (sym (ne_eqb (get_or order j 0) j e)) ∙ sym (plain_here j order l) ∙ h
-
-pub plain_end : {b : Bool} (j : ℕ) (order : List ℕ) → length order ≤ j → plain_from j (drop j order) ≡ b → true ≡ b
-unfolding plain_from
-plain_end j order l h = sym (ap (plain_from j) (drop_of_length-le order l)) ∙ h
 
 -- a plain order is 0, 1, .. to its end
 plain-count : (k : ℕ) (is : List ℕ) → plain_from k is ≡ true → is ≡ count_from k (length is)
@@ -108,9 +79,6 @@ module _ (order : List ℕ) where
         at j m n (yes q) = rw q (get_or-set_same inverse (get_or order k 0) k 0 place)
         at j m n (no q) =
             get_or-set_other inverse (get_or order k 0) (get_or order j 0) k 0 (order-apart order once j k (omega arith) l) ∙ f.back j (omega arith) n
-
-  pub inverse_all : {inverse : List ℕ} (k : ℕ) → length order ≤ k → InverseTo order k inverse → Inverse order inverse
-  inverse_all k h f = record { long = f.long; low = f.low; back = λ j l. f.back j (omega arith) l }
 
 -- ---- a set taken to its positions, item by item
 

@@ -10,7 +10,7 @@ use native.Mathlib.Omega.{arith}
 use lib.Dec.{eqb, ltb}
 use lib.ListN.{length, get_or, take, drop, drop_of_length-le}
 use lib.Seq.{drop-cons, length-take-le, get_or-take, sets, length-sets, ext_get_or}
-use borrow.Author.Tests.{ltb-true, ltb-false, eqb-true, eqb-false, lt-ltb, le-ltb, ne_eqb}
+use borrow.Author.Tests.{ltb-true, ltb-false, eqb-true, eqb-false, ne_eqb}
 use Rattle.base.proofs.Bools.{never, by_test, and_left, and_right}
 use Rattle.itemset.specs.Words.{value_of, sets_of}
 use Rattle.itemset.proofs.Stored.{length-sets_of, sets_of-at, sets_other, sets-read, take_same, words_from_lem, from_same}
@@ -47,12 +47,6 @@ climbs_not b q (x ∷ l) c h = rw (ne_eqb q x (λ e. omega (arith, c.0))) (climb
 -- what the code asks: whether entry j of gone is p
 abbrev pub next : List ℕ → ℕ → ℕ → Bool
 next gone j p = ltb j (length gone) && eqb (get_or gone j 0) p
-
-pub next_out : (gone : List ℕ) (j p : ℕ) → length gone ≤ j → false ≡ next gone j p
-next_out gone j p h = ap (λ (b : Bool). b && eqb (get_or gone j 0) p) (sym (le-ltb j (length gone) h))
-
-pub next_in : (gone : List ℕ) (j p : ℕ) → j < length gone → eqb (get_or gone j 0) p ≡ next gone j p
-next_in gone j p h = ap (λ (b : Bool). b && eqb (get_or gone j 0) p) (sym (lt-ltb j (length gone) h))
 
 pub next-inside : (gone : List ℕ) (j p : ℕ) → next gone j p ≡ true → j < length gone
 next-inside gone j p e = ltb-true j (length gone) (and_left (ltb j (length gone)) (eqb (get_or gone j 0) p) e)

@@ -40,10 +40,8 @@ pub fn plain_order() -> [u8; 192]
     ensures { result ≡ up_to 192 }
 {
     let mut order = [0u8; 192];
-    let mut i: usize = 0;
-    while i < 192 {
-        order[i] = i as u8;
-        i += 1;
+    for (i, item) in order.iter_mut().enumerate() {
+        *item = i as u8;
     }
     order
 }
@@ -52,14 +50,10 @@ pub fn plain_order() -> [u8; 192]
 pub fn is_plain(order: &[u8]) -> bool
     ensures { result ≡ plainb order.now }
 {
-    let mut j: usize = 0;
-    while j < order.len() {
-        if order[j] as usize != j {
-            return false;
-        }
-        j += 1;
-    }
-    true
+    order
+        .iter()
+        .enumerate()
+        .all(|(j, item)| *item as usize == j)
 }
 
 // Where each item stands in the order. The array is lent with 0 everywhere, and stays 0 for an item that the order does not have.
@@ -70,10 +64,8 @@ pub fn invert(order: &[u8], inverse: &mut [u8; 192])
     requires by_index { (i : ℕ) → get_or inverse.old i 0 ≡ 0 }
     ensures { Inverse order.now inverse.new }
 {
-    let mut j: usize = 0;
-    while j < order.len() {
-        inverse[order[j] as usize] = j as u8;
-        j += 1;
+    for (j, item) in order.iter().enumerate() {
+        inverse[*item as usize] = j as u8;
     }
 }
 
@@ -85,11 +77,7 @@ fn permute(x: Items, order: &[u8], inverse: &[u8; 192]) -> Items
     ensures { value result ≡ P.positions order.now (value x) }
 {
     let mut rest = x;
-    let mut r = Items {
-        w0: 0,
-        w1: 0,
-        w2: 0,
-    };
+    let mut r = Items::default();
     while !itemset::is_empty(rest) {
         let i = itemset::lowest(rest);
         r = itemset::union(r, itemset::single(inverse[i as usize] as u32));
@@ -138,12 +126,9 @@ pub fn keys(packages: &[u64], optional: Items, order: &[u8], keys: &mut [u32])
     let plain = is_plain(order);
     let mut inverse = [0u8; 192];
     invert(order, &mut inverse);
-    let n = number(packages);
-    let mut k: usize = 0;
-    while k < n {
+    for k in 0..number(packages) {
         let x = items(packages, k);
         keys[k] = key(x, optional, order, &inverse, plain, k);
-        k += 1;
     }
 }
 
@@ -151,30 +136,23 @@ pub fn keys(packages: &[u64], optional: Items, order: &[u8], keys: &mut [u32])
 fn is_next(gone: &[u16], j: usize, p: usize) -> bool
     ensures { result ≡ (ltb j (length gone.now) && eqb (get_or gone.now j 0) p) }
 {
-    if gone.len() <= j {
-        return false;
-    }
-    gone[j] as usize == p
+    gone.get(j).is_some_and(|q| *q as usize == p)
 }
 
 // The packages that gone, a rising list, does not have move to the front, in their order; it returns how many they are. What stands behind them means nothing.
 pub fn shorten(packages: &mut [u64], gone: &[u16]) -> usize
     ensures { Shortens packages.old gone.now packages.new result }
 {
-    let n = number(packages);
     let mut j: usize = 0; // gone's entries before j are below p
     let mut r: usize = 0; // how many remain of the packages before p
-    let mut p: usize = 0;
-    while p < n {
+    for p in 0..number(packages) {
         if is_next(gone, j, p) {
             j += 1;
-            p += 1;
             continue;
         }
         let x = itemset::read(packages, 3 * p);
         itemset::write(packages, 3 * r, x);
         r += 1;
-        p += 1;
     }
     r
 }

@@ -9,6 +9,7 @@ use native.Mathlib.Nat.{zero-add, eq-zero-or-pos, zero-lt-suc, min-eq_left, min-
 use native.Mathlib.Omega.{arith}
 use lib.Dec.{eqb, ltb}
 use lib.ListN.{length, get_or, replicate}
+use lib.Bits.{bit_and, and_block}
 use lib.Pow.{pow_pos, pow-add, pow_mono}
 use borrow.Author.Tests.{ltb-true, ltb-false}
 use Rattle.base.proofs.Bools.{never, same_test, by_test, and_left, and_right, and_both, eqb_same}
@@ -108,6 +109,9 @@ zip_words f z s (pair {v} {w} {vs} {ws} hv hw r) =
 
 pub without_words : {qs ps : List ℕ} → Pairs qs ps → without (value_of qs) (value_of ps) ≡ value_of (zip without qs ps)
 without_words r = zip_words without (without_self 0) (λ a b p q. without_cat 64 a b p q) r
+
+pub both_words : {vs ws : List ℕ} → Pairs vs ws → bit_and (value_of vs) (value_of ws) ≡ value_of (zip bit_and vs ws)
+both_words r = zip_words bit_and refl (λ a b p q hb hq. and_block 64 a p b q hb hq) r
 
 pub union_words : {vs ws : List ℕ} → Pairs vs ws → union (value_of vs) (value_of ws) ≡ value_of (zip union vs ws)
 union_words r = zip_words union (union-none 0) (λ a b p q. union_cat 64 a b p q) r

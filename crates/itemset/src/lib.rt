@@ -3,51 +3,49 @@
 
 ghost use Rattle.std.specs.Prelude.{◌≡◌, ◌+◌, ◌*◌, ◌^◌, ◌%◌, ◌-◌, ◌<◌, ◌≤◌, min, eqb, length, get_or, take, drop};
 ghost use Rattle.std.proofs.lemmas.List.Edits.{sets};
+ghost use Rattle.std.specs.Int.Bits.{bit_and};
 ghost use Rattle.itemset.specs.Items.{holds, insideb, apartb, belowb};
 ghost use Rattle.itemset.specs.Items as I;
 ghost use Rattle.itemset.specs.Words.{width, value, value_of, words_of};
 
 // A set: three words, lowest first.
-#[derive(Clone, Copy)]
+#[derive(Clone, Copy, PartialEq, Eq, Default)]
 pub struct Items {
     pub w0: u64,
     pub w1: u64,
     pub w2: u64,
 }
 
-// Whether x and y are the same set.
-pub fn same(x: Items, y: Items) -> bool
-    ensures { result ≡ eqb (value x) (value y) }
-{
-    (x.w0 == y.w0) & ((x.w1 == y.w1) & (x.w2 == y.w2))
-}
-
 // Whether x has no item.
 pub fn is_empty(x: Items) -> bool
     ensures { result ≡ eqb (value x) 0 }
 {
-    same(
-        x,
-        Items {
-            w0: 0,
-            w1: 0,
-            w2: 0,
-        },
-    )
+    x == Items::default()
+}
+
+// The items that x and y have in common.
+fn both(x: Items, y: Items) -> Items
+    ensures { value result ≡ bit_and (value x) (value y) }
+{
+    Items {
+        w0: x.w0 & y.w0,
+        w1: x.w1 & y.w1,
+        w2: x.w2 & y.w2,
+    }
 }
 
 // Whether every item of p is in a.
 pub fn inside(p: Items, a: Items) -> bool
     ensures { result ≡ insideb (value p) (value a) }
 {
-    (a.w0 & p.w0 == p.w0) & ((a.w1 & p.w1 == p.w1) & (a.w2 & p.w2 == p.w2))
+    both(a, p) == p
 }
 
 // Whether x and y have no item in common.
 pub fn apart(x: Items, y: Items) -> bool
     ensures { result ≡ apartb (value x) (value y) }
 {
-    (x.w0 & y.w0 == 0) & ((x.w1 & y.w1 == 0) & (x.w2 & y.w2 == 0))
+    is_empty(both(x, y))
 }
 
 // The items of a that are not in p.
@@ -103,13 +101,11 @@ fn word(x: Items, j: u32) -> u64
     requires { j < 3 }
     ensures { result ≡ get_or (words_of x) j 0 }
 {
-    if j == 0 {
-        return x.w0;
+    match j {
+        0 => x.w0,
+        1 => x.w1,
+        _ => x.w2,
     }
-    if j == 1 {
-        return x.w1;
-    }
-    x.w2
 }
 
 // Whether item i is in x.
@@ -127,12 +123,12 @@ pub fn lowest(x: Items) -> u32
     ensures upper_bound { result < width }
 {
     if x.w0 != 0 {
-        return u64::trailing_zeros(x.w0);
+        return x.w0.trailing_zeros();
     }
     if x.w1 != 0 {
-        return 64 + u64::trailing_zeros(x.w1);
+        return 64 + x.w1.trailing_zeros();
     }
-    128 + u64::trailing_zeros(x.w2)
+    128 + x.w2.trailing_zeros()
 }
 
 // Whether every item of x, a set of one word, is below m.
@@ -145,22 +141,12 @@ pub fn below_word(x: u64, m: u32) -> bool
     x >> m == 0
 }
 
-// What is left of a bound m after one word.
-fn after_word(m: u32) -> u32
-    ensures { result ≡ m - 64 }
-{
-    if m < 64 {
-        return 0;
-    }
-    m - 64
-}
-
 // Whether every item of x is below m.
 pub fn below(x: Items, m: u32) -> bool
     ensures { result ≡ belowb (value x) m }
 {
-    let m1 = after_word(m);
-    let m2 = after_word(m1);
+    let m1 = m.saturating_sub(64);
+    let m2 = m1.saturating_sub(64);
     below_word(x.w0, m) & (below_word(x.w1, m1) & below_word(x.w2, m2))
 }
 
@@ -169,7 +155,7 @@ fn all_of_word(m: u32) -> u64
     ensures { result ≡ 2 ^ min m 64 - 1 }
 {
     if 64 <= m {
-        return 18446744073709551615;
+        return u64::MAX;
     }
     (1u64 << m) - 1
 }
@@ -178,8 +164,8 @@ fn all_of_word(m: u32) -> u64
 pub fn all_below(m: u32) -> Items
     ensures { value result ≡ 2 ^ min m width - 1 }
 {
-    let m1 = after_word(m);
-    let m2 = after_word(m1);
+    let m1 = m.saturating_sub(64);
+    let m2 = m1.saturating_sub(64);
     Items {
         w0: all_of_word(m),
         w1: all_of_word(m1),
@@ -191,7 +177,7 @@ pub fn all_below(m: u32) -> Items
 pub fn size(x: Items) -> u32
     ensures { result ≡ I.size (value x) }
 {
-    u64::count_ones(x.w0) + (u64::count_ones(x.w1) + u64::count_ones(x.w2))
+    x.w0.count_ones() + (x.w1.count_ones() + x.w2.count_ones())
 }
 
 // 2 r + b modulo p, for r below p: no sum exceeds p.
@@ -217,9 +203,7 @@ fn step_bits(r: u64, w: u64, p: u64) -> u64
     ensures { result ≡ (r * 2 ^ 64 + w) % p }
 {
     let mut s = r;
-    let mut i: u32 = 64;
-    while 0 < i {
-        i -= 1;
+    for i in (0..64u32).rev() {
         s = twice(s, (w >> i) & 1, p);
     }
     s

@@ -1,52 +1,59 @@
 -- What a place tells, and what a store leaves. Assumes nothing.
 use mathlib.Core.Path.{◌≡◌, refl, sym, ap, ap₂, ◌∙◌}
-use mathlib.Core.Bool.{Bool, true, false, ◌&&◌}
+use mathlib.Core.Bool.{Bool, true, false}
 use mathlib.Core.List.{List, [], ◌∷◌, ◌++◌}
 use Prim.Native.Nat.{ℕ, ◌+◌, ◌*◌, ◌%◌, ◌^◌, ◌≤◌, ◌<◌}
 use native.Mathlib.Nat.{mod-eq_of_lt}
 use native.Mathlib.Numerals.{add-one}
 use native.Mathlib.Omega.{arith}
-use lib.Dec.{eqb, ltb}
+use lib.Dec.{ltb}
 use lib.ListN.{length, get_or, take, drop, set, length-set}
 use lib.Seq.{get_or-set_same, get_or-set_other, get_or-take, take_at, length_front, length-take-le}
 use borrow.Author.Tests.{lt-ltb, le-ltb}
 use Rattle.base.specs.Words as Words
 use Rattle.base.proofs.Wiping.{cleared_reads}
 use Rattle.itemset.specs.Words.{value_of}
-use Rattle.itemset.proofs.Words.{eqb_cat}
-use Rattle.itemset.proofs.Lists.{value-cons, end, pair, every, same_words}
+use Rattle.itemset.proofs.Lists.{value-cons}
 use Rattle.itemset.proofs.Stored.{words_from, words_from_lem, take_same}
 use Rattle.memo.specs.Memo.{high_at, key_at, number_at, Stored, Cleared}
 
 -- ---- reading
 
-pub high_none : (P : ℕ) (memo : List ℕ) (j : ℕ) → get_or memo (2 * j + 1) 0 < 4294967296 → high_at P memo j ≡ 0
+high_none : (P : ℕ) (memo : List ℕ) (j : ℕ) → get_or memo (2 * j + 1) 0 < 4294967296 → high_at P memo j ≡ 0
 unfolding high_at
 high_none P memo j h =
     ap (λ (b : Bool). elim b [ true ↦ 0 | false ↦ value_of (take 2 (drop (2 * P + 2 * j) memo)) ]) (lt-ltb (get_or memo (2 * j + 1) 0) 4294967296 h)
 
-pub high_some : (P : ℕ) (memo : List ℕ) (j : ℕ) → 4294967296 ≤ get_or memo (2 * j + 1) 0
+high_some : (P : ℕ) (memo : List ℕ) (j : ℕ) → 4294967296 ≤ get_or memo (2 * j + 1) 0
     → high_at P memo j ≡ value_of (take 2 (drop (2 * P + 2 * j) memo))
 unfolding high_at
 high_some P memo j h =
     ap (λ (b : Bool). elim b [ true ↦ 0 | false ↦ value_of (take 2 (drop (2 * P + 2 * j) memo)) ]) (le-ltb (get_or memo (2 * j + 1) 0) 4294967296 h)
 
--- a key against the words of a set
-pub key_test : (P : ℕ) (memo : List ℕ) (j w : ℕ) (ws : List ℕ) → get_or memo (2 * j) 0 < 2 ^ 64 → w < 2 ^ 64
-    → eqb (key_at P memo j) (value_of (w ∷ ws)) ≡ eqb (high_at P memo j) (value_of ws) && eqb (get_or memo (2 * j) 0) w
-unfolding key_at
-key_test P memo j w ws h k =
-    ap (λ (n : ℕ). eqb (high_at P memo j * 2 ^ 64 + get_or memo (2 * j) 0) n) (value-cons w ws)
-    ∙ eqb_cat 64 (high_at P memo j) (get_or memo (2 * j) 0) (value_of ws) w h k
-
 -- the key of a place whose words are known
-pub key_is : (P : ℕ) (memo : List ℕ) (j w : ℕ) (ws : List ℕ) → get_or memo (2 * j) 0 ≡ w → high_at P memo j ≡ value_of ws → key_at P memo j ≡ value_of (w ∷ ws)
+key_is : (P : ℕ) (memo : List ℕ) (j w : ℕ) (ws : List ℕ) → get_or memo (2 * j) 0 ≡ w → high_at P memo j ≡ value_of ws → key_at P memo j ≡ value_of (w ∷ ws)
 unfolding key_at
 key_is P memo j w ws e h = ap₂ (λ (m n : ℕ). m * 2 ^ 64 + n) h e ∙ sym (value-cons w ws)
 
-pub two_words : (ws : List ℕ) (a : ℕ) → words_from 2 a ws ≡ get_or ws a 0 ∷ get_or ws (a + 1) 0 ∷ []
+two_words : (ws : List ℕ) (a : ℕ) → words_from 2 a ws ≡ get_or ws a 0 ∷ get_or ws (a + 1) 0 ∷ []
 unfolding words_from
 two_words ws a = ap (λ (i : ℕ). get_or ws a 0 ∷ get_or ws i 0 ∷ []) (sym (add-one a))
+
+zero_two : value_of (0 ∷ 0 ∷ []) ≡ 0
+unfolding value_of
+zero_two = refl
+
+-- the key as it is read: without high words, and with them
+pub key_low : (P : ℕ) (memo : List ℕ) (j : ℕ) → get_or memo (2 * j + 1) 0 < 4294967296 → value_of (get_or memo (2 * j) 0 ∷ 0 ∷ 0 ∷ []) ≡ key_at P memo j
+key_low P memo j h = sym (key_is P memo j (get_or memo (2 * j) 0) (0 ∷ 0 ∷ []) refl (high_none P memo j h ∙ sym zero_two))
+
+pub key_all : (P : ℕ) (memo : List ℕ) (j : ℕ) → 4 * P ≤ length memo → j < P → 4294967296 ≤ get_or memo (2 * j + 1) 0
+    → value_of (get_or memo (2 * j) 0 ∷ get_or memo (2 * P + 2 * j) 0 ∷ get_or memo (2 * P + 2 * j + 1) 0 ∷ []) ≡ key_at P memo j
+key_all P memo j l m h =
+    sym (key_is P memo j (get_or memo (2 * j) 0) (get_or memo (2 * P + 2 * j) 0 ∷ get_or memo (2 * P + 2 * j + 1) 0 ∷ []) refl (high_some P memo j h ∙ ap value_of words))
+  where
+    words : take 2 (drop (2 * P + 2 * j) memo) ≡ get_or memo (2 * P + 2 * j) 0 ∷ get_or memo (2 * P + 2 * j + 1) 0 ∷ []
+    words = sym (words_from_lem 2 (2 * P + 2 * j) memo (omega arith)) ∙ two_words memo (2 * P + 2 * j)
 
 -- ---- writing
 
@@ -183,20 +190,6 @@ stored-all P memo at w v u n l m s =
       other_key = λ j i f. key_stays l apart j i f;
       other_number = λ j i f. number_stays l apart j i f;
     }
-
--- two words against two
-and_true : (b : Bool) → b && true ≡ b
-and_true true = refl
-and_true false = refl
-
-pub high_test : (h k v u : ℕ) → h < 2 ^ 64 → k < 2 ^ 64 → v < 2 ^ 64 → u < 2 ^ 64
-    → eqb (value_of (h ∷ k ∷ [])) (value_of (v ∷ u ∷ [])) ≡ eqb h v && eqb k u
-unfolding every
-high_test h k v u a b d e = same_words (pair a d (pair b e end)) ∙ ap (λ (t : Bool). eqb h v && t) (and_true (eqb k u))
-
-pub zero_two : value_of (0 ∷ 0 ∷ []) ≡ 0
-unfolding value_of
-zero_two = refl
 
 -- ---- clearing: the words of the first half are 0, so no place has a set
 

@@ -18,7 +18,7 @@ pub fn clear(memo: &mut [u64], places: usize)
     base::clear(&mut memo[..2 * places]);
 }
 
-// Whether the place has the set.
+// Whether the place has the set. The high words are read only where it has some.
 pub fn is_key(memo: &[u64], places: usize, at: usize, x: Items) -> bool
     requires places_in_bounds { 4 * places ≤ length memo.now }
     requires at_lt_places { at < places }
@@ -27,12 +27,20 @@ pub fn is_key(memo: &[u64], places: usize, at: usize, x: Items) -> bool
     let low = memo[2 * at];
     let tag = memo[2 * at + 1];
     if tag < 4294967296 {
-        return ((0 == x.w1) & (0 == x.w2)) & (low == x.w0);
+        let key = Items {
+            w0: low,
+            w1: 0,
+            w2: 0,
+        };
+        return key == x;
     }
     let high = 2 * places + 2 * at;
-    let h0 = memo[high];
-    let h1 = memo[high + 1];
-    ((h0 == x.w1) & (h1 == x.w2)) & (low == x.w0)
+    let key = Items {
+        w0: low,
+        w1: memo[high],
+        w2: memo[high + 1],
+    };
+    key == x
 }
 
 // The number that the place has.

@@ -1,11 +1,7 @@
 use Rattle.exact_cover.proofs.KeyLaws.{KeyedTo}
 use Rattle.exact_cover.specs.Problem.{problem_of}
 use Rattle.itemset.specs.Words.{value}
-use Prim.Native.Nat.{◌-◌}
 use Rattle.exact_cover.proofs.keys.Given as goal
 
 abbrev pub invariant-loop-k : goal.invariant-loop-k
 invariant-loop-k l = KeyedTo (problem_of l.packages (value l.optional) l.order) l.k l.keys
-
-abbrev pub decreases-loop-k : goal.decreases-loop-k
-decreases-loop-k l = l.n - l.k

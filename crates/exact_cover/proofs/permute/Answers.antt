@@ -1,13 +1,13 @@
 use Rattle.exact_cover.proofs.LocateLaws.{moved_start, moved_more, moved_all, some_left, none_left, rest_falls}
 use Rattle.itemset.proofs.Lists.{width_is}
-use Rattle.itemset.specs.Words.{value, value_of}
+use Rattle.itemset.proofs.Three.{default_is}
+use Rattle.itemset.specs.Words.{value}
 use native.Mathlib.Omega.{arith}
 use mathlib.Core.Path.{refl}
 use Rattle.exact_cover.proofs.permute.Goals as goal
 
 pub loop-rest-init : goal.loop-rest-init
-unfolding value_of
-loop-rest-init c = moved_start c.args.order.now (value c.args.x) c.requires.x_bound
+loop-rest-init c = rw (default_is c.default-r.result c.default-r.ensures) (moved_start c.args.order.now (value c.args.x) c.requires.x_bound)
 
 pub bounds-inverse-i : goal.bounds-inverse-i
 bounds-inverse-i c = omega (arith, width_is, c.lowest-i.ensures.upper_bound)

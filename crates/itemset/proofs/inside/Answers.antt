@@ -1,10 +1,12 @@
-use mathlib.Core.Path.{sym, ◌∙◌}
+use mathlib.Core.Path.{ap, ◌∙◌}
+use Prim.Native.Nat.{ℕ}
+use lib.Dec.{eqb}
 use Rattle.itemset.specs.Items.{insideb}
-use Rattle.itemset.proofs.Lists.{inside_words}
-use Rattle.itemset.proofs.Three.{pairs, every_three}
+use Rattle.itemset.specs.Words.{value}
+use Rattle.itemset.proofs.Three.{known, equal_is}
 use Rattle.itemset.proofs.inside.Goals as goal
 
 pub returns : goal.returns
 unfolding insideb
-returns c = every_three insideb c.args.p c.args.a
-    ∙ sym (inside_words (pairs c.args.p c.args.a c.struct_known-2-1.given c.struct_known-1.given))
+returns c = c.eq.ensures ∙ equal_is c.both.result c.args.p (known c.both.result c.both.type_inv) (known c.args.p c.well_formed.0)
+    ∙ ap (λ (n : ℕ). eqb n (value c.args.p)) c.both.ensures

@@ -1,48 +1,43 @@
-use mathlib.Core.Path.{sym, ap, ◌∙◌}
+use mathlib.Core.Path.{◌≡◌}
 use mathlib.Core.List.{[], ◌∷◌}
-use Prim.Native.Nat.{ℕ, ◌+◌, ◌<◌}
+use Prim.Native.Nat.{◌+◌, ◌<◌}
 use native.Mathlib.Omega.{arith}
+use lib.Count.{count_trailing_zeros}
+use Rattle.itemset.specs.declared.Items.{Items}
+use Rattle.itemset.specs.Items.{lowest}
+use Rattle.itemset.specs.Words.{value}
 use Rattle.itemset.proofs.Laws.{lowest_trailing}
-use Rattle.itemset.proofs.Lists.{value-next, value_one, lowest_words_lem, lowest_here, lowest-next}
-use Rattle.itemset.proofs.Three.{words, lowest-below}
+use Rattle.itemset.proofs.Lists.{value-next, value_one, lowest_words, lowest_words_lem, lowest_here, lowest-next}
+use Rattle.itemset.proofs.Three.{Known, words, known, lowest-below}
 use Rattle.itemset.proofs.lowest.Goals as goal
 
-pub returns-then-x-ne0-clause-value : goal.returns-then-x-ne0-clause-value
-returns-then-x-ne0-clause-value c = let l : 0 < c.args.x.w0 = omega (arith, c.if-x-ne0.true) in (lowest-below c.args.x c.struct_known-1.given c.requires
-    (lowest_trailing 64 c.args.x.w0 l c.struct_known-1.given.0.fits ∙ sym (lowest_words_lem (words c.args.x c.struct_known-1.given) c.requires ∙ lowest_here c.args.x.w0 (c.args.x.w1 ∷ c.args.x.w2 ∷ []) l))).0
+-- the lowest item by the first word that has one
+module _ (x : Items) (k : Known x) (h : 0 < value x) where
+  split : lowest (value x) ≡ lowest_words (x.w0 ∷ x.w1 ∷ x.w2 ∷ [])
+  split = lowest_words_lem (words x k) h
 
-pub returns-then-x-ne0-clause-upper_bound : goal.returns-then-x-ne0-clause-upper_bound
-returns-then-x-ne0-clause-upper_bound c = let l : 0 < c.args.x.w0 = omega (arith, c.if-x-ne0.true) in (lowest-below c.args.x c.struct_known-1.given c.requires
-    (lowest_trailing 64 c.args.x.w0 l c.struct_known-1.given.0.fits ∙ sym (lowest_words_lem (words c.args.x c.struct_known-1.given) c.requires ∙ lowest_here c.args.x.w0 (c.args.x.w1 ∷ c.args.x.w2 ∷ []) l))).1
+  in_first : 0 < x.w0 → count_trailing_zeros 64 x.w0 ≡ lowest (value x)
+  in_first l = omega (arith, split, lowest_trailing 64 x.w0 l k.0.fits, lowest_here x.w0 (x.w1 ∷ x.w2 ∷ []) l)
 
-pub returns-then-x-ne0-2-clause-value : goal.returns-then-x-ne0-2-clause-value
-returns-then-x-ne0-2-clause-value c = let l : 0 < c.args.x.w1 = omega (arith, c.if-x-ne0-2.true) in (lowest-below c.args.x c.struct_known-1.given c.requires
-    (ap (λ (n : ℕ). 64 + n) (lowest_trailing 64 c.args.x.w1 l c.struct_known-1.given.1.0.fits)
-    ∙ sym (lowest_words_lem (words c.args.x c.struct_known-1.given) c.requires ∙ lowest-next c.args.x.w0 (c.args.x.w1 ∷ c.args.x.w2 ∷ []) c.if-x-ne0.false
-    ∙ ap (λ (n : ℕ). 64 + n) (lowest_here c.args.x.w1 (c.args.x.w2 ∷ []) l)))).0
+  in_second : x.w0 ≡ 0 → 0 < x.w1 → 64 + count_trailing_zeros 64 x.w1 ≡ lowest (value x)
+  in_second e l =
+      omega (arith, split, lowest_trailing 64 x.w1 l k.1.0.fits, lowest-next x.w0 (x.w1 ∷ x.w2 ∷ []) e, lowest_here x.w1 (x.w2 ∷ []) l)
 
-pub returns-then-x-ne0-2-clause-upper_bound : goal.returns-then-x-ne0-2-clause-upper_bound
-returns-then-x-ne0-2-clause-upper_bound c = let l : 0 < c.args.x.w1 = omega (arith, c.if-x-ne0-2.true) in (lowest-below c.args.x c.struct_known-1.given c.requires
-    (ap (λ (n : ℕ). 64 + n) (lowest_trailing 64 c.args.x.w1 l c.struct_known-1.given.1.0.fits)
-    ∙ sym (lowest_words_lem (words c.args.x c.struct_known-1.given) c.requires ∙ lowest-next c.args.x.w0 (c.args.x.w1 ∷ c.args.x.w2 ∷ []) c.if-x-ne0.false
-    ∙ ap (λ (n : ℕ). 64 + n) (lowest_here c.args.x.w1 (c.args.x.w2 ∷ []) l)))).1
+  in_third : x.w0 ≡ 0 → x.w1 ≡ 0 → 128 + count_trailing_zeros 64 x.w2 ≡ lowest (value x)
+  in_third e f =
+      omega (arith, split, lowest_trailing 64 x.w2 l k.1.1.0.fits, lowest-next x.w0 (x.w1 ∷ x.w2 ∷ []) e, lowest-next x.w1 (x.w2 ∷ []) f, lowest_here x.w2 [] l)
+    where
+      l : 0 < x.w2
+      l = omega (arith, value_one x.w2, value-next x.w1 (x.w2 ∷ []) f (value-next x.w0 (x.w1 ∷ x.w2 ∷ []) e h))
 
-pub returns-clause-value : goal.returns-clause-value
-returns-clause-value c = let l : 0 < c.args.x.w2 = omega (arith, value_one c.args.x.w2, value-next c.args.x.w1 (c.args.x.w2 ∷ []) c.if-x-ne0-2.false (value-next c.args.x.w0 (c.args.x.w1 ∷ c.args.x.w2 ∷ []) c.if-x-ne0.false c.requires)) in (lowest-below c.args.x c.struct_known-1.given c.requires (omega (
-  arith,
-  lowest_trailing 64 c.args.x.w2 l c.struct_known-1.given.1.1.0.fits,
-  lowest_words_lem (words c.args.x c.struct_known-1.given) c.requires,
-  lowest-next c.args.x.w0 (c.args.x.w1 ∷ c.args.x.w2 ∷ []) c.if-x-ne0.false,
-  lowest-next c.args.x.w1 (c.args.x.w2 ∷ []) c.if-x-ne0-2.false,
-  lowest_here c.args.x.w2 [] l,
-))).0
+pub returns-then-x-ne0 : goal.returns-then-x-ne0
+returns-then-x-ne0 c = let k = known c.args.x c.well_formed.0 in
+    let r = lowest-below c.args.x k c.requires (in_first c.args.x k c.requires (omega (arith, c.if-x-ne0.true))) in record { value = r.0; upper_bound = r.1 }
 
-pub returns-clause-upper_bound : goal.returns-clause-upper_bound
-returns-clause-upper_bound c = let l : 0 < c.args.x.w2 = omega (arith, value_one c.args.x.w2, value-next c.args.x.w1 (c.args.x.w2 ∷ []) c.if-x-ne0-2.false (value-next c.args.x.w0 (c.args.x.w1 ∷ c.args.x.w2 ∷ []) c.if-x-ne0.false c.requires)) in (lowest-below c.args.x c.struct_known-1.given c.requires (omega (
-  arith,
-  lowest_trailing 64 c.args.x.w2 l c.struct_known-1.given.1.1.0.fits,
-  lowest_words_lem (words c.args.x c.struct_known-1.given) c.requires,
-  lowest-next c.args.x.w0 (c.args.x.w1 ∷ c.args.x.w2 ∷ []) c.if-x-ne0.false,
-  lowest-next c.args.x.w1 (c.args.x.w2 ∷ []) c.if-x-ne0-2.false,
-  lowest_here c.args.x.w2 [] l,
-))).1
+pub returns-then-x-ne0-2 : goal.returns-then-x-ne0-2
+returns-then-x-ne0-2 c = let k = known c.args.x c.well_formed.0 in
+    let r = lowest-below c.args.x k c.requires (in_second c.args.x k c.requires c.if-x-ne0.false (omega (arith, c.if-x-ne0-2.true))) in record { value = r.0; upper_bound = r.1 }
+
+pub returns : goal.returns
+returns c = let k = known c.args.x c.well_formed.0 in
+    let r = lowest-below c.args.x k c.requires (in_third c.args.x k c.requires c.if-x-ne0.false c.if-x-ne0-2.false) in record { value = r.0; upper_bound = r.1 }
