@@ -2,7 +2,7 @@
 // node included, are its support.
 #![tactic(auto)]
 
-ghost use Rattle.std.specs.Prelude.{◌≡◌, List, ℕ, ◌+◌, ◌<◌, length, get_or};
+ghost use Rattle.std.specs.Prelude.{◌≡◌, false, List, ℕ, ◌+◌, ◌<◌, length, get_or};
 ghost use Rattle.itemset.specs.Words.{value, sets_of};
 ghost use Rattle.zdd.specs.Table.{count, nodes_of};
 ghost use Rattle.exact_cover.specs.Problem.{problem_of};
@@ -12,10 +12,10 @@ ghost use Rattle.support.specs.Support.{Labelled, Supports};
 use itemset::Items;
 
 // The items of the packages on the nodes below a. One pass, from a down: children have smaller numbers, so that each node is marked before it is met.
-fn gather(packages: &[u64], t: &[u32], a: usize, marks: &mut [u8; 65536]) -> Items
+fn gather(packages: &[u64], t: &[u32], a: usize, marks: &mut [bool; 65536]) -> Items
     requires labelled { Labelled (sets_of packages.now) t.now }
     requires a_bound { a < count t.now + 2 }
-    requires marks_len { (length marks.old ≡ 65536) × ((k : ℕ) → get_or marks.old k 0 ≡ 0) }
+    requires marks_len { (length marks.old ≡ 65536) × ((k : ℕ) → get_or marks.old k false ≡ false) }
     ensures { Supports (sets_of packages.now) (nodes_of t.now) a (value result) }
 {
     let mut items = Items {
@@ -23,22 +23,18 @@ fn gather(packages: &[u64], t: &[u32], a: usize, marks: &mut [u8; 65536]) -> Ite
         w1: 0,
         w2: 0,
     };
-    let mut k = a;
-    marks[a] = 1;
-    while k > 1 {
-        if marks[k] == 0 {
-            k -= 1;
+    marks[a] = true;
+    for k in (2..=a).rev() {
+        if !marks[k] {
             continue;
         }
         let w = 3 * k - 5;
-        let p = base::wide(t[w]);
-        let lo = base::wide(t[w + 1]);
-        let hi = base::wide(t[w + 2]);
-        let x = exact_cover::items(packages, p);
-        items = itemset::union(items, x);
-        marks[lo] = 1;
-        marks[hi] = 1;
-        k -= 1;
+        let p = t[w] as usize;
+        let lo = t[w + 1] as usize;
+        let hi = t[w + 2] as usize;
+        items = itemset::union(items, exact_cover::items(packages, p));
+        marks[lo] = true;
+        marks[hi] = true;
     }
     items
 }
@@ -49,8 +45,8 @@ fn support(packages: &[u64], t: &[u32], a: u32) -> Items
     requires a_bound { a < count t.now + 2 }
     ensures { Supports (sets_of packages.now) (nodes_of t.now) a (value result) }
 {
-    let mut marks = [0u8; 65536];
-    gather(packages, t, base::wide(a), &mut marks)
+    let mut marks = [false; 65536];
+    gather(packages, t, a as usize, &mut marks)
 }
 
 // Whether some package on a node below a shares an item with one below b.

@@ -3,13 +3,17 @@ use mathlib.Core.Path.{◌≡◌, refl, sym, ap, ap₂, subst, ◌∙◌}
 use mathlib.Core.Bool.{Bool, true, false}
 use mathlib.Core.Logic.{◌⊎◌, inl, inr}
 use mathlib.Core.List.{List}
-use Prim.Native.Nat.{ℕ, suc, ◌+◌, ◌-◌, ◌*◌, ◌<◌, ◌≤◌}
+use Prim.Native.Nat.{ℕ, zero, suc, ◌+◌, ◌-◌, ◌*◌, ◌<◌, ◌≤◌}
 use native.Mathlib.Nat.{eq-or-lt_of_le}
 use native.Mathlib.Decide.{dec_lt}
 use native.Mathlib.Omega.{arith}
 use lib.Bits.{bit_or, or_add_and, and_le_l, and_le_r}
 use lib.Dec.{ltb, eqb}
-use lib.ListN.{length, get_or, get_or-eq_default}
+use lib.ListN.{length, get_or, get_or-eq_default, take, drop}
+use Rattle.std.proofs.lemmas.List.{take_all}
+use Rattle.std.proofs.lemmas.List.Sums.{fold_more}
+use lib.Seq.{get_or-drop}
+use Rattle.std.specs.List.{fold}
 use borrow.Author.Tests.{ltb-true, lt-ltb, eqb-true, eq-eqb}
 use Rattle.base.proofs.Bools.{never, is_false, same_test, cases}
 use Rattle.zdd.specs.Table.{Node, node, blank, count, nodes_of, key, Over, Fine, Sound, soundb}
@@ -37,57 +41,62 @@ tells_eqb a b = record { yes = eqb-true a b; no = λ e h. never (eq-eqb a b h) e
 
 -- ---- a node
 
--- the node at index i is x by the third word, once the first two are x's
-pub third : (t : List ℕ) (i w : ℕ) (x : Node) → i < count t → w ≡ 1 + 3 * i → get_or t w 0 ≡ x.label → get_or t (w + 1) 0 ≡ x.lo
-    → Tells (get_or (nodes_of t) i blank ≡ x) (eqb (get_or t (w + 2) 0) x.hi)
-third t i w x h e p q =
-    tells_same
-    (λ z. node_at_lem t i w h e ∙ (λ d. node (p d) (q d) (z d)))
-    (λ z. ap (λ (y : Node). y.hi) (sym (node_at_lem t i w h e) ∙ z))
-    (tells_eqb (get_or t (w + 2) 0) x.hi)
+-- the node at index i is that of its three words
+pub node_at : (t : List ℕ) (i : ℕ) → i < count t → get_or (nodes_of t) i blank ≡ at-word t (1 + 3 * i)
+node_at t i h = node_at_lem t i (1 + 3 * i) h refl
 
--- the label of a node
-pub label_at : (t : List ℕ) (i w : ℕ) → i < count t → w ≡ 1 + 3 * i → (get_or (nodes_of t) i blank).label ≡ get_or t w 0
-label_at t i w h e = ap (λ (y : Node). y.label) (node_at_lem t i w h e)
+-- it is x by the third word, once the first two are x's
+pub third : (t : List ℕ) (i : ℕ) (x : Node) → i < count t → get_or t (1 + 3 * i) 0 ≡ x.label → get_or t (1 + 3 * i + 1) 0 ≡ x.lo
+    → Tells (get_or (nodes_of t) i blank ≡ x) (eqb (get_or t (1 + 3 * i + 2) 0) x.hi)
+third t i x h p q =
+    tells_same
+    (λ z. node_at t i h ∙ (λ d. node (p d) (q d) (z d)))
+    (λ z. ap (λ (y : Node). y.hi) (sym (node_at t i h) ∙ z))
+    (tells_eqb (get_or t (1 + 3 * i + 2) 0) x.hi)
+
+-- its label
+pub label_at : (t : List ℕ) (i : ℕ) → i < count t → (get_or (nodes_of t) i blank).label ≡ get_or t (1 + 3 * i) 0
+label_at t i h = ap (λ (y : Node). y.label) (node_at t i h)
 
 -- a child c that is a node, by its key
-pub child : (K t : List ℕ) (i b c w l : ℕ) → i < count t → 2 ≤ c → c < i + 2 → w ≡ 1 + 3 * (c - 2) → l ≡ get_or t w 0
-    → Tells ((c < suc (suc i)) × Over K (nodes_of t) (suc b) c) (ltb b (key K l))
-child K t i b c w p h l u e d =
-    let q : (get_or (nodes_of t) (c - 2) blank).label ≡ p = label_at t (c - 2) w (omega arith) e ∙ sym d in
+pub child : (K t : List ℕ) (i b c : ℕ) → i < count t → 2 ≤ c → c < i + 2
+    → Tells ((c < suc (suc i)) × Over K (nodes_of t) (suc b) c) (ltb b (key K (get_or t (1 + 3 * (c - 2)) 0)))
+child K t i b c h l u =
+    let q = label_at t (c - 2) (omega arith) in
     tells_same
     (λ z. (omega arith, over-of-key K (nodes_of t) (suc b) c (λ v. subst (λ (v : ℕ). b < key K v) (sym q) z)))
     (λ z. subst (λ (v : ℕ). b < key K v) q (key-of-over K (nodes_of t) (suc b) c z.1 l))
-    (tells_ltb b (key K p))
+    (tells_ltb b (key K (get_or t (1 + 3 * (c - 2)) 0)))
 
 -- 0 and 1 may be children of each node
 pub leaf : (K : List ℕ) (ns : List Node) (i b c : ℕ) → c < 2 → (c < suc (suc i)) × Over K ns b c
 leaf K ns i b c h = (omega arith, over-of-key K ns b c (λ v. absurd (omega arith)))
 
 -- what the two children's tests say of the node at index i
-module _ (K t : List ℕ) (i w : ℕ) (h : i < count t) (e : w ≡ 1 + 3 * i) where
+module _ (K t : List ℕ) (i : ℕ) (h : i < count t) where
   abbrev NodeFits : Type 0
   NodeFits = Fine K (nodes_of t) i (get_or (nodes_of t) i blank)
 
   abbrev ChildFits : ℕ → Type 0
-  ChildFits c = (c < suc (suc i)) × Over K (nodes_of t) (suc (key K (get_or t w 0))) c
+  ChildFits c = (c < suc (suc i)) × Over K (nodes_of t) (suc (key K (get_or t (1 + 3 * i) 0))) c
 
-  to_words : NodeFits → Fine K (nodes_of t) i (at-word t w)
-  to_words f = subst (λ (x : Node). Fine K (nodes_of t) i x) (node_at_lem t i w h e) f
+  to_words : NodeFits → Fine K (nodes_of t) i (at-word t (1 + 3 * i))
+  to_words f = subst (λ (x : Node). Fine K (nodes_of t) i x) (node_at t i h) f
 
-  pub no_label : length K ≤ get_or t w 0 → Tells NodeFits false
+  pub no_label : length K ≤ get_or t (1 + 3 * i) 0 → Tells NodeFits false
   no_label q = tells_no (λ f. omega (arith, (to_words f).label-known))
 
-  pub no_hi : get_or t (w + 2) 0 ≡ 0 → Tells NodeFits false
+  pub no_hi : get_or t (1 + 3 * i + 2) 0 ≡ 0 → Tells NodeFits false
   no_hi q = tells_no (λ f. omega (arith, (to_words f).hi-some))
 
-  pub no_lo : (ChildFits (get_or t (w + 1) 0) → ⊥) → Tells NodeFits false
+  pub no_lo : (ChildFits (get_or t (1 + 3 * i + 1) 0) → ⊥) → Tells NodeFits false
   no_lo q = tells_no (λ f. q ((to_words f).lo-below, (to_words f).lo_after))
 
-  pub by_hi : {r : Bool} → get_or t w 0 < length K → 0 < get_or t (w + 2) 0 → ChildFits (get_or t (w + 1) 0) → Tells (ChildFits (get_or t (w + 2) 0)) r → Tells NodeFits r
+  pub by_hi : {r : Bool} → get_or t (1 + 3 * i) 0 < length K → 0 < get_or t (1 + 3 * i + 2) 0 → ChildFits (get_or t (1 + 3 * i + 1) 0)
+      → Tells (ChildFits (get_or t (1 + 3 * i + 2) 0)) r → Tells NodeFits r
   by_hi a b l d =
       tells_same
-      (λ z. subst (λ (x : Node). Fine K (nodes_of t) i x) (sym (node_at_lem t i w h e))
+      (λ z. subst (λ (x : Node). Fine K (nodes_of t) i x) (sym (node_at t i h))
       (record { label-known = a; lo-below = l.0; hi-below = z.0; hi-some = b; lo_after = l.1; hi_after = z.1 }))
       (λ f. ((to_words f).hi-below, (to_words f).hi_after))
       d
@@ -124,6 +133,20 @@ zeros_tell {t} {w} {j} {any} c h = tells_same (λ z k a. go z k a (dec_lt k j)) 
     go : any ≡ 0 → (k : ℕ) → w ≤ k → Dec (k < j) → get_or t k 0 ≡ 0
     go z k a (yes l) = c.clear z k a l
     go z k a (no g) = get_or-eq_default t 0 (omega arith)
+
+-- the first j words, or-ed one after the other
+zeros_fold : (ws : List ℕ) (j : ℕ) → j ≤ length ws → ZerosTo ws 0 j (fold bit_or 0 (take j ws))
+zeros_fold ws zero h = zeros-none ws 0
+zeros_fold ws (suc j) h =
+    let e : suc j ≡ j + 1 = omega arith in
+    let m = fold_more bit_or 0 ws j 0 (omega arith) in
+    rw (e, m) (zeros-more (zeros_fold ws j (omega arith)))
+
+-- all of them
+pub all_zeros : (ws : List ℕ) → Tells ((k : ℕ) → get_or ws k 0 ≡ 0) (eqb (fold bit_or 0 ws) 0)
+all_zeros ws =
+    let z = subst (ZerosTo ws 0 (length ws)) (ap (fold bit_or 0) (take_all (length ws) ws (omega arith))) (zeros_fold ws (length ws) (omega arith)) in
+    tells_same (λ f k. f k (omega arith)) (λ f k _. f k) (zeros_tell z (omega arith))
 
 -- ---- a node joins the index
 
@@ -195,7 +218,7 @@ not-once {K} {t} {index} {i} {r} h n y s =
 
 -- the nodes passed, the words behind them decide
 pub decided : {K t index : List ℕ} {i w : ℕ} {r : Bool} → NodesPassed K t i index → Room t → count t ≤ i → w ≡ 3 * count t + 1
-    → Tells ((j : ℕ) → w ≤ j → get_or t j 0 ≡ 0) r → Checked K t index r
+    → Tells ((j : ℕ) → get_or (drop w t) j 0 ≡ 0) r → Checked K t index r
 decided {K} {t} {index} {i} {w} {r} p room all e d = record {
   says = same_test r (soundb K t) (λ z. sound_test K t (sound z)) (λ z. kept z (cases r));
   indexed = λ z. record { room = room; entries = subst (λ (m : ℕ). IndexedTo (nodes_of t) (m + 2) index) whole p.entries };
@@ -212,9 +235,9 @@ decided {K} {t} {index} {i} {w} {r} p room all e d = record {
         each = λ j h. p.each j (omega (arith, length-nodes t));
         once = λ j k a b. p.once j k (omega (arith, length-nodes t)) (omega (arith, length-nodes t));
       };
-      rest = λ j h. d.yes z j (omega arith);
+      rest = λ j h. let q : w + (j - w) ≡ j = omega arith in ap (λ (k : ℕ). get_or t k 0) (sym q) ∙ sym (get_or-drop w t (j - w) 0) ∙ d.yes z (j - w);
     }
 
     kept : soundb K t ≡ true → (r ≡ true) ⊎ (r ≡ false) → r ≡ true
     kept z (inl y) = y
-    kept z (inr n) = absurd (d.no n (λ j h. (sound_of K t z).rest j (omega arith)))
+    kept z (inr n) = absurd (d.no n (λ j. get_or-drop w t j 0 ∙ (sound_of K t z).rest (w + j) (omega arith)))

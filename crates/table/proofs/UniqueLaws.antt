@@ -13,7 +13,7 @@ use Rattle.zdd.proofs.Words.{length-nodes, Appended, appended_nodes, appended_so
 use Rattle.zdd.specs.Work.{Got}
 use Rattle.zdd.proofs.Got.{got_eq, got_there, got_made, got_full}
 use Rattle.buckets.specs.Chain.{inserted}
-use Rattle.table.specs.State.{hash_of, Room, IndexedTo, Indexed, Found, Absent, May, Unique}
+use Rattle.table.specs.State.{hash_of, Room, IndexedTo, Indexed, Found, Absent, Appends, May, Unique}
 use Rattle.table.proofs.IndexLaws as indexed
 use Rattle.table.proofs.GrownLaws.{grown_refl, grown_append}
 
@@ -65,8 +65,17 @@ made_old {t} {index} {x} {r} d f p K m =
 
 -- ---- the node is appended
 
+-- what append stores is the node behind the others
+appended_stores : {t : List ℕ} (x : Node) → 3 * count t + 3 < length t
+    → Appended t x (set (set (set (set t (3 * count t + 1) x.label) (3 * count t + 2) x.lo) (3 * count t + 3) x.hi) 0 (count t + 1))
+appended_stores {t} x room =
+    stored t x (3 * count t + 1) (3 * count t + 2) (3 * count t + 3) (count t + 1) (omega arith) (omega arith) (omega arith) (omega arith) (omega arith)
+
+pub appended_by : {t t' index' : List ℕ} {x : Node} {r : ℕ} → Appends t t' index' x r → 3 * count t + 3 < length t → Appended t x t'
+appended_by {t} {t'} {index'} {x} {r} d room = subst⁻¹ (λ (ws : List ℕ). Appended t x ws) d.words (appended_stores x room)
+
 -- the index of the longer table
-pub indexed_more : {t t' index : List ℕ} {x : Node} (h m : ℕ) → Appended t x t' → Indexed t index
+indexed_more : {t t' index : List ℕ} {x : Node} (h m : ℕ) → Appended t x t' → Indexed t index
     → count t < 65534 → 3 * count t + 3 < length t → h < 65536 → h ≡ hash_of x → m ≡ count t + 2
     → Indexed t' (inserted 65536 h m index)
 indexed_more {t} {t'} {index} {x} h m p d few fit lt q e =
@@ -79,28 +88,29 @@ indexed_more {t} {t'} {index} {x} h m p d few fit lt q e =
           (get_or_at (nodes_of t) x [] blank (count t) (length-nodes t))));
     }
 
-pub made_new : {t t' index' : List ℕ} {x : Node} (r : ℕ) → Appended t x t' → count t < 65534 → 3 * count t + 3 < length t
-    → Absent t x → Indexed t' index' → r ≡ count t + 2
+-- the stores of append, as the code makes them
+pub appends : {t index : List ℕ} (x : Node) (h : ℕ) → Indexed t index → h < 65536 → h ≡ hash_of x → (count t < 65534) × (3 * count t + 3 < length t)
+    → Appends t (set (set (set (set t (3 * count t + 1) x.label) (3 * count t + 2) x.lo) (3 * count t + 3) x.hi) 0 (count t + 1)) (inserted 65536 h (count t + 2) index) x (count t + 2)
+appends {t} {index} x h d lt q room = record {
+  number = refl;
+  words = refl;
+  indexed = indexed_more h (count t + 2) (appended_stores x room.1) d room.0 room.1 lt q refl;
+}
+
+pub made_new : {t t' index' : List ℕ} {x : Node} {r : ℕ} → Absent t x → (count t < 65534) × (3 * count t + 3 < length t) → Appends t t' index' x r
     → Unique t t' index' x r
-made_new {t} {t'} {index'} {x} r p few room a d e K m =
-    let z : suc (suc (length (nodes_of t))) ≡ r = omega (arith, length-nodes t) in
+made_new {t} {t'} {index'} {x} {r} a room d K m =
+    let p = appended_by d room.1 in
+    let z : suc (suc (length (nodes_of t))) ≡ r = omega (arith, length-nodes t, d.number) in
     let F : Family = fork x.label (family (nodes_of t) x.hi) (family (nodes_of t) x.lo) in
     record {
-      grown = grown_append p (appended_sound m.sound p (omega arith) few m.fine a);
-      indexed = d;
+      grown = grown_append p (appended_sound m.sound p (omega (arith, room.1)) room.0 m.fine a);
+      indexed = d.indexed;
       gained = record {
         got = λ n.
             subst⁻¹ (λ (ns : List Node). Got K (capacity t) (nodes_of t) false r ns false F) (appended_nodes p)
             (subst (λ (k : ℕ). Got K (capacity t) (nodes_of t) false k (nodes_of t ++ (x ∷ [])) false F) z
             (got_made (capacity t) m.sound.nodes x (next_fine m) (λ i h. a i (omega (arith, length-nodes t)))));
-        full = λ q. absurd (omega arith);
+        full = λ q. absurd (omega (arith, d.number));
       };
     }
-
--- the stores of make, as the code makes them
-pub made-stored : {t index : List ℕ} {x : Node} (a h m r : ℕ) → Indexed t index → Absent t x → count t < 65534 → 3 * count t + 3 < length t
-    → h < 65536 → h ≡ hash_of x → a ≡ 3 * count t → m ≡ count t + 2 → r ≡ count t + 2
-    → Unique t (set (set (set (set t (a + 1) x.label) (a + 2) x.lo) (a + 3) x.hi) 0 (count t + 1)) (inserted 65536 h m index) x r
-made-stored {t} {index} {x} a h m r d b few room lt q ea em er =
-    let p = stored t x (a + 1) (a + 2) (a + 3) (count t + 1) (omega arith) (omega arith) (omega arith) (omega arith) (omega arith) in
-    made_new r p few room b (indexed_more h m p d few room lt q em) er

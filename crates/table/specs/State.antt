@@ -1,5 +1,5 @@
 -- What the functions over a node table ask and ensure: the index of its nodes, the soundness test, find or make, and growth. Assumes nothing.
-use Rattle.std.specs.Prelude.{◌≡◌, Bool, true, false, List, ℕ, ◌+◌, ◌-◌, ◌*◌, ◌/◌, ◌%◌, ◌<◌, ◌≤◌, length, get_or, take}
+use Rattle.std.specs.Prelude.{◌≡◌, Bool, true, false, List, ℕ, ◌+◌, ◌-◌, ◌*◌, ◌/◌, ◌%◌, ◌<◌, ◌≤◌, length, get_or, set, take}
 use Rattle.zdd.specs.Table.{Node, Family, blank, fork, count, capacity, nodes_of, family, Fine, Sound, soundb}
 use Rattle.zdd.specs.Branches.{missing}
 use Rattle.zdd.specs.Work.{Gained}
@@ -74,6 +74,12 @@ pub record Grown (K t t' : List ℕ) : Type 0 where
 -- no node of t is x
 abbrev pub Absent : List ℕ → Node → Type 0
 Absent t x = (i : ℕ) → i < count t → get_or (nodes_of t) i blank ≡ x → ⊥
+
+-- t' is t with the node x in the words behind its nodes, and r is its number
+pub record Appends (t t' index' : List ℕ) (x : Node) (r : ℕ) : Type 0 where
+  pub number : r ≡ count t + 2
+  pub words : t' ≡ set (set (set (set t (3 * count t + 1) x.label) (3 * count t + 2) x.lo) (3 * count t + 3) x.hi) 0 (count t + 1)
+  pub indexed : Indexed t' index'
 
 -- t is sound, and x may be its next node
 pub record May (K t : List ℕ) (x : Node) : Type 0 where

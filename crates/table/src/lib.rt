@@ -3,7 +3,7 @@
 
 ghost use Rattle.std.specs.Prelude.{◌≡◌, ℕ, suc, ◌+◌, ◌-◌, ◌*◌, ◌<◌, ◌≤◌, length, get_or, set};
 ghost use Rattle.zdd.specs.Table.{node, blank, count, nodes_of, Over, Fine};
-ghost use Rattle.table.specs.State.{Tells, hash_of, Room, Fresh, IndexedTo, Indexed, Found, Labelled, Entered, Checked, Absent, Unique, Rolled};
+ghost use Rattle.table.specs.State.{Tells, hash_of, Room, Fresh, IndexedTo, Indexed, Found, Labelled, Entered, Checked, Absent, Appends, Unique, Rolled};
 
 // The bucket of a triple: bits 16 to 31 of the sum, on which the low bits of all three numbers have their effect.
 pub fn hash(label: u32, lo: u32, hi: u32) -> usize
@@ -20,13 +20,7 @@ fn is_node(t: &[u32], i: usize, label: u32, lo: u32, hi: u32) -> bool
     ensures { Tells (get_or (nodes_of t.now) i blank ≡ node label lo hi) result }
 {
     let w = 1 + 3 * i;
-    if t[w] != label {
-        return false;
-    }
-    if t[w + 1] != lo {
-        return false;
-    }
-    t[w + 2] == hi
+    t[w] == label && t[w + 1] == lo && t[w + 2] == hi
 }
 
 // The number below m of the node that is the triple, whose bucket is h; or 0. (m is for the contract alone.)
@@ -63,14 +57,14 @@ fn child_fits(t: &[u32], keys: &[u32], i: usize, key: u32, c: u32) -> bool
     requires labelled { Labelled keys.now (nodes_of t.now) i }
     ensures { Tells ((c < suc (suc i)) × Over keys.now (nodes_of t.now) (suc key) c) result }
 {
-    let k = base::wide(c);
+    let k = c as usize;
     if k >= i + 2 {
         return false;
     }
     if k < 2 {
         return true;
     }
-    let label = base::wide(t[1 + 3 * (k - 2)]);
+    let label = t[1 + 3 * (k - 2)] as usize;
     key < keys[label]
 }
 
@@ -82,20 +76,14 @@ fn node_fits(t: &[u32], keys: &[u32], i: usize) -> bool
     ensures { Tells (Fine keys.now (nodes_of t.now) i (get_or (nodes_of t.now) i blank)) result }
 {
     let w = 1 + 3 * i;
-    let label = base::wide(t[w]);
+    let label = t[w] as usize;
     if label >= keys.len() {
         return false;
     }
     let key = keys[label];
     let lo = t[w + 1];
     let hi = t[w + 2];
-    if hi == 0 {
-        return false;
-    }
-    if !child_fits(t, keys, i, key, lo) {
-        return false;
-    }
-    child_fits(t, keys, i, key, hi)
+    hi != 0 && child_fits(t, keys, i, key, lo) && child_fits(t, keys, i, key, hi)
 }
 
 // The node at index i goes into the index of those before it; false where one of those is the same.
@@ -117,17 +105,11 @@ fn enter(t: &[u32], index: &mut [u16; 131072], i: usize) -> bool
     true
 }
 
-// Whether the words from w on are 0. (It reads all of them, without an early end, so that several are read at a time.)
-fn zeros(t: &[u32], w: usize) -> bool
-    ensures { Tells ((j : ℕ) → w ≤ j → get_or t.now j 0 ≡ 0) result }
+// Whether the words are all 0. (It reads all of them, without an early end, so that several are read at a time.)
+fn zeros(words: &[u32]) -> bool
+    ensures { Tells ((j : ℕ) → get_or words.now j 0 ≡ 0) result }
 {
-    let mut any: u32 = 0;
-    let mut j = w;
-    while j < t.len() {
-        any = any | t[j];
-        j += 1;
-    }
-    any == 0
+    words.iter().fold(0, |any, word| any | *word) == 0
 }
 
 // Whether the words are a sound table over the keys; if so, the index has its nodes. It comes with zeros only.
@@ -135,50 +117,66 @@ pub fn check(t: &[u32], keys: &[u32], index: &mut [u16; 131072]) -> bool
     requires { Fresh index.old }
     ensures { Checked keys.now t.now index.new result }
 {
-    if t.len() == 0 {
+    if t.is_empty() {
         return false;
     }
-    let n = base::wide(t[0]);
+    let n = t[0] as usize;
     if n > 65534 {
         return false;
     }
     if 3 * n >= t.len() {
         return false;
     }
-    let mut i: usize = 0;
-    while i < n {
+    for i in 0..n {
         if !node_fits(t, keys, i) {
             return false;
         }
         if !enter(t, index, i) {
             return false;
         }
-        i += 1;
     }
-    zeros(t, 3 * n + 1)
+    zeros(&t[3 * n + 1..])
 }
 
-// One more node, the triple, whose bucket is h; 0 where there is no room.
+// One more node, the triple, whose bucket is h: its number. There is room.
+pub fn append(
+    t: &mut [u32],
+    index: &mut [u16; 131072],
+    h: usize,
+    label: u32,
+    lo: u32,
+    hi: u32,
+) -> u32
+    requires indexed { Indexed t.old index.old }
+    requires h_value { (h ≡ hash_of (node label lo hi)) × (h < 65536) }
+    requires room { (count t.old < 65534) × (3 * count t.old + 3 < length t.old) }
+    ensures { Appends t.old t.new index.new (node label lo hi) result }
+{
+    let n = t[0];
+    let w = 3 * n as usize;
+    t[w + 1] = label;
+    t[w + 2] = lo;
+    t[w + 3] = hi;
+    t[0] = n + 1;
+    buckets::insert(index, 65536, h, (n + 2) as u16);
+    n + 2
+}
+
+// The same; 0 where there is no room.
 fn make(t: &mut [u32], index: &mut [u16; 131072], h: usize, label: u32, lo: u32, hi: u32) -> u32
     requires indexed { Indexed t.old index.old }
     requires h_value { (h ≡ hash_of (node label lo hi)) × (h < 65536) }
     requires absent { Absent t.old (node label lo hi) }
     ensures { Unique t.old t.new index.new (node label lo hi) result }
 {
-    let n = t[0];
+    let n = t[0] as usize;
     if n >= 65534 {
         return 0;
     }
-    let a = 3 * base::wide(n);
-    if t.len() <= a + 3 {
+    if t.len() <= 3 * n + 3 {
         return 0;
     }
-    t[a + 1] = label;
-    t[a + 2] = lo;
-    t[a + 3] = hi;
-    t[0] = n + 1;
-    buckets::insert(index, 65536, h, (n + 2) as u16);
-    n + 2
+    append(t, index, h, label, lo, hi)
 }
 
 // The number of the triple, found or made; 0 where it is not there and there is no room.
@@ -187,7 +185,7 @@ pub fn unique(t: &mut [u32], index: &mut [u16; 131072], label: u32, lo: u32, hi:
     ensures { Unique t.old t.new index.new (node label lo hi) result }
 {
     let h = hash(label, lo, hi);
-    let m = base::wide(t[0]) + 2;
+    let m = t[0] as usize + 2;
     let old = find(t, index, m, h, label, lo, hi);
     if old != 0 {
         return old;
@@ -200,11 +198,10 @@ pub fn rollback(t: &mut [u32], n: u32)
     requires { Room t.old }
     ensures { Rolled t.old n t.new }
 {
-    let end = 3 * base::wide(t[0]);
-    let mut j = 3 * base::wide(n) + 1;
-    while j <= end {
-        t[j] = 0;
-        j += 1;
+    let start = 3 * n as usize + 1;
+    let end = 3 * t[0] as usize + 1;
+    if start < end {
+        t[start..end].fill(0);
     }
     t[0] = n;
 }

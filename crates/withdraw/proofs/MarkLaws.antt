@@ -162,13 +162,12 @@ pub record Marking (gone t answers work₀ : List ℕ) (i : ℕ) (work : List �
   pub low : i ≤ count t
   pub marks : MarkedFrom gone (nodes_of t) answers i work
 
-pub marking_start : (gone : List ℕ) {t answers work : List ℕ} {m : ℕ} (i : ℕ) → i ≡ count t → m ≡ count t + 2
-    → ListedTo answers m (length answers) work → Marking gone t answers work i work
-marking_start gone {t} {answers} {work} {m} i e q s = record {
+pub marking_start : (gone : List ℕ) {t answers work : List ℕ} → ListedTo answers (count t + 2) (length answers) work → Marking gone t answers work (count t) work
+marking_start gone {t} {answers} {work} s = record {
   same = refl;
   many = omega (arith, s.many);
   low = omega arith;
-  marks = mark_start gone (nodes_of t) (omega (arith, length-nodes t)) s i (omega (arith, length-nodes t));
+  marks = mark_start gone (nodes_of t) (omega (arith, length-nodes t)) s (count t) (omega (arith, length-nodes t));
 }
 
 -- the turn for the node at index j
@@ -195,8 +194,16 @@ module _ {K gone t answers work₀ work : List ℕ} {i : ℕ} (s : Sound K t) (m
   }
 
   -- it is, and the code reads its label and lo
-  module _ (z : get_or work (j + 2) 0 ≡ 0 → ⊥) {names : List ℕ} (ns : Names gone (length K) names) {label lo : ℕ} (el : label ≡ get_or t (1 + 3 * j) 0)
-      (eo : lo ≡ get_or t (1 + 3 * j + 1) 0) where
+  module _ (z : get_or work (j + 2) 0 ≡ 0 → ⊥) {names : List ℕ} (ns : Names gone (length K) names) where
+    abbrev label : ℕ
+    label = get_or t (1 + 3 * j) 0
+
+    abbrev lo : ℕ
+    lo = get_or t (1 + 3 * j + 1) 0
+
+    abbrev hi : ℕ
+    hi = get_or t (1 + 3 * j + 2) 0
+
     here : get_or (nodes_of t) j blank ≡ at-word t (1 + 3 * j)
     here = node_at_lem t j (1 + 3 * j) (omega (arith, m.low)) refl
 
@@ -204,10 +211,10 @@ module _ {K gone t answers work₀ work : List ℕ} {i : ℕ} (s : Sound K t) (m
     pos = omega (arith, z, ap (λ (n : ℕ). get_or work n 0) place)
 
     same-lo : (get_or (nodes_of t) j blank).lo ≡ lo
-    same-lo = ap (λ (x : Node). x.lo) here ∙ sym eo
+    same-lo = ap (λ (x : Node). x.lo) here
 
     same-label : (get_or (nodes_of t) j blank).label ≡ label
-    same-label = ap (λ (x : Node). x.label) here ∙ sym el
+    same-label = ap (λ (x : Node). x.label) here
 
     known : (get_or (nodes_of t) j blank).label < length K
     known = (s.nodes.each j w).label-known
@@ -232,27 +239,26 @@ module _ {K gone t answers work₀ work : List ℕ} {i : ℕ} (s : Sound K t) (m
             by_test (has (get_or (nodes_of t) j blank).label gone) (λ q. q)
             (λ q. absurd (omega (arith, ns.stays_rank (get_or (nodes_of t) j blank).label known q, ap (λ (n : ℕ). get_or names n 0) same-label)))
 
-    module _ {hi : ℕ} (eh : hi ≡ get_or t (1 + 3 * j + 2) 0) where
-      same-hi : (get_or (nodes_of t) j blank).hi ≡ hi
-      same-hi = ap (λ (x : Node). x.hi) here ∙ sym eh
+    same-hi : (get_or (nodes_of t) j blank).hi ≡ hi
+    same-hi = ap (λ (x : Node). x.hi) here
 
-      pub hi_in : hi < length work
-      hi_in = omega (arith, (s.nodes.each j w).hi-below, same-hi, far)
+    pub hi_in : hi < length work
+    hi_in = omega (arith, (s.nodes.each j w).hi-below, same-hi, far)
 
-      pub marking_both : (get_or names label 0 ≡ 0 → ⊥) → Marking gone t answers work₀ j (set (set work lo 1) hi 1)
-      marking_both y = record {
-        same = length-set (set work lo 1) hi 1 ∙ length-set work lo 1 ∙ m.same;
-        many = omega (arith, m.many, length-set work lo 1, length-set (set work lo 1) hi 1);
-        low = omega (arith, m.low);
-        marks = subst (λ (c : ℕ). MarkedFrom gone (nodes_of t) answers j (set (set work lo 1) c 1)) same-hi
-            (subst (λ (c : ℕ). MarkedFrom gone (nodes_of t) answers j (set (set work c 1) (get_or (nodes_of t) j blank).hi 1)) same-lo
-            (mark-both s.nodes w far down pos stays_here));
-      }
-        where
-          stays_here : has (get_or (nodes_of t) j blank).label gone ≡ false
-          stays_here =
-              is_false (has (get_or (nodes_of t) j blank).label gone)
-              (λ q. y (ap (λ (n : ℕ). get_or names n 0) (sym same-label) ∙ ns.gone_zero (get_or (nodes_of t) j blank).label known q))
+    pub marking_both : (get_or names label 0 ≡ 0 → ⊥) → Marking gone t answers work₀ j (set (set work lo 1) hi 1)
+    marking_both y = record {
+      same = length-set (set work lo 1) hi 1 ∙ length-set work lo 1 ∙ m.same;
+      many = omega (arith, m.many, length-set work lo 1, length-set (set work lo 1) hi 1);
+      low = omega (arith, m.low);
+      marks = subst (λ (c : ℕ). MarkedFrom gone (nodes_of t) answers j (set (set work lo 1) c 1)) same-hi
+          (subst (λ (c : ℕ). MarkedFrom gone (nodes_of t) answers j (set (set work c 1) (get_or (nodes_of t) j blank).hi 1)) same-lo
+          (mark-both s.nodes w far down pos stays_here));
+    }
+      where
+        stays_here : has (get_or (nodes_of t) j blank).label gone ≡ false
+        stays_here =
+            is_false (has (get_or (nodes_of t) j blank).label gone)
+            (λ q. y (ap (λ (n : ℕ). get_or names n 0) (sym same-label) ∙ ns.gone_zero (get_or (nodes_of t) j blank).label known q))
 
 -- the new numbers of 0 and 1
 pub mark-ends : {gone t answers work₀ marks : List ℕ} {i : ℕ} (work : List ℕ) → length work₀ ≡ length work → Marking gone t answers work₀ i marks

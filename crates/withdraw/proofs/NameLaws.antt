@@ -1,12 +1,13 @@
 -- The loops that name the labels. Assumes nothing.
-use mathlib.Core.Path.{◌≡◌, refl, sym, ap, ◌∙◌}
+use mathlib.Core.Path.{◌≡◌, refl, sym, ap, ◌∙◌, subst⁻¹}
 use mathlib.Core.Bool.{true, false}
 use mathlib.Core.List.{List}
 use Prim.Native.Nat.{ℕ, suc, ◌+◌, ◌≤◌, ◌<◌}
 use native.Mathlib.Nat.{not-suc-le-zero}
 use native.Mathlib.Decide.{ℕ_discrete}
 use native.Mathlib.Omega.{arith}
-use lib.ListN.{length, get_or, set, length-set, replicate, length-replicate}
+use lib.ListN.{length, get_or, set, length-set, replicate, take}
+use Rattle.std.proofs.lemmas.List.{take-replicate}
 use lib.Seq.{get_or-set_same, get_or-set_other}
 use Rattle.base.proofs.Bools.{never, clash, by_test, is_false}
 use Rattle.base.proofs.Lists.{nth_member, member_nth}
@@ -19,9 +20,11 @@ use Rattle.withdraw.specs.State.{Names, Struck, NumberedTo}
 
 -- ---- strike
 
--- a new array of zeros
-pub struck_start : (gone : List ℕ) (n m : ℕ) → n ≤ m → Struck gone 0 n (replicate m 0)
-struck_start gone n m h = record { many = omega (arith, length-replicate {A = ℕ} m 0); ones = λ i l. absurd (not-suc-le-zero l); zeros = λ p l _. zeros m p }
+-- the first n words of a new array of zeros
+pub struck_start : (gone : List ℕ) (n m : ℕ) → n ≤ m → Struck gone 0 (length {A = ℕ} (take n (replicate m 0))) (take n (replicate m 0))
+struck_start gone n m h =
+    subst⁻¹ (λ (names : List ℕ). Struck gone 0 (length names) names) (take-replicate n m 0 h)
+    (record { many = omega arith; ones = λ i l. absurd (not-suc-le-zero l); zeros = λ p l _. zeros n p })
 
 pub struck_more : {gone : List ℕ} {n : ℕ} {names : List ℕ} (j p : ℕ) → p ≡ get_or gone j 0 → p < length names → Struck gone j n names → Struck gone (j + 1) n (set names p 1)
 struck_more {gone} {n} {names} j p e h s = record {

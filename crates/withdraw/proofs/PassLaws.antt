@@ -9,15 +9,14 @@ use lib.ListN.{length, get_or, set, length-set}
 use lib.Seq.{ext_get_or, get_or-set_same, get_or-set_other, set-set, set-get_or}
 use Rattle.zdd.specs.Table.{Node, node, blank, count, nodes_of, family, Fine, Nodes, Sound, ◌∈◌}
 use Rattle.zdd.proofs.Words.{at-word, node_at_lem, length-nodes}
-use Rattle.base.specs.Words.{Wiped}
-use Rattle.base.proofs.Wiping.{cleared_reads}
 use Rattle.table.specs.State.{Fresh, IndexedTo}
 use Rattle.table.proofs.IndexLaws as laws
+use Rattle.table.proofs.RollLaws.{WipedFrom}
 use Rattle.zdd.specs.Below.{Below}
 use Rattle.zdd.specs.Withdrawal.{Shorter}
 use Rattle.base.proofs.Lists.{nth_member}
 use Rattle.withdraw.specs.Withdrawal.{Within, Withdrawn}
-use Rattle.withdraw.specs.State.{Names, Ready, Renewed, Renewal, Passed, Passing, Zeroed, ReplacedTo, Small, Roomy}
+use Rattle.withdraw.specs.State.{Names, Ready, Renewed, Renewal, Passed, Passing, ReplacedTo, Small, Roomy}
 use Rattle.withdraw.proofs.Steps.{pass_start, pass-unmarked, pass_renewed}
 use Rattle.withdraw.proofs.Finish.{holds, needed}
 
@@ -64,9 +63,9 @@ module _ {gone K t₀ marks t index f : List ℕ} {i : ℕ} (s : Sound K t₀) (
   pub roomy : Roomy t
   roomy = record { fit = omega (arith, few_new, p.long, s.room); few = omega (arith, few_new, s.few) }
 
-  pub passing_skip : (k : ℕ) → k ≡ i + 2 → get_or f k 0 ≡ 0 → Passing gone K t₀ marks (i + 1) t index f
-  passing_skip k e z =
-      let y : suc (suc i) ≡ k = omega arith in
+  pub passing_skip : get_or f (i + 2) 0 ≡ 0 → Passing gone K t₀ marks (i + 1) t index f
+  passing_skip z =
+      let y : suc (suc i) ≡ i + 2 = omega arith in
       record {
         pass = subst (λ (n : ℕ). Passed gone K (nodes_of t₀) marks n (nodes_of t) f) next-index
             (pass-unmarked s.nodes p.pass w far (ap (λ (n : ℕ). get_or f n 0) y ∙ z));
@@ -112,24 +111,24 @@ module _ {gone K t₀ marks t index f : List ℕ} {i : ℕ} (s : Sound K t₀) (
     hi_small =
         omega (arith, p.pass.below (get_or t (a + 2) 0) (omega (arith, fine.hi-below, same-hi)), length-nodes t, few_new, s.few)
 
-    pub passing_more : (names : List ℕ) → Names gone (length K) names → {t' index' : List ℕ} (k r name lo hi : ℕ) → k ≡ i + 2 → (get_or f k 0 ≡ 0 → ⊥)
-        → name ≡ get_or names (get_or t a 0) 0 → lo ≡ get_or f (get_or t (a + 1) 0) 0 → hi ≡ get_or f (get_or t (a + 2) 0) 0
-        → Renewal name lo hi t t' index' r → Passing gone K t₀ marks (i + 1) t' index' (set f k r)
-    passing_more names n {t'} {index'} k r name lo hi e z en el eh c = record {
-      pass = subst (λ (m : ℕ). Passed gone K (nodes_of t₀) marks m (nodes_of t') (set f k r)) next-index
+    pub passing_more : (names : List ℕ) → Names gone (length K) names → {t' index' : List ℕ} (r : ℕ) → (get_or f (i + 2) 0 ≡ 0 → ⊥)
+        → Renewal (get_or names (get_or t a 0) 0) (get_or f (get_or t (a + 1) 0) 0) (get_or f (get_or t (a + 2) 0) 0) t t' index' r
+        → Passing gone K t₀ marks (i + 1) t' index' (set f (i + 2) r)
+    passing_more names n {t'} {index'} r z c = record {
+      pass = subst (λ (m : ℕ). Passed gone K (nodes_of t₀) marks m (nodes_of t') (set f (i + 2) r)) next-index
           (subst (λ (m : ℕ). Passed gone K (nodes_of t₀) marks (suc i) (nodes_of t') (set f m r)) y
           (pass_renewed s.nodes p.pass w far names n (nodes_of t') r (omega (arith, z, ap (λ (m : ℕ). get_or f m 0) y)) renewed));
       long = c.words.long ∙ p.long;
-      words = length-set f k r ∙ p.words;
+      words = length-set f (i + 2) r ∙ p.words;
       indexed = c.words.indexed;
       behind = λ j h. c.words.behind j (omega (arith, few_new)) ∙ p.behind j (omega arith);
     }
       where
-        y : suc (suc i) ≡ k
+        y : suc (suc i) ≡ i + 2
         y = omega arith
 
         renewed : Renewed (get_or names (get_or (nodes_of t₀) i blank).label 0) (get_or f (get_or (nodes_of t₀) i blank).lo 0) (get_or f (get_or (nodes_of t₀) i blank).hi 0) (nodes_of t) (nodes_of t') r
-        renewed = rw (same-label, same-lo, same-hi, ← en, ← el, ← eh) c.nodes
+        renewed = rw (same-label, same-lo, same-hi) c.nodes
 
 -- ---- the end
 
@@ -155,18 +154,18 @@ module _ {gone K t₀ marks t index f : List ℕ} (s : Sound K t₀) (p : Passin
   pub small : (answers : List ℕ) → Within answers (count t₀ + 2) → Small f answers
   small answers a j h = omega (arith, p.pass.below (get_or answers j 0) (a j h), length-nodes t, fewer, s.few)
 
-  pub finished : {work answers answers' t' : List ℕ} (a b r : ℕ) → Ready gone (nodes_of t₀) answers work marks → Within answers (count t₀ + 2)
-      → a ≡ 3 * count t + 1 → b ≡ 3 * count t₀ + 1 → Zeroed t a b t' → ReplacedTo f answers (length answers) answers' → r ≡ count t
-      → (K' : List ℕ) → Shorter gone K K' → Withdrawn gone K' t₀ answers t' answers' r
-  finished {work} {answers} {answers'} {t'} a b r y known ea eb z c er K' h = record {
+  pub finished : {work answers answers' t' : List ℕ} → Ready gone (nodes_of t₀) answers work marks → Within answers (count t₀ + 2)
+      → WipedFrom t (3 * count t + 1) (3 * count t₀ + 1) t' → ReplacedTo f answers (length answers) answers'
+      → (K' : List ℕ) → Shorter gone K K' → Withdrawn gone K' t₀ answers t' answers' (count t)
+  finished {work} {answers} {answers'} {t'} y known z c K' h = record {
     long = z.long ∙ p.long;
     sound = record {
       room = omega (arith, same_count, fewer, s.room, z.long, p.long);
       few = omega (arith, same_count, fewer, s.few);
       nodes = subst (Nodes K') (sym same_nodes) (done.sound K' h);
-      rest = λ j l. rest j (omega (arith, same_count)) (dec_lt j b);
+      rest = λ j l. rest j (omega (arith, same_count)) (dec_lt j (3 * count t₀ + 1));
     };
-    left = er ∙ sym same_count;
+    left = sym same_count;
     fewer = omega (arith, same_count, fewer);
     listed = c.same;
     known = λ j l. rw (c.new j (omega (arith, c.same))) (omega (arith, p.pass.below (get_or answers j 0) (known j (omega (arith, c.same))), length-nodes t, same_count));
@@ -177,14 +176,14 @@ module _ {gone K t₀ marks t index f : List ℕ} (s : Sound K t₀) (p : Passin
   }
     where
       same_count : count t' ≡ count t
-      same_count = z.before 0 (omega arith)
+      same_count = z.front 0 (omega arith)
 
       same_nodes : nodes_of t' ≡ nodes_of t
-      same_nodes = nodes-same t t' same_count (λ j l. z.before j (omega arith))
+      same_nodes = nodes-same t t' same_count (λ j l. z.front j (omega arith))
 
-      rest : (j : ℕ) → 3 * count t < j → Dec (j < b) → get_or t' j 0 ≡ 0
-      rest j l (yes d) = z.zero j (omega arith) d
-      rest j l (no d) = z.behind j (omega arith) ∙ p.behind j (omega arith) ∙ s.rest j (omega arith)
+      rest : (j : ℕ) → 3 * count t < j → Dec (j < 3 * count t₀ + 1) → get_or t' j 0 ≡ 0
+      rest j l (yes d) = z.clear j (omega arith) d
+      rest j l (no d) = z.back j (omega arith) ∙ p.behind j (omega arith) ∙ s.rest j (omega arith)
 
       need : (k : ℕ) → 2 ≤ k → k < count t + 2 → (a : ℕ) × ((a ∈ answers') × Below (nodes_of t') a k)
       need k l u =
@@ -200,21 +199,6 @@ module _ {gone K t₀ marks t index f : List ℕ} (s : Sound K t₀) (p : Passin
           )
 
 -- ---- the loops at the end
-
-pub zeroed_start : (t : List ℕ) (a : ℕ) → Zeroed t a a t
-zeroed_start t a = record { long = refl; zero = λ j l u. absurd (omega arith); before = λ j l. refl; behind = λ j l. refl }
-
-pub zeroed_more : {t t' : List ℕ} {a : ℕ} (j : ℕ) → a ≤ j → j < length t' → Zeroed t a j t' → Zeroed t a (j + 1) (set t' j 0)
-zeroed_more {t} {t'} {a} j l h z = record {
-  long = length-set t' j 0 ∙ z.long;
-  zero = λ k b c. at k b c (ℕ_discrete k j);
-  before = λ k b. get_or-set_other t' j k 0 0 (λ e. omega arith) ∙ z.before k b;
-  behind = λ k b. get_or-set_other t' j k 0 0 (λ e. omega arith) ∙ z.behind k (omega arith);
-}
-  where
-    at : (k : ℕ) → a ≤ k → k < j + 1 → Dec (k ≡ j) → get_or (set t' j 0) k 0 ≡ 0
-    at k b c (yes e) = ap (λ (n : ℕ). get_or (set t' j 0) n 0) e ∙ get_or-set_same t' j 0 0 h
-    at k b c (no e) = get_or-set_other t' j k 0 0 e ∙ z.zero k b (omega arith)
 
 pub replaced_start : (f answers : List ℕ) → ReplacedTo f answers 0 answers
 replaced_start f answers = record { same = refl; new = λ i h. absurd (not-suc-le-zero h); old = λ i h. refl }
@@ -243,26 +227,26 @@ pub record Looping (gone K t₁ : List ℕ) (n : ℕ) (marks : List ℕ) (i : �
   pub fit : 3 * n < length t
   pub passing : Passing gone K (set t₁ 0 n) marks i t index f
 
-restored : (t : List ℕ) (n : ℕ) → n ≡ count t → set (set t 0 0) 0 n ≡ t
-restored t n e = set-set t 0 0 n ∙ ap (λ (m : ℕ). set t 0 m) e ∙ set-get_or t 0 0
+restored : (t : List ℕ) → set (set t 0 0) 0 (count t) ≡ t
+restored t = set-set t 0 0 (count t) ∙ set-get_or t 0 0
 
-pub looping_start : {gone K t index marks : List ℕ} (n : ℕ) → n ≡ count t → Sound K t → Fresh index → count t + 2 ≤ length marks
-    → get_or marks 0 0 ≡ 0 → get_or marks 1 0 ≡ 1 → Looping gone K (set t 0 0) n marks 0 (set t 0 0) index marks
-looping_start {gone} {K} {t} {index} {marks} n e s f m z o = record {
-  sound = rw (restored t n e) s;
-  counted = ap count (restored t n e) ∙ sym e;
+pub looping_start : {gone K t index marks : List ℕ} → Sound K t → Fresh index → count t + 2 ≤ length marks
+    → (get_or marks 0 0 ≡ 0) × (get_or marks 1 0 ≡ 1) → Looping gone K (set t 0 0) (count t) marks 0 (set t 0 0) index marks
+looping_start {gone} {K} {t} {index} {marks} s f m z = record {
+  sound = rw (restored t) s;
+  counted = ap count (restored t);
   low = omega arith;
-  many = omega arith;
+  many = m;
   fit = omega (arith, length-set t 0 0, s.room);
-  passing = subst (λ (u : List ℕ). Passing gone K u marks 0 (set t 0 0) index marks) (sym (restored t n e)) (passing_start s f z o);
+  passing = subst (λ (u : List ℕ). Passing gone K u marks 0 (set t 0 0) index marks) (sym (restored t)) (passing_start s f z.0 z.1);
 }
 
-pub looping_end : {gone K t index marks t' f : List ℕ} {i : ℕ} (n : ℕ) → n ≡ count t → Looping gone K (set t 0 0) n marks i t' index f → n ≤ i
+pub looping_end : {gone K t index marks t' f : List ℕ} {i : ℕ} → Looping gone K (set t 0 0) (count t) marks i t' index f → count t ≤ i
     → Passing gone K t marks (count t) t' index f
-looping_end {gone} {K} {t} {index} {marks} {t'} {f} {i} n e l h =
+looping_end {gone} {K} {t} {index} {marks} {t'} {f} {i} l h =
     let z : i ≡ count t = omega (arith, l.low) in
     subst (λ (m : ℕ). Passing gone K t marks m t' index f) z
-    (subst (λ (u : List ℕ). Passing gone K u marks i t' index f) (restored t n e) l.passing)
+    (subst (λ (u : List ℕ). Passing gone K u marks i t' index f) (restored t) l.passing)
 
 module _ {gone K t₁ marks t index f : List ℕ} {n i : ℕ} (l : Looping gone K t₁ n marks i t index f) (h : i < n) where
   lt : i < count (set t₁ 0 n)
@@ -281,7 +265,7 @@ module _ {gone K t₁ marks t index f : List ℕ} {n i : ℕ} (l : Looping gone 
     low = omega arith;
     many = l.many;
     fit = l.fit;
-    passing = passing_skip l.sound l.passing lt enough (i + 2) refl z;
+    passing = passing_skip l.sound l.passing lt enough z;
   }
 
   -- what the code reads
@@ -294,24 +278,14 @@ module _ {gone K t₁ marks t index f : List ℕ} {n i : ℕ} (l : Looping gone 
   pub looping_hi : (get_or t (1 + 3 * i + 2) 0 < length f) × (get_or f (get_or t (1 + 3 * i + 2) 0) 0 < 65536)
   looping_hi = (hi_in l.sound l.passing lt enough (1 + 3 * i) refl, hi_small l.sound l.passing lt enough (1 + 3 * i) refl)
 
-  pub looping_more : {names t' index' : List ℕ} {name lo hi r label at-lo at-hi : ℕ} → Names gone (length K) names → (get_or f (i + 2) 0 ≡ 0 → ⊥)
-      → label ≡ get_or t (1 + 3 * i) 0 → at-lo ≡ get_or t (1 + 3 * i + 1) 0 → at-hi ≡ get_or t (1 + 3 * i + 2) 0
-      → name ≡ get_or names label 0 → lo ≡ get_or f at-lo 0 → hi ≡ get_or f at-hi 0
-      → Renewal name lo hi t t' index' r → Looping gone K t₁ n marks (i + 1) t' index' (set f (i + 2) r)
-  looping_more {names} {t'} {index'} {name} {lo} {hi} {r} ns z a b d en el eh c = record {
+  pub looping_more : {names t' index' : List ℕ} {r : ℕ} → Names gone (length K) names → (get_or f (i + 2) 0 ≡ 0 → ⊥)
+      → Renewal (get_or names (get_or t (1 + 3 * i) 0) 0) (get_or f (get_or t (1 + 3 * i + 1) 0) 0) (get_or f (get_or t (1 + 3 * i + 2) 0) 0) t t' index' r
+      → Looping gone K t₁ n marks (i + 1) t' index' (set f (i + 2) r)
+  looping_more {names} {t'} {index'} {r} ns z c = record {
     sound = l.sound;
     counted = l.counted;
     low = omega arith;
     many = omega (arith, length-set f (i + 2) r, l.many);
     fit = omega (arith, c.words.long, l.fit);
-    passing = passing_more l.sound l.passing lt enough (1 + 3 * i) refl names ns (i + 2) r name lo hi refl z
-        (en ∙ ap (λ (k : ℕ). get_or names k 0) a) (el ∙ ap (λ (k : ℕ). get_or f k 0) b) (eh ∙ ap (λ (k : ℕ). get_or f k 0) d) c;
+    passing = passing_more l.sound l.passing lt enough (1 + 3 * i) refl names ns r z c;
   }
-
--- ---- before the loop
-
-pub fresh_cleared : {index index' : List ℕ} → length index ≡ 131072 → Wiped index 131072 index' → Fresh index'
-fresh_cleared {index} {index'} h w = record {
-  long = w.same ∙ h;
-  zero = cleared_reads (subst (λ (m : ℕ). Wiped index m index') (sym h) w);
-}

@@ -1,41 +1,33 @@
 -- One node in the words: found, or written behind those that there are. Assumes nothing.
 use mathlib.Core.Path.{◌≡◌, refl}
 use mathlib.Core.List.{List}
-use Prim.Native.Nat.{ℕ, ◌+◌, ◌-◌, ◌*◌, ◌<◌}
+use Prim.Native.Nat.{ℕ, ◌+◌, ◌-◌, ◌<◌}
 use native.Mathlib.Omega.{arith}
-use lib.ListN.{set}
 use Rattle.zdd.specs.Table.{Node, node, count, nodes_of}
-use Rattle.zdd.proofs.Words.{length-nodes, appended_nodes, stored}
-use Rattle.buckets.specs.Chain.{inserted}
-use Rattle.table.specs.State.{hash_of, Indexed, Found}
-use Rattle.table.proofs.UniqueLaws.{indexed_more}
+use Rattle.zdd.proofs.Words.{length-nodes, appended_nodes}
+use Rattle.table.specs.State.{Indexed, Found, Appends}
+use Rattle.table.proofs.UniqueLaws.{appended_by}
 use Rattle.withdraw.specs.State.{Rewritten, Placed, Renewal, Roomy}
 
 pub rewritten_same : {t index : List ℕ} → Indexed t index → Rewritten t t index
 rewritten_same d = record { long = refl; indexed = d; behind = λ j h. refl }
 
-pub placed_old : {t index : List ℕ} {x : Node} {r : ℕ} (m : ℕ) → m ≡ count t + 2 → Indexed t index → Found (nodes_of t) m x r → 0 < r → Placed t t index x r
-placed_old {t} {index} {x} {r} m e d f p =
+pub placed_old : {t index : List ℕ} {x : Node} {r : ℕ} → Indexed t index → Found (nodes_of t) (count t + 2) x r → 0 < r → Placed t t index x r
+placed_old {t} {index} {x} {r} d f p =
     let g = f.node p in
     record {
       words = rewritten_same d;
       place = record { old = λ h. (refl, (g.0, g.1.1)); new = λ h. absurd (omega (arith, g.1.0, length-nodes t)) };
     }
 
-pub placed_new : {t index : List ℕ} {x : Node} {z : ℕ} (m a h k r : ℕ) → m ≡ count t + 2 → Indexed t index → Roomy t → Found (nodes_of t) m x z → z ≡ 0
-    → h < 65536 → h ≡ hash_of x → a ≡ 3 * count t → k ≡ count t + 2 → r ≡ count t + 2
-    → Placed t (set (set (set (set t (a + 1) x.label) (a + 2) x.lo) (a + 3) x.hi) 0 (count t + 1)) (inserted 65536 h k index) x r
-placed_new {t} {index} {x} {z} m a h k r em d y f ez lt q ea ek er =
-    let p = stored t x (a + 1) (a + 2) (a + 3) (count t + 1) (omega (arith, y.fit)) (omega arith) (omega arith) (omega arith) (omega arith) in
+pub placed_new : {t t' index' : List ℕ} {x : Node} {z r : ℕ} → Roomy t → Found (nodes_of t) (count t + 2) x z → z ≡ 0 → Appends t t' index' x r → Placed t t' index' x r
+placed_new {t} {t'} {index'} {x} {z} {r} y f ez d =
+    let p = appended_by d y.fit in
     record {
-      words = record {
-        long = p.long;
-        indexed = indexed_more h k p d y.few y.fit lt q ek;
-        behind = λ j b. p.behind j (omega arith);
-      };
+      words = record { long = p.long; indexed = d.indexed; behind = λ j b. p.behind j (omega arith) };
       place = record {
-        old = λ b. absurd (omega (arith, length-nodes t));
-        new = λ b. (omega (arith, length-nodes t), (appended_nodes p, λ i b e. f.none ez i (omega (arith, length-nodes t)) e));
+        old = λ b. absurd (omega (arith, d.number, length-nodes t));
+        new = λ b. (omega (arith, d.number, length-nodes t), (appended_nodes p, λ i b e. f.none ez i (omega (arith, length-nodes t)) e));
       };
     }
 

@@ -137,13 +137,6 @@ pub record Passing (gone K t₀ marks : List ℕ) (i : ℕ) (t index f : List �
   pub indexed : Indexed t index
   pub behind : (j : ℕ) → 3 * i < j → get_or t j 0 ≡ get_or t₀ j 0
 
--- the words of t from a on and up to b are 0, and the others as they were
-pub record Zeroed (t : List ℕ) (a b : ℕ) (t' : List ℕ) : Type 0 where
-  pub long : length t' ≡ length t
-  pub zero : (j : ℕ) → a ≤ j → j < b → get_or t' j 0 ≡ 0
-  pub before : (j : ℕ) → j < a → get_or t' j 0 ≡ get_or t j 0
-  pub behind : (j : ℕ) → b ≤ j → get_or t' j 0 ≡ get_or t j 0
-
 -- the first j answers are replaced by their new numbers
 pub record ReplacedTo (f answers : List ℕ) (j : ℕ) (answers' : List ℕ) : Type 0 where
   pub same : length answers' ≡ length answers

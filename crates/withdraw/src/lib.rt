@@ -3,72 +3,53 @@
 #![tactic(auto)]
 
 ghost use Rattle.std.specs.Prelude.{◌≡◌, ◌+◌, ◌<◌, ◌≤◌, length, get_or};
-ghost use Rattle.base.specs.Words.{Wiped};
 ghost use Rattle.zdd.specs.Table.{node, count, nodes_of, Sound};
 ghost use Rattle.table.specs.State.{Fresh, Indexed};
 ghost use Rattle.withdraw.specs.Withdrawal.{Within, Withdraws};
-ghost use Rattle.withdraw.specs.State.{Names, Struck, ListedTo, Ready, Roomy, Placed, Renewal, Passing, Zeroed, ReplacedTo, Small};
+ghost use Rattle.withdraw.specs.State.{Names, Struck, ListedTo, Ready, Roomy, Placed, Renewal, Passing, ReplacedTo, Small};
 
 // ---- the new names of the labels
 
-// The withdrawn labels get 1. (n is for the contract alone.)
-fn strike(gone: &[u16], n: usize, names: &mut [u32])
-    requires within { Within gone.now n }
-    requires struck { Struck gone.now 0 n names.old }
-    ensures { Struck gone.now (length gone.now) n names.new }
+// The withdrawn labels get 1.
+fn strike(gone: &[u16], names: &mut [u32])
+    requires within { Within gone.now (length names.old) }
+    requires struck { Struck gone.now 0 (length names.old) names.old }
+    ensures { Struck gone.now (length gone.now) (length names.old) names.new }
 {
-    let mut j: usize = 0;
-    while j < gone.len() {
-        let p = gone[j] as usize;
-        names[p] = 1;
-        j += 1;
+    for &p in gone {
+        names[p as usize] = 1;
     }
 }
 
 // They get 0, and the others are numbered from 1. (gone is for the contract alone.)
-fn number(gone: &[u16], n: usize, names: &mut [u32])
-    requires n_bound { n ≤ 512 }
-    requires struck { Struck gone.now (length gone.now) n names.old }
-    ensures { Names gone.now n names.new }
+fn number(gone: &[u16], names: &mut [u32])
+    requires names_len_bound { length names.old ≤ 512 }
+    requires struck { Struck gone.now (length gone.now) (length names.old) names.old }
+    ensures { Names gone.now (length names.old) names.new }
 {
-    let mut c: u32 = 0;
-    let mut p: usize = 0;
-    while p < n {
-        if names[p] != 0 {
-            names[p] = 0;
-            p += 1;
-            continue;
+    let mut c = 0;
+    for name in names.iter_mut() {
+        if *name != 0 {
+            *name = 0;
+        } else {
+            c += 1;
+            *name = c;
         }
-        c += 1;
-        names[p] = c;
-        p += 1;
     }
 }
 
-// Of n labels, whose words come as 0, each withdrawn one gets 0, and each other one more than its new number.
-fn rename(gone: &[u16], n: usize, names: &mut [u32])
-    requires n_bound { n ≤ 512 }
-    requires within { Within gone.now n }
-    requires struck { Struck gone.now 0 n names.old }
-    ensures { Names gone.now n names.new }
+// Of the labels, whose words come as 0, each withdrawn one gets 0, and each other one more than its new number.
+fn rename(gone: &[u16], names: &mut [u32])
+    requires names_len_bound { length names.old ≤ 512 }
+    requires within { Within gone.now (length names.old) }
+    requires struck { Struck gone.now 0 (length names.old) names.old }
+    ensures { Names gone.now (length names.old) names.new }
 {
-    strike(gone, n, names);
-    number(gone, n, names);
+    strike(gone, names);
+    number(gone, names);
 }
 
 // ---- the marks
-
-// The first m words are 0.
-fn blank(work: &mut [u64], m: usize)
-    requires { m ≤ length work.old }
-    ensures { Wiped work.old m work.new }
-{
-    let mut j: usize = 0;
-    while j < m {
-        work[j] = 0;
-        j += 1;
-    }
-}
 
 // The listed answers are marked.
 fn list(answers: &[u32], m: usize, work: &mut [u64])
@@ -76,11 +57,8 @@ fn list(answers: &[u32], m: usize, work: &mut [u64])
     requires within { Within answers.now m }
     ensures { ListedTo answers.now m (length answers.now) work.new }
 {
-    let mut j: usize = 0;
-    while j < answers.len() {
-        let a = base::wide(answers[j]);
-        work[a] = 1;
-        j += 1;
+    for &a in answers {
+        work[a as usize] = 1;
     }
 }
 
@@ -93,23 +71,22 @@ fn mark(t: &[u32], keys: &[u32], gone: &[u16], names: &[u32], answers: &[u32], w
     requires t_in_bounds { count t.now + 2 ≤ length work.old }
     ensures { Ready gone.now (nodes_of t.now) answers.now work.old work.new }
 {
-    let n = base::wide(t[0]);
-    blank(work, n + 2);
+    let n = t[0] as usize;
+    work[..n + 2].fill(0);
     list(answers, n + 2, work);
-    let mut i = n;
-    while i != 0 {
-        i -= 1;
+    for i in (0..n).rev() {
         if work[i + 2] == 0 {
             continue;
         }
         let w = 1 + 3 * i;
-        let label = base::wide(t[w]);
-        let lo = base::wide(t[w + 1]);
+        let label = t[w] as usize;
+        let lo = t[w + 1] as usize;
         work[lo] = 1;
-        if names[label] == 0 {
+        let name = names[label];
+        if name == 0 {
             continue;
         }
-        let hi = base::wide(t[w + 2]);
+        let hi = t[w + 2] as usize;
         work[hi] = 1;
     }
     work[0] = 0;
@@ -125,19 +102,12 @@ fn place(t: &mut [u32], index: &mut [u16; 131072], label: u32, lo: u32, hi: u32)
     ensures { Placed t.old t.new index.new (node label lo hi) result }
 {
     let h = table::hash(label, lo, hi);
-    let n = t[0];
-    let a = base::wide(n);
-    let old = table::find(t, index, a + 2, h, label, lo, hi);
+    let m = t[0] as usize + 2;
+    let old = table::find(t, index, m, h, label, lo, hi);
     if old != 0 {
         return old;
     }
-    let w = 3 * a;
-    t[w + 1] = label;
-    t[w + 2] = lo;
-    t[w + 3] = hi;
-    t[0] = n + 1;
-    buckets::insert(index, 65536, h, (n + 2) as u16);
-    n + 2
+    table::append(t, index, h, label, lo, hi)
 }
 
 // The new number of a node: name is that of its label, lo and hi are its children's new numbers.
@@ -157,14 +127,6 @@ fn renew(t: &mut [u32], index: &mut [u16; 131072], name: u32, lo: u32, hi: u32) 
 
 // ---- the pass
 
-// A working word as a number of the table.
-fn number_of(x: u64) -> u32
-    requires { x < 65536 }
-    ensures { result ≡ x }
-{
-    x as u32
-}
-
 // The nodes of t, children first: each marked one gets its new number, and the new nodes stand from the first place on. The words behind the new nodes
 // are those of old ones. (keys and gone are for the contract alone.)
 fn pass(
@@ -182,40 +144,24 @@ fn pass(
     requires work_value { (get_or work.old 0 0 ≡ 0) × (get_or work.old 1 0 ≡ 1) }
     ensures { Passing gone.now keys.now t.old work.old (count t.old) t.new index.new work.new }
 {
-    let n = base::wide(t[0]);
+    let n = t[0] as usize;
     t[0] = 0;
-    let mut i: usize = 0;
-    while i < n {
+    for i in 0..n {
         if work[i + 2] == 0 {
-            i += 1;
             continue;
         }
         let w = 1 + 3 * i;
-        let label = base::wide(t[w]);
-        let lo = base::wide(t[w + 1]);
-        let hi = base::wide(t[w + 2]);
-        let name = names[label];
-        let a = number_of(work[lo]);
-        let b = number_of(work[hi]);
-        let r = renew(t, index, name, a, b);
+        let label = t[w] as usize;
+        let lo = t[w + 1] as usize;
+        let hi = t[w + 2] as usize;
+        let a = work[lo] as u32;
+        let b = work[hi] as u32;
+        let r = renew(t, index, names[label], a, b);
         work[i + 2] = r as u64;
-        i += 1;
     }
 }
 
 // ---- the end
-
-// The words from a on and below b are 0.
-fn zero(t: &mut [u32], a: usize, b: usize)
-    requires { (a ≤ b) × (b ≤ length t.old) }
-    ensures { Zeroed t.old a b t.new }
-{
-    let mut j = a;
-    while j < b {
-        t[j] = 0;
-        j += 1;
-    }
-}
 
 // Each answer is replaced by its new number.
 fn replace(answers: &mut [u32], work: &[u64])
@@ -223,23 +169,8 @@ fn replace(answers: &mut [u32], work: &[u64])
     requires small { Small work.now answers.old }
     ensures { ReplacedTo work.now answers.old (length answers.old) answers.new }
 {
-    let mut j: usize = 0;
-    while j < answers.len() {
-        let k = base::wide(answers[j]);
-        answers[j] = number_of(work[k]);
-        j += 1;
-    }
-}
-
-// Every word of the index is 0.
-fn clear(index: &mut [u16; 131072])
-    requires { length index.old ≡ 131072 }
-    ensures { Fresh index.new }
-{
-    let mut j: usize = 0;
-    while j < 131072 {
-        index[j] = 0;
-        j += 1;
+    for a in answers.iter_mut() {
+        *a = work[*a as usize] as u32;
     }
 }
 
@@ -262,14 +193,15 @@ pub fn withdraw(
     requires t_in_bounds { count t.old + 2 ≤ length work.old }
     ensures { Withdraws gone.now keys.now t.old answers.old t.new answers.new result }
 {
-    let n = base::wide(t[0]);
-    let mut names = [0u32; 512];
-    rename(gone, keys.len(), &mut names);
-    mark(t, keys, gone, &names, answers, work);
-    clear(index);
-    pass(t, keys, gone, &names, index, work);
+    let n = t[0] as usize;
+    let mut words = [0u32; 512];
+    let names = &mut words[..keys.len()];
+    rename(gone, names);
+    mark(t, keys, gone, names, answers, work);
+    index.fill(0);
+    pass(t, keys, gone, names, index, work);
     let left = t[0];
-    zero(t, 3 * base::wide(left) + 1, 3 * n + 1);
+    t[3 * left as usize + 1..3 * n + 1].fill(0);
     replace(answers, work);
     left
 }

@@ -5,6 +5,3 @@ use Rattle.support.proofs.gather.Given as goal
 
 abbrev pub invariant-loop-k : goal.invariant-loop-k
 invariant-loop-k l = Marked (sets_of l.packages) (nodes_of l.t) l.a l.k l.marks (value l.items)
-
-abbrev pub decreases-loop-k : goal.decreases-loop-k
-decreases-loop-k l = l.k

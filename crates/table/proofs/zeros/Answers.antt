@@ -1,5 +1,7 @@
-use Rattle.table.proofs.CheckLaws.{zeros-more}
+use Rattle.std.specs.List.{fold}
+use Rattle.std.proofs.Common.{rules, ◌≡◌, bit_or}
+use Rattle.table.proofs.CheckLaws.{all_zeros}
 use Rattle.table.proofs.zeros.Goals as goal
 
-pub loop-j-preserved : goal.loop-j-preserved
-loop-j-preserved c = zeros-more c.loop-j.invariant
+pub returns : goal.returns
+returns c = let e : c.fold.result ≡ fold bit_or 0 c.args.words.now = search rules in rw e (all_zeros c.args.words.now)

@@ -1,18 +1,18 @@
 use Rattle.zdd.proofs.Ranks.{rank_most}
 use Rattle.withdraw.proofs.NameLaws.{number_start, number_gone, number_stays}
-use mathlib.Core.Path.{refl, ◌∙◌}
-use lib.ListN.{length-set}
 use native.Mathlib.Omega.{arith}
+use mathlib.Core.Path.{refl}
 use Rattle.withdraw.proofs.number.Goals as goal
+use Rattle.withdraw.proofs.number.Goals.{then-name-ne0, else-name-ne0}
 
-pub loop-p-init : goal.loop-p-init
-loop-p-init c = ((refl, omega arith), number_start c.requires.struck)
-
-pub loop-p-preserved-then-names-p-ne0 : goal.loop-p-preserved-then-names-p-ne0
-loop-p-preserved-then-names-p-ne0 c = ((length-set c.loop-p.names _ 0 ∙ c.loop-p.invariant.0.0, omega arith), number_gone c.loop-p.invariant.1 (omega arith) (λ z. omega arith))
+pub loop-name-init : goal.loop-name-init
+loop-name-init c = number_start c.requires.struck
 
 pub overflow_add-c : goal.overflow_add-c
-overflow_add-c c = omega (arith, c.loop-p.invariant.1.counted, rank_most c.args.gone.now c.loop-p.p, c.requires.n_bound)
+overflow_add-c c = omega (arith, c.loop-name.invariant.counted, rank_most c.args.gone.now c.loop-name.name-index, c.requires.names_len_bound)
 
-pub loop-p-preserved : goal.loop-p-preserved
-loop-p-preserved c = ((length-set c.loop-p.names _ _ ∙ c.loop-p.invariant.0.0, omega arith), number_stays c.loop-p.invariant.1 (omega arith) _ (omega arith) (omega arith))
+pub loop-name-preserved : goal.loop-name-preserved
+loop-name-preserved c = elim c.if-name-ne0.branch [
+  | then-name-ne0 w ↦ rw (w.names-is, w.c-is) (number_gone c.loop-name.invariant (omega arith) w.if-name-ne0.true)
+  | else-name-ne0 w ↦ rw (w.names-is, w.c-is) (number_stays c.loop-name.invariant (omega arith) _ refl (omega arith))
+]

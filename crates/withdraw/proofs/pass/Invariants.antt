@@ -1,9 +1,5 @@
 use Rattle.withdraw.proofs.PassLaws.{Looping}
-use Prim.Native.Nat.{◌-◌}
 use Rattle.withdraw.proofs.pass.Given as goal
 
 abbrev pub invariant-loop-i : goal.invariant-loop-i
 invariant-loop-i l = Looping l.gone l.keys l.initial.t l.n l.initial.work l.i l.t l.index l.work
-
-abbrev pub decreases-loop-i : goal.decreases-loop-i
-decreases-loop-i l = l.n - l.i
