@@ -183,11 +183,10 @@ pub record At (W : List ℕ) (z : Scale) (t : List ℕ) (k : ℕ) (w : List ℕ)
   pub filled : Filled (weight_word W z t) k w
 
 -- as the functions ask for it
-pub at : {W : List ℕ} {z : Scale} {t : List ℕ} {k : ℕ} {w : List ℕ}
-    → Weighable t W z × (((1 < k) × (k < count t + 2)) × Filled (weight_word W z t) k w) → At W z t k w
-at pre = record { weighable = pre.0; inside = pre.1.0.0; known = pre.1.0.1; filled = pre.1.1 }
+module _ {W : List ℕ} {z : Scale} {t : List ℕ} {k : ℕ} {w : List ℕ} (B : Weighable t W z) (i : (1 < k) × (k < count t + 2)) (F : Filled (weight_word W z t) k w) where
+  N : At W z t k w
+  N = record { weighable = B; inside = i.0; known = i.1; filled = F }
 
-module _ {W : List ℕ} {z : Scale} {t : List ℕ} {k : ℕ} {w : List ℕ} (N : At W z t k w) where
   node : Parts t k
   node = parts N.weighable.table k N.inside N.known
 
@@ -253,9 +252,21 @@ pub record Way (t : List ℕ) (a node n : ℕ) : Type 0 where
 pub way_start : (t : List ℕ) (a : ℕ) → 0 < a → a < count t + 2 → Way t a a 0
 way_start t a l h = record { holds = l; short = omega arith; known = h }
 
-module _ {t : List ℕ} (R : Readable t) {a node n : ℕ} (W : Way t a node n) (inside : 1 < node) where
-  pub mark : Parts t node
+module _ {t : List ℕ} (R : Readable t) {a node n : ℕ} (W : Way t a node n) (on : node ≡ 1 → ⊥) where
+  inside : 1 < node
+  inside = omega (arith, W.holds, on)
+
+  mark : Parts t node
   mark = parts R node inside (omega (arith, W.short, W.known))
+
+  pub way_hi_falls : (h : ℕ) → h ≡ hi_of t node → h < node
+  way_hi_falls h e = omega (arith, mark.hi-below)
+
+  pub way_lo_falls : (l : ℕ) → l ≡ lo_of t node → l < node
+  way_lo_falls l e = omega (arith, mark.lo-below)
+
+  pub way_label : (p : ℕ) → p ≡ label_of t node → p < 65536
+  way_label p e = omega (arith, mark.label_small)
 
   pub way_hi : (h : ℕ) → h ≡ hi_of t node → Way t a h (n + 1)
   way_hi h e = let P = mark in record { holds = omega (arith, P.hi-some); short = omega (arith, P.hi-below, W.short); known = W.known }

@@ -2,40 +2,18 @@
 // a given one.
 #![tactic(auto)]
 
-ghost use Rattle.std.specs.Prelude.{◌≡◌, true, false, ◌++◌, ℕ, ◌+◌, ◌-◌, ◌*◌, ◌<◌, ◌≤◌, min, length, get_or, drop};
+ghost use Rattle.std.specs.Prelude.{◌≡◌, true, false, ◌++◌, ℕ, ◌+◌, ◌-◌, ◌*◌, ◌<◌, ◌≤◌, min, length, get_or, drop, Some};
 ghost use Rattle.zdd.specs.Table.{count as nodes};
 ghost use Rattle.query.specs.Questions.{family_at, nth, cost, cheapest as cheapestOf, difference, closest as closestOf, any_unknown, in_precedence};
 ghost use Rattle.query.specs.Reading.{label_of, lo_of, hi_of, Readable, Branch, Filled, count_word};
 ghost use Rattle.query.specs.Reading.{Priceable, Comparable, weight, lightest as lightestOf, Weighable, weight_word, Choice, Marked};
 ghost use Rattle.query.specs.Answers.{Told, Wrote, PlaceFound, Weighed};
 
-// How many: the number, or more than 64 bits hold.
+// The lightest set: how many packages it has, which were written to the page, and its weight: for `cheapest` its cost, for `closest` its difference.
 #[derive(Clone, Copy)]
-pub enum Tally {
-    Exactly(u64),
-    TooMany,
-}
-
-// How many packages were written to the page, or the page is too short.
-#[derive(Clone, Copy)]
-pub enum Written {
-    Packages(usize),
-    Short,
-}
-
-// Where a set stands in the listing, from 0.
-#[derive(Clone, Copy)]
-pub enum Spot {
-    At(u64),
-    Absent,
-}
-
-// How many packages the lightest set has, which were written to the page, and its weight: for `cheapest` its cost, for `closest` its difference; or the
-// page is too short.
-#[derive(Clone, Copy)]
-pub enum Chosen {
-    Found { packages: usize, weight: u32 },
-    NoRoom,
+pub struct Chosen {
+    pub packages: usize,
+    pub weight: u32,
 }
 
 // How a set is weighed: from `start` on, each package adds what the weights have for it, less `bias`.
@@ -57,14 +35,14 @@ fn lo(t: &[u32], k: usize) -> usize
     requires { Branch t.now k }
     ensures { result ≡ lo_of t.now k }
 {
-    base::wide(t[1 + 3 * (k - 2) + 1])
+    t[1 + 3 * (k - 2) + 1] as usize
 }
 
 fn hi(t: &[u32], k: usize) -> usize
     requires { Branch t.now k }
     ensures { result ≡ hi_of t.now k }
 {
-    base::wide(t[1 + 3 * (k - 2) + 2])
+    t[1 + 3 * (k - 2) + 2] as usize
 }
 
 // x + y + 1, or the greatest word.
@@ -105,16 +83,14 @@ pub fn counts(t: &[u32], a: usize, work: &mut [u64])
     ensures { Filled (count_word t.now) (a + 1) work.new }
 {
     work[0] = 0;
-    let mut k = 1;
-    while k <= a {
+    for k in 1..a + 1 {
         let c = count_word(t, k, work);
         work[k] = c;
-        k += 1;
     }
 }
 
-// How many sets number a holds. The words serve `pick` and `place`.
-pub fn count(t: &[u32], a: usize, work: &mut [u64]) -> Tally
+// How many sets number a holds, or None where they are more than 64 bits hold. The words serve `pick` and `place`.
+pub fn count(t: &[u32], a: usize, work: &mut [u64]) -> Option<u64>
     requires readable { Readable t.now }
     requires a_bound { (a < nodes t.now + 2) × (a < length work.old) }
     ensures filled { Filled (count_word t.now) (a + 1) work.new }
@@ -122,13 +98,13 @@ pub fn count(t: &[u32], a: usize, work: &mut [u64]) -> Tally
 {
     counts(t, a, work);
     if a == 0 {
-        return Tally::Exactly(0);
+        return Some(0);
     }
     let c = work[a];
     if c == 18446744073709551615 {
-        return Tally::TooMany;
+        return None;
     }
-    Tally::Exactly(c + 1)
+    Some(c + 1)
 }
 
 // How many packages the k-th set of number a has: down from a, by hi where the set is among hi's, until 1.
@@ -163,7 +139,7 @@ fn write(t: &[u32], a: usize, k: u64, work: &[u64], page: &mut [u16]) -> usize
     requires a_bound { (a < nodes t.now + 2) × (k < length (family_at t.now a)) }
     requires filled { Filled (count_word t.now) (a + 1) work.now }
     requires k_in_bounds { length (nth (family_at t.now a) k) ≤ length page.old }
-    ensures { Wrote (nth (family_at t.now a) k) page.old page.new (Written.Packages result) }
+    ensures { Wrote (nth (family_at t.now a) k) page.old page.new (Some result) }
 {
     let mut node = a;
     let mut left = k;
@@ -186,8 +162,9 @@ fn write(t: &[u32], a: usize, k: u64, work: &[u64], page: &mut [u16]) -> usize
     }
 }
 
-// The k-th set of number a, to the start of the page: measured first, and written only where it fits.
-pub fn pick(t: &[u32], a: usize, k: u64, work: &[u64], page: &mut [u16]) -> Written
+// The k-th set of number a, to the start of the page: measured first, and written only where it fits. How many packages were written, or None where the page is
+// too short.
+pub fn pick(t: &[u32], a: usize, k: u64, work: &[u64], page: &mut [u16]) -> Option<usize>
     requires readable { Readable t.now }
     requires a_bound { (a < nodes t.now + 2) × (k < length (family_at t.now a)) }
     requires filled { Filled (count_word t.now) (a + 1) work.now }
@@ -195,16 +172,10 @@ pub fn pick(t: &[u32], a: usize, k: u64, work: &[u64], page: &mut [u16]) -> Writ
 {
     let many = measure(t, a, k, work);
     if page.len() < many {
-        return Written::Short;
+        return None;
     }
     let m = write(t, a, k, work, page);
-    Written::Packages(m)
-}
-
-fn widen(x: u16) -> u32
-    ensures { result ≡ x }
-{
-    x as u32
+    Some(m)
 }
 
 // Whether s goes on with the package p at i.
@@ -215,11 +186,11 @@ fn goes_on(s: &[u16], i: usize, p: u32) -> bool
     if s.len() <= i {
         return false;
     }
-    widen(s[i]) == p
+    s[i] as u32 == p
 }
 
-// Where the set s stands among those of number a: down from a, by hi where s goes on with the label.
-pub fn place(t: &[u32], a: usize, s: &[u16], work: &[u64]) -> Spot
+// Where the set s stands among those of number a, from 0, or None where it is none of them: down from a, by hi where s goes on with the label.
+pub fn place(t: &[u32], a: usize, s: &[u16], work: &[u64]) -> Option<u64>
     requires readable { Readable t.now }
     requires a_bound { a < nodes t.now + 2 }
     requires filled { Filled (count_word t.now) (a + 1) work.now }
@@ -230,7 +201,7 @@ pub fn place(t: &[u32], a: usize, s: &[u16], work: &[u64]) -> Spot
     let mut k: u64 = 0;
     loop {
         if node == 0 {
-            return Spot::Absent;
+            return None;
         }
         if node == 1 {
             break;
@@ -246,15 +217,9 @@ pub fn place(t: &[u32], a: usize, s: &[u16], work: &[u64]) -> Spot
         node = lo(t, node);
     }
     if i == s.len() {
-        return Spot::At(k);
+        return Some(k);
     }
-    Spot::Absent
-}
-
-fn long(x: u16) -> u64
-    ensures { result ≡ x }
-{
-    x as u64
+    None
 }
 
 // What the weights have for package p.
@@ -262,8 +227,7 @@ fn weight_of(weights: &[u16], p: u32) -> u64
     requires { p < length weights.now }
     ensures { result ≡ get_or weights.now p 0 }
 {
-    let at = base::wide(p);
-    long(weights[at])
+    weights[p as usize] as u64
 }
 
 // What hi's lightest set weighs with the label of node k, the bias not yet taken off.
@@ -299,12 +263,6 @@ fn takes_hi(weights: &[u16], scale: Scale, t: &[u32], k: usize, work: &[u64]) ->
     weight_hi(weights, t, k, work) <= weight_lo(scale.bias, t, k, work)
 }
 
-fn lesser(x: u64, y: u64) -> u64
-    ensures { result ≡ min x y }
-{
-    if x <= y { x } else { y }
-}
-
 // The least weight of node k, from those of the numbers below: no branch, since which child it is cannot be foreseen.
 fn weight_word(weights: &[u16], scale: Scale, t: &[u32], k: usize, work: &[u64]) -> u64
     requires weighable { Weighable t.now weights.now scale }
@@ -314,7 +272,7 @@ fn weight_word(weights: &[u16], scale: Scale, t: &[u32], k: usize, work: &[u64])
 {
     let x = weight_hi(weights, t, k, work);
     let y = weight_lo(scale.bias, t, k, work);
-    lesser(x, y) - scale.bias
+    x.min(y) - scale.bias
 }
 
 // The least weight of each number up to a; the word of 0, which holds no set, is more than any.
@@ -326,11 +284,9 @@ fn weigh(weights: &[u16], scale: Scale, t: &[u32], a: usize, work: &mut [u64])
 {
     work[0] = 4294967296;
     work[1] = scale.start;
-    let mut k = 2;
-    while k <= a {
+    for k in 2..a + 1 {
         let w = weight_word(weights, scale, t, k, work);
         work[k] = w;
-        k += 1;
     }
 }
 
@@ -369,7 +325,7 @@ fn write_lightest(
     requires a_nonzero { (0 < a) × (a < nodes t.now + 2) }
     requires filled { Filled (weight_word weights.now scale t.now) (a + 1) work.now }
     requires a_in_bounds { length (lightestOf weights.now scale (family_at t.now a)) ≤ length page.old }
-    ensures { Wrote (lightestOf weights.now scale (family_at t.now a)) page.old page.new (Written.Packages result) }
+    ensures { Wrote (lightestOf weights.now scale (family_at t.now a)) page.old page.new (Some result) }
 {
     let mut node = a;
     let mut n: usize = 0;
@@ -388,7 +344,8 @@ fn write_lightest(
     }
 }
 
-// Of the sets of number a with the least weight the first listed, to the start of the page: measured first, and written only where it fits.
+// Of the sets of number a with the least weight the first listed, to the start of the page: measured first, and written only where it fits; or
+// None where the page is too short.
 fn lightest(
     weights: &[u16],
     scale: Scale,
@@ -396,7 +353,7 @@ fn lightest(
     a: usize,
     work: &mut [u64],
     page: &mut [u16],
-) -> Chosen
+) -> Option<Chosen>
     requires weighable { Weighable t.now weights.now scale }
     requires a_nonzero { (0 < a) × (a < nodes t.now + 2) }
     requires a_in_bounds { a < length work.old }
@@ -406,18 +363,24 @@ fn lightest(
     weigh(weights, scale, t, a, work);
     let n = measure_lightest(weights, scale, t, a, work);
     if page.len() < n {
-        return Chosen::NoRoom;
+        return None;
     }
     let m = write_lightest(weights, scale, t, a, work, page);
     let x = work[a] as u32;
-    Chosen::Found {
+    Some(Chosen {
         packages: m,
         weight: x,
-    }
+    })
 }
 
-// Of the sets of number a with the least cost the first listed, to the start of the page.
-pub fn cheapest(costs: &[u16], t: &[u32], a: usize, work: &mut [u64], page: &mut [u16]) -> Chosen
+// Of the sets of number a with the least cost the first listed, to the start of the page, or None where it is too short.
+pub fn cheapest(
+    costs: &[u16],
+    t: &[u32],
+    a: usize,
+    work: &mut [u64],
+    page: &mut [u16],
+) -> Option<Chosen>
     requires priceable { Priceable t.now costs.now }
     requires a_nonzero { (0 < a) × (a < nodes t.now + 2) }
     requires a_in_bounds { a < length work.old }
@@ -428,33 +391,25 @@ pub fn cheapest(costs: &[u16], t: &[u32], a: usize, work: &mut [u64], page: &mut
     lightest(costs, scale, t, a, work, page)
 }
 
-fn index(x: u16) -> usize
-    ensures { result ≡ x }
-{
-    x as usize
-}
-
 // Whether each package of s is known and comes before the next.
 pub fn in_precedence(s: &[u16], keys: &[u32]) -> bool
     ensures { result ≡ in_precedence keys.now s.now }
 {
-    let mut i: usize = 0;
-    while i < s.len() {
-        let p = index(s[i]);
+    for i in 0..s.len() {
+        let p = s[i] as usize;
         if keys.len() <= p {
             return false;
         }
         if i + 1 == s.len() {
             return true;
         }
-        let q = index(s[i + 1]);
+        let q = s[i + 1] as usize;
         if keys.len() <= q {
             return false;
         }
         if keys[q] <= keys[p] {
             return false;
         }
-        i += 1;
     }
     true
 }
@@ -465,17 +420,14 @@ fn mark(s: &[u16], weights: &mut [u16; 512])
     requires s_value { any_unknown weights.old s.now ≡ false }
     ensures { Marked s.now weights.old weights.new }
 {
-    let mut i: usize = 0;
-    while i < s.len() {
-        let p = index(s[i]);
-        weights[p] = 0;
-        i += 1;
+    for p in s {
+        weights[*p as usize] = 0;
     }
 }
 
-// Of the sets of number a that differ from s in the fewest packages the first listed, to the start of the page. The empty set lacks all of s; each package
-// makes the difference one less where s has it, and else one more.
-pub fn closest(s: &[u16], t: &[u32], a: usize, work: &mut [u64], page: &mut [u16]) -> Chosen
+// Of the sets of number a that differ from s in the fewest packages the first listed, to the start of the page, or None where it is too short. The empty set
+// lacks all of s; each package makes the difference one less where s has it, and else one more.
+pub fn closest(s: &[u16], t: &[u32], a: usize, work: &mut [u64], page: &mut [u16]) -> Option<Chosen>
     requires comparable { Comparable t.now s.now }
     requires a_nonzero { (0 < a) × (a < nodes t.now + 2) }
     requires a_in_bounds { a < length work.old }

@@ -5,7 +5,8 @@ use Rattle.query.proofs.Differences.{listed-known, difference_weighable, lightes
 use Rattle.query.proofs.closest.Goals as goal
 
 pub mark-requires-clause-s_value : goal.mark-requires-clause-s_value
-mark-requires-clause-s_value c = let l = length-replicate {A = ℕ} 512 2 in listed-known c.requires.comparable.table.keys _ _ c.requires.comparable.listed (omega (arith, l, c.requires.comparable.few))
+mark-requires-clause-s_value c = let l = length-replicate {A = ℕ} 512 2 in
+    listed-known c.requires.comparable.table.keys _ _ c.requires.comparable.listed (omega (arith, l, c.requires.comparable.few))
 
 pub lightest-requires-clause-weighable : goal.lightest-requires-clause-weighable
 lightest-requires-clause-weighable c = difference_weighable c.requires.comparable _ c.mark.ensures

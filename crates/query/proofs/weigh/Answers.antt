@@ -1,12 +1,6 @@
-use mathlib.Core.Path.{refl}
 use native.Mathlib.Omega.{arith}
 use Rattle.query.proofs.WeightWords.{filled-ends}
 use Rattle.query.proofs.weigh.Goals as goal
 
 pub loop-k-init : goal.loop-k-init
-loop-k-init c = (
-  filled-ends c.args.weights.now c.args.scale c.args.t.now c.args.work.now (omega (arith, c.requires.a_in_bounds, c.requires.a_nonzero.0)),
-  refl,
-  omega arith,
-  omega (arith, c.requires.a_nonzero.0),
-)
+loop-k-init c = filled-ends c.args.weights.now c.args.scale c.args.t.now c.args.work.now (omega (arith, c.requires.a_in_bounds, c.requires.a_nonzero.0))
