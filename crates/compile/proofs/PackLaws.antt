@@ -1,14 +1,23 @@
 -- The packages in positions, as their words are written one after the other. Assumes nothing.
 use mathlib.Core.Path.{◌≡◌, sym, ap, ◌∙◌}
 use mathlib.Core.Logic.{inl}
-use mathlib.Core.List.{List, map}
-use Prim.Native.Nat.{ℕ, ◌+◌, ◌*◌, ◌/◌, ◌≤◌, ◌<◌}
+use mathlib.Core.List.{List, [], ◌∷◌, map}
+use Prim.Native.Nat.{ℕ, ◌+◌, ◌*◌, ◌/◌, ◌^◌, ◌≤◌, ◌<◌}
 use native.Mathlib.Decide.{ℕ_discrete}
 use native.Mathlib.Omega.{arith}
 use lib.ListN.{length, get_or, take, drop, length-map, get_or-map}
 use lib.Seq.{sets, length-sets, get_or-take, length-take-le, ext_get_or}
-use Rattle.itemset.specs.Words.{value_of, sets_of}
+use denote.Laws.{Is}
+use denote.Struct.Declared.{row}
+use denote.Struct.Laws.{val}
+use Rattle.itemset.specs.contracts.Items.{the_type}
+use Rattle.itemset.specs.declared.Items.{Items}
+use Rattle.itemset.proofs.Items.TheLaws.{the_laws}
+use Rattle.itemset.proofs.Three.{known, items_lt}
+use Rattle.itemset.specs.Words.{width, value, value_of, sets_of}
 use Rattle.itemset.proofs.Stored.{words_from_lem, from_same, take_same, length-sets_of, sets_of-at, sets_other, sets-read}
+use Rattle.exact_cover.specs.Problem.{up_to}
+use Rattle.exact_cover.proofs.Permuted.{plain-small}
 use Rattle.exact_cover.specs.Positions.{positions}
 use Rattle.exact_cover.proofs.PositionLaws.{positions-none}
 
@@ -52,3 +61,7 @@ written_all {xs} {order} {packs} k few l w =
     ∙ words_from_lem 3 (3 * p) packs (omega (arith, w.long)))
     ∙ w.each p (omega arith)
     ∙ sym (ap (get_or (map (positions order) xs) p) (sym (positions-none order)) ∙ get_or-map (positions order) xs p 0))
+
+-- a set that a function is given holds items of the plain order
+pub small_items : (x : Items) → Is (row the_type) x (val the_type the_laws x ∷ []) → value x < 2 ^ length (up_to width)
+small_items x g = plain-small (items_lt x (known x g))

@@ -8,7 +8,7 @@ use native.Mathlib.Nat.{mod-lt}
 use native.Mathlib.Decide.{ℕ_discrete}
 use native.Mathlib.Omega.{arith}
 use lib.Dec.{ltb}
-use lib.ListN.{length, get_or, set, length-set, replicate, length-replicate}
+use lib.ListN.{length, get_or, set, take, length-set, replicate, length-replicate}
 use lib.Seq.{get_or-set_same, get_or-set_other}
 use borrow.Author.Tests.{lt-ltb, le-ltb}
 use Rattle.memo.specs.Memo.{Cleared}
@@ -18,6 +18,7 @@ use Rattle.zdd.specs.Table.{count, capacity, nodes_of}
 use Rattle.zdd.specs.Work.{Got}
 use Rattle.zdd.proofs.Got.{got_eq, got_known, got_flag, got_made_exactly}
 use Rattle.exact_cover.specs.Problem.{Problem, row, span, lead, Rows}
+use Rattle.itemset.specs.Words.{sets_of}
 use Rattle.exact_cover.specs.Cover.{covering}
 use Rattle.exact_cover.specs.Positions.{positions, in_plain_order, permuted, plainb, Inverse, Located, Carried}
 use Rattle.exact_cover.proofs.Permuted.{keys-permuted, covering-permuted}
@@ -26,7 +27,9 @@ use Rattle.table.specs.State.{Grown}
 use Rattle.exact_cover.specs.Steps.{Walk, search, steps}
 use Rattle.buckets.specs.Chain.{Index, inserted}
 use Rattle.buckets.proofs.ChainLaws as chain
-use Rattle.compile.specs.State.{lead_of, Held, Is, Searched, NoPacks, Enlisted, Sought, Covered}
+use Rattle.std.proofs.Common.{Option, Some, None}
+use Rattle.compile.specs.declared.Run.{Run}
+use Rattle.compile.specs.State.{lead_of, Held, Is, Searched, NoPacks, Enlisted, Sought, Ran, Covered}
 
 -- ---- the package index
 
@@ -115,34 +118,42 @@ pub same_problem : (Q : Problem) {xs : List ℕ} {o : ℕ} → xs ≡ map (posit
     → in_plain_order xs o ≡ permuted Q
 same_problem Q e f = ap₂ in_plain_order e f
 
-module _ {Q : Problem} (good : Rows Q) (A : ℕ) (small : A < 2 ^ span Q) {inverse : List ℕ} (v : Inverse Q.order inverse) {P : ℕ} (pos : 0 < P) {homes : List ℕ}
-    (home : (p : ℕ) → p < length Q.packages → get_or homes p 0 ≡ row Q p % P) {limit : ℕ} {t memo₀ memo t' index' memo' : List ℕ} {a n : ℕ} {full over : Bool}
-    (c : Cleared P memo₀ memo) {Q' : Problem} {at B : ℕ} (lent : Q' ≡ permuted Q) (there : at ≡ A % P) (goal : B ≡ positions Q.order A)
-    (d₀ : Searched Q' P homes at B limit t memo 0 false t' index' memo' a n full over) where
-  d : Searched (permuted Q) P homes (A % P) (positions Q.order A) limit t memo 0 false t' index' memo' a n full over
-  d = subst (λ (R : Problem). Searched R P homes (A % P) (positions Q.order A) limit t memo 0 false t' index' memo' a n full over) lent
-      (subst (λ (j : ℕ). Searched Q' P homes j (positions Q.order A) limit t memo 0 false t' index' memo' a n full over) there
-      (subst (λ (D : ℕ). Searched Q' P homes at D limit t memo 0 false t' index' memo' a n full over) goal d₀))
+pub lent_problem : (Q : Problem) (packs : List ℕ) {k o : ℕ} → k ≡ length Q.packages → sets_of (take (3 * length Q.packages) packs) ≡ map (positions Q.order) Q.packages
+    → o ≡ positions Q.order Q.optional → in_plain_order (sets_of (take (3 * k) packs)) o ≡ permuted Q
+lent_problem Q packs e f g = same_problem Q (ap (λ (k : ℕ). sets_of (take (3 * k) packs)) e ∙ f) g
 
-  abbrev h : ℕ → ℕ
-  h = home_of Q good inverse v P
+module _ {Q : Problem} (good : Rows Q) (A : ℕ) (small : A < 2 ^ span Q) {inverse : List ℕ} (v : Inverse Q.order inverse) {P : ℕ} (pos : 0 < P) (homes : List ℕ)
+    (home : (p : ℕ) → p < length Q.packages → get_or homes p 0 ≡ row Q p % P) (limit : ℕ) {memo₀ memo : List ℕ} (t t' index' memo' : List ℕ)
+    (c : Cleared P memo₀ memo) {Q' : Problem} {at B : ℕ} (lent : Q' ≡ permuted Q) (there : at ≡ A % P) (goal : B ≡ positions Q.order A) where
+  module _ {a n : ℕ} {full over : Bool} (d₀ : Searched Q' P homes at B limit t memo 0 false t' index' memo' a n full over) where
+    d : Searched (permuted Q) P homes (A % P) (positions Q.order A) limit t memo 0 false t' index' memo' a n full over
+    d = subst (λ (R : Problem). Searched R P homes (A % P) (positions Q.order A) limit t memo 0 false t' index' memo' a n full over) lent
+        (subst (λ (j : ℕ). Searched Q' P homes j (positions Q.order A) limit t memo 0 false t' index' memo' a n full over) there
+        (subst (λ (D : ℕ). Searched Q' P homes at D limit t memo 0 false t' index' memo' a n full over) goal d₀))
 
-  carried : Carried (permuted Q) P homes h
-  carried = home_carried Q good inverse v P pos homes home
+    abbrev h : ℕ → ℕ
+    h = home_of Q good inverse v P
 
-  enters : (search (permuted Q) h (positions Q.order A) (first_walk c)).entered ≡ steps Q P A
-  enters = steps-permuted Q good P pos h (home_is Q good inverse v P) A small
+    carried : Carried (permuted Q) P homes h
+    carried = home_carried Q good inverse v P pos homes home
 
-  pub sought : Sought Q P A limit t t' index' a n full over
-  sought = record {
-    grown = subst (λ (K : List ℕ). Grown K t t') (keys-permuted Q good) d.grown;
-    indexed = d.indexed;
-    got = λ o. got_eq (covering-permuted Q good A small)
-        (subst (λ (K : List ℕ). Got K (capacity t) (nodes_of t) false a (nodes_of t') full (covering (permuted Q) (positions Q.order A))) (keys-permuted Q good) (d.got o));
-    counted = λ o. sym (d.walk o h carried (home_is Q good inverse v P A small) (first_walk c) (cleared_is c)).entries ∙ enters;
-    within = d.within;
-    spent = λ o. omega (arith, d.spent o h carried (home_is Q good inverse v P A small) (first_walk c) (cleared_is c), enters);
-  }
+    enters : (search (permuted Q) h (positions Q.order A) (first_walk c)).entered ≡ steps Q P A
+    enters = steps-permuted Q good P pos h (home_is Q good inverse v P) A small
+
+    sought : Sought Q P A limit t t' index' a n full over
+    sought = record {
+      grown = subst (λ (K : List ℕ). Grown K t t') (keys-permuted Q good) d.grown;
+      indexed = d.indexed;
+      got = λ o. got_eq (covering-permuted Q good A small)
+          (subst (λ (K : List ℕ). Got K (capacity t) (nodes_of t) false a (nodes_of t') full (covering (permuted Q) (positions Q.order A))) (keys-permuted Q good) (d.got o));
+      counted = λ o. sym (d.walk o h carried (home_is Q good inverse v P A small) (first_walk c) (cleared_is c)).entries ∙ enters;
+      within = d.within;
+      spent = λ o. omega (arith, d.spent o h carried (home_is Q good inverse v P A small) (first_walk c) (cleared_is c), enters);
+    }
+
+  pub sought-ran : (x : Option Run) → Ran (Searched Q' P homes at B limit t memo 0 false t' index' memo') x → Ran (Sought Q P A limit t t' index') x
+  sought-ran (Some x) y = sought y
+  sought-ran None y = sought y
 
 -- ---- what cover answers
 

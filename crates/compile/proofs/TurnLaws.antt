@@ -33,7 +33,9 @@ use Rattle.exact_cover.proofs.Trial.{Trial, trial_start, trial_skip, trial-take,
 use Rattle.buckets.specs.Chain.{Last}
 use Rattle.table.specs.State.{Grown, Indexed, May, Made, Unique}
 use Rattle.table.proofs.GrownLaws.{grown_refl, grown_trans, grown_more}
-use Rattle.compile.specs.State.{lead_of, Packs, Held, Searchable, Is, tried, Searched, Tried}
+use Rattle.std.proofs.Common.{Option, Some, None}
+use Rattle.compile.specs.declared.Run.{Run}
+use Rattle.compile.specs.State.{lead_of, Packs, Held, Searchable, Is, tried, Searched, Tried, Ran}
 use Rattle.compile.proofs.WalkLaws.{sub, search_enters, onward, onward_skip, onward-take, onward-more, onward_end, onward-all, is_enter, is_known, is_new, is_store, known-done}
 use Rattle.table.proofs.GotLaws.{made_got}
 use Rattle.compile.proofs.MemoLaws.{held_grown, held_store}
@@ -58,8 +60,8 @@ pub record Turn (Q : Problem) (P : ℕ) (homes : List ℕ) (at A limit : ℕ) (t
 
 module _ {Q : Problem} {P : ℕ} {leads homes : List ℕ} (ps : Packs Q P leads homes) {limit : ℕ} {t index memo : List ℕ} {n : ℕ} {b : Bool} (r : Searchable Q P t index memo b) (A at : ℕ) where
   -- the limit is met
-  pub search-over : limit ≤ n → (a n' : ℕ) → Searched Q P homes at A limit t memo n b t index memo a n' b true
-  search-over h a n' = record {
+  pub search-over : limit ≤ n → (a n' : ℕ) (b' : Bool) → Searched Q P homes at A limit t memo n b t index memo a n' b' true
+  search-over h a n' b' = record {
     grown = grown_refl r.sound;
     indexed = r.indexed;
     same = refl;
@@ -116,7 +118,20 @@ module _ {Q : Problem} {P : ℕ} {leads homes : List ℕ} (ps : Packs Q P leads 
         new : (h : ℕ → ℕ) → h A ≡ at → (w : Walk) → Is P w n memo → search Q h A w ≡ tried Q h A (enter w)
         new h q w s = search_new Q h A w (is_new s Q h A at q lt p k)
 
+pub search-ran : {Q : Problem} {P : ℕ} {leads homes : List ℕ} (ps : Packs Q P leads homes) (limit : ℕ) {t index memo : List ℕ} (n : ℕ) {b : Bool} (r : Searchable Q P t index memo b) (A at : ℕ)
+    → at < P → (n' : ℕ) (t' index' memo' : List ℕ) (x : Option Run) → n' ≡ n + 1 → done Q A ≡ false → (key_at P memo at ≡ A → ⊥)
+    → Ran (Tried Q P homes at A limit t memo n' b t' index' memo') x → Ran (Searched Q P homes at A limit t memo n b t' index' memo') x
+search-ran ps limit n r A at lt n' t' index' memo' (Some x) e p k d = search-tried ps {limit = limit} {n = n} r A at lt n' e p k d
+search-ran ps limit n r A at lt n' t' index' memo' None e p k d = search-tried ps {limit = limit} {n = n} r A at lt n' e p k d
+
 -- ---- trial
+
+-- what a package of items x leaves of A, and that it lies inside A, where x is y
+pub rest_is : (A : ℕ) {x y B : ℕ} → x ≡ y → B ≡ without A x → B ≡ without A y
+rest_is A r z = z ∙ ap (without A) r
+
+pub rest_inside : (A : ℕ) {x y : ℕ} → x ≡ y → insideb x A ≡ true → insideb y A ≡ true
+rest_inside A r i = rw r at i
 
 module _ {Q : Problem} {P : ℕ} {leads homes : List ℕ} (ps : Packs Q P leads homes) (A at : ℕ) (small : A < 2 ^ span Q) (some : done Q A ≡ false) where
   -- a package with another lead is no candidate
@@ -160,14 +175,8 @@ module _ {Q : Problem} {P : ℕ} {leads homes : List ℕ} (ps : Packs Q P leads 
     pub at-fits : insideb (row Q k) A ≡ true → fits Q A k ≡ true
     at-fits i = fit k p e (omega (arith, a.inside)) (a.own (omega arith)) i
 
-    -- what package k leaves of A: it is less, and its place is a difference of places
+    -- what package k leaves of A is less
     module _ (x B : ℕ) (r : x ≡ row Q k) (z : B ≡ without A x) (i : insideb x A ≡ true) where
-      pub rest_is : B ≡ without A (row Q k)
-      rest_is = z ∙ ap (without A) r
-
-      pub rest_inside : insideb (row Q k) A ≡ true
-      rest_inside = rw r at i
-
       pub rest_less : B < A
       rest_less = omega (arith, z, without_back A x i, r, open_pos Q (row Q k) (ps.rows.some k (omega (arith, a.inside))))
 

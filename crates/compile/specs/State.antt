@@ -1,6 +1,6 @@
 -- The packages by lead, the memo, and what search and trial ensure. Q is the problem, in the plain order: search works on positions, and cover permutes what it
 -- is lent. P is the number of the memo's places. Assumes nothing.
-use Rattle.std.specs.Prelude.{◌≡◌, Bool, true, false, List, ℕ, ◌+◌, ◌-◌, ◌*◌, ◌%◌, ◌^◌, ◌<◌, ◌≤◌, ltb, length, get_or}
+use Rattle.std.specs.Prelude.{◌≡◌, Bool, true, false, List, ℕ, ◌+◌, ◌-◌, ◌*◌, ◌%◌, ◌^◌, ◌<◌, ◌≤◌, ltb, length, get_or, Option, Some, None, Result, Ok, Err}
 use Rattle.itemset.specs.Items.{without}
 use Rattle.memo.specs.Memo.{key_at, number_at}
 use Rattle.zdd.specs.Table.{count, capacity, nodes_of, family, Sound}
@@ -12,6 +12,10 @@ use Rattle.exact_cover.specs.Steps.{Walk, store, each, search, steps}
 use Rattle.exact_cover.specs.Positions.{Carried}
 use Rattle.buckets.specs.Chain.{Index}
 use Rattle.table.specs.State.{Grown, Indexed, Obtained}
+use Rattle.compile.specs.declared.Run.{Run}
+use Rattle.compile.specs.declared.Answer.{Answer}
+use Rattle.compile.specs.declared.Failure.{Failure}
+use Rattle.compile.specs.declared.Failure.TheVariants.{Spent, Full}
 
 -- ---- the packages by lead: entry p of the index is package p - 1, and 0 is none
 
@@ -98,6 +102,11 @@ pub record Sought (Q : Problem) (P A limit : ℕ) (t t' index' : List ℕ) (a n 
   pub within : over ≡ false → n ≤ limit
   pub spent : over ≡ true → limit < steps Q P A
 
+-- how a search ended: with a run, of which f says what it says where the limit was not met, or with none, where it was
+abbrev pub Ran : (ℕ → ℕ → Bool → Bool → Type 0) → Option Run → Type 0
+Ran f (Some r) = f r.answer r.steps r.full false
+Ran f None = f 0 0 false true
+
 -- the answer a, after n steps and with m nodes made
 pub record CoverFound (Q : Problem) (P A : ℕ) (t t' index' : List ℕ) (a n m : ℕ) : Type 0 where
   pub got : Obtained (keys_of Q) t t' index' a (covering Q A)
@@ -113,6 +122,12 @@ pub record Covered (Q : Problem) (P A limit : ℕ) (t t' index' : List ℕ) (a n
   pub back : over ≡ true → t' ≡ t
   pub back_full : full ≡ true → t' ≡ t
   pub answer : over ≡ false → full ≡ false → CoverFound Q P A t t' index' a n m
+
+-- how cover ended: with an answer, or spent, or full
+abbrev pub CoverEnded : Problem → ℕ → ℕ → ℕ → List ℕ → List ℕ → List ℕ → Result Answer Failure → Type 0
+CoverEnded Q P A limit t t' index' (Ok x) = Covered Q P A limit t t' index' x.answer x.steps x.made false false
+CoverEnded Q P A limit t t' index' (Err Spent) = Covered Q P A limit t t' index' 0 0 0 false true
+CoverEnded Q P A limit t t' index' (Err Full) = Covered Q P A limit t t' index' 0 0 0 true false
 
 -- no place of the memo has a key
 abbrev pub Unkeyed : ℕ → List ℕ → Type 0

@@ -14,7 +14,7 @@
 #![tactic(auto)]
 
 ghost use Rattle.std.specs.Prelude.{◌≡◌, true, false, ℕ, ◌+◌, ◌-◌, ◌*◌, ◌/◌, ◌^◌, ◌<◌, ◌≤◌, map, length, take};
-ghost use Rattle.compile.specs.State.{Packs, Searchable, Searched, Tried, Listed, NoPacks, Enlisted, Unkeyed, Sought, Covered};
+ghost use Rattle.compile.specs.State.{Packs, Searchable, Searched, Tried, Listed, NoPacks, Enlisted, Unkeyed, Sought, Ran, CoverEnded};
 ghost use Rattle.itemset.specs.Items.{lowest, without};
 ghost use Rattle.itemset.specs.Words.{width, value_of, value, sets_of};
 ghost use Rattle.zdd.specs.Table.{Sound};
@@ -25,13 +25,12 @@ ghost use Rattle.table.specs.State.{Indexed};
 
 use itemset::Items;
 
-// A search's state: the number of the answer so far, the entries so far, whether the table had no room, whether the limit was met.
+// A search's state: the number of the answer so far, the entries so far, whether the table had no room.
 #[derive(Clone, Copy)]
 pub struct Run {
     pub answer: u32,
     pub steps: u64,
     pub full: bool,
-    pub over: bool,
 }
 
 // The compulsory items of a set. (The optional set is lent as an array: by value it would be copied for each search.)
@@ -50,7 +49,7 @@ fn lowest_compulsory(items: Items, optional: &[u64; 3]) -> u32
     itemset::lowest(compulsory(items, optional))
 }
 
-// The covers of the items, whose place is `at`. Each call is one entry, and counts, unless the limit is met.
+// The covers of the items, whose place is `at`. Each call is one entry, and counts, unless the limit is met: then there is none.
 #[cycle(search_trial)]
 fn search(
     packs: &[u64],
@@ -65,44 +64,37 @@ fn search(
     items: Items,
     limit: u64,
     start: Run,
-) -> Run
+) -> Option<Run>
     requires packs { Packs (in_plain_order (sets_of packs.now) (value_of optional.now)) places leads.now homes.now }
     requires searchable { Searchable (in_plain_order (sets_of packs.now) (value_of optional.now)) places t.old index.old memo.old start.full }
     requires steps_le_limit { start.steps ≤ limit }
     requires at_lt_places { at < places }
-    ensures { Searched (in_plain_order (sets_of packs.now) (value_of optional.now)) places homes.now at (value items)
+    ensures { Ran (Searched (in_plain_order (sets_of packs.now) (value_of optional.now)) places homes.now at (value items)
         limit t.old memo.old start.steps start.full
-        t.new index.new memo.new result.answer result.steps result.full result.over }
+        t.new index.new memo.new) result }
 {
     let steps = start.steps;
     let full = start.full;
     if limit <= steps {
-        return Run {
-            answer: 0,
-            steps: steps,
-            full: full,
-            over: true,
-        };
+        return None;
     }
     let entered = steps + 1;
     let due = compulsory(items, optional);
     if itemset::is_empty(due) {
-        return Run {
+        return Some(Run {
             answer: 1,
             steps: entered,
-            full: full,
-            over: false,
-        };
+            full,
+        });
     }
     if memo::is_key(memo, places, at, items) {
-        return Run {
+        return Some(Run {
             answer: memo::number(memo, places, at),
             steps: entered,
-            full: full,
-            over: false,
-        };
+            full,
+        });
     }
-    let low = base::wide(itemset::lowest(due));
+    let low = itemset::lowest(due) as usize;
     trial(
         packs,
         optional,
@@ -119,8 +111,7 @@ fn search(
         Run {
             answer: 0,
             steps: entered,
-            full: full,
-            over: false,
+            full,
         },
     )
 }
@@ -142,26 +133,25 @@ fn trial(
     low: usize,
     limit: u64,
     start: Run,
-) -> Run
+) -> Option<Run>
     requires packs { Packs (in_plain_order (sets_of packs.now) (value_of optional.now)) places leads.now homes.now }
     requires searchable { Searchable (in_plain_order (sets_of packs.now) (value_of optional.now)) places t.old index.old memo.old start.full }
     requires steps_le_limit { start.steps ≤ limit }
     requires value { (done (in_plain_order (sets_of packs.now) (value_of optional.now)) (value items) ≡ false) × (at < places)
         × (low ≡ lead (in_plain_order (sets_of packs.now) (value_of optional.now)) (value items)) }
-    ensures { Tried (in_plain_order (sets_of packs.now) (value_of optional.now)) places homes.now at (value items)
+    ensures { Ran (Tried (in_plain_order (sets_of packs.now) (value_of optional.now)) places homes.now at (value items)
         limit t.old memo.old start.steps start.full
-        t.new index.new memo.new result.answer result.steps result.full result.over }
+        t.new index.new memo.new) result }
 {
     let mut p = leads[low];
     let mut run = Run {
         answer: 0,
         steps: start.steps,
         full: start.full,
-        over: false,
     };
     while p != 0 {
         let label = (p - 1) as u32;
-        let k = base::wide(label);
+        let k = label as usize;
         let pack = exact_cover::items(packs, k);
         let home = homes[k] as usize;
         let later = leads[k + 194];
@@ -173,10 +163,7 @@ fn trial(
         let there = itemset::place_without(at, home, places);
         let r = search(
             packs, optional, leads, homes, t, index, memo, places, there, rest, limit, run,
-        );
-        if r.over {
-            return r;
-        }
+        )?;
         let y = r.answer;
         run.steps = r.steps;
         run.full = r.full;
@@ -192,7 +179,7 @@ fn trial(
         run.full = z == 0;
     }
     memo::store(memo, places, at, items, run.answer);
-    run
+    Some(run)
 }
 
 // The packages in positions of the order.
@@ -211,12 +198,10 @@ fn in_positions(
     ensures packs_len_2 { length packs.new ≡ 1536 }
 {
     let n = exact_cover::number(packages);
-    let mut k: usize = 0;
-    while k < n {
+    for k in 0..n {
         let x = exact_cover::items(packages, k);
         let y = exact_cover::positions(x, order, inverse, plain);
         itemset::write(packs, 3 * k, y);
-        k += 1;
     }
 }
 
@@ -238,13 +223,11 @@ fn enlist(
         leads.new homes.new }
 {
     let n = exact_cover::number(packs);
-    let mut k: usize = 0;
-    while k < n {
-        let low = base::wide(lowest_compulsory(exact_cover::items(packs, k), optional));
+    for k in 0..n {
+        let low = lowest_compulsory(exact_cover::items(packs, k), optional) as usize;
         buckets::insert(leads, 193, low, (k + 1) as u16);
         let x = exact_cover::items(packages, k);
         homes[k] = itemset::place(x, places) as u64;
-        k += 1;
     }
 }
 
@@ -261,33 +244,27 @@ fn begin(
     at: usize,
     items: Items,
     limit: u64,
-) -> Run
+) -> Option<Run>
     requires packs { Packs (in_plain_order (sets_of packs.now) (value_of optional.now)) places leads.now homes.now }
     requires searchable { Searchable (in_plain_order (sets_of packs.now) (value_of optional.now)) places t.old index.old memo.old false }
     requires unkeyed { Unkeyed places memo.old }
     requires at_lt_places { at < places }
-    ensures { Searched (in_plain_order (sets_of packs.now) (value_of optional.now)) places homes.now at (value items)
+    ensures { Ran (Searched (in_plain_order (sets_of packs.now) (value_of optional.now)) places homes.now at (value items)
         limit t.old memo.old 0 false
-        t.new index.new memo.new result.answer result.steps result.full result.over }
+        t.new index.new memo.new) result }
 {
     if limit == 0 {
-        return Run {
-            answer: 0,
-            steps: 0,
-            full: false,
-            over: true,
-        };
+        return None;
     }
     let due = compulsory(items, optional);
     if itemset::is_empty(due) {
-        return Run {
+        return Some(Run {
             answer: 1,
             steps: 1,
             full: false,
-            over: false,
-        };
+        });
     }
-    let low = base::wide(itemset::lowest(due));
+    let low = itemset::lowest(due) as usize;
     trial(
         packs,
         optional,
@@ -305,7 +282,6 @@ fn begin(
             answer: 0,
             steps: 1,
             full: false,
-            over: false,
         },
     )
 }
@@ -322,14 +298,14 @@ fn seek(
     places: usize,
     items: Items,
     limit: u64,
-) -> Run
+) -> Option<Run>
     requires rows { Rows (problem_of packages.now (value optional) order.now) }
     requires bound { value items < 2 ^ length order.now }
     requires sound { Sound (keys_of (problem_of packages.now (value optional) order.now)) t.old }
     requires indexed { Indexed t.old index.old }
     requires places_nonzero { (0 < places) × (4 * places ≤ length memo.old) }
-    ensures { Sought (problem_of packages.now (value optional) order.now) places (value items) limit t.old
-        t.new index.new result.answer result.steps result.full result.over }
+    ensures { Ran (Sought (problem_of packages.now (value optional) order.now) places (value items) limit t.old
+        t.new index.new) result }
 {
     let plain = exact_cover::is_plain(order);
     let mut inverse = [0u8; 192];
@@ -367,18 +343,22 @@ fn seek(
     )
 }
 
-// What cover answers: over where the steps exceed the limit, else full where the nodes outnumber the free places; else the answer, the steps and the
-// nodes made.
+// What cover answers: the number of the covers, the entries into search and the nodes made.
 #[derive(Clone, Copy)]
 pub struct Answer {
     pub answer: u32,
     pub steps: u64,
     pub made: u32,
-    pub full: bool,
-    pub over: bool,
 }
 
-// The covers of the items, as a number of the table. Where there is none, over or full, the table goes back to what it was.
+// Why there is no answer: the steps exceed the limit, or else the nodes outnumber the free places.
+#[derive(Clone, Copy)]
+pub enum Failure {
+    Spent,
+    Full,
+}
+
+// The covers of the items, as a number of the table. Where there is none, the table goes back to what it was.
 pub fn cover(
     packages: &[u64],
     optional: Items,
@@ -388,46 +368,30 @@ pub fn cover(
     memo: &mut [u64],
     items: Items,
     limit: u64,
-) -> Answer
+) -> Result<Answer, Failure>
     requires rows { Rows (problem_of packages.now (value optional) order.now) }
     requires bound { value items < 2 ^ length order.now }
     requires sound { Sound (keys_of (problem_of packages.now (value optional) order.now)) t.old }
     requires indexed { Indexed t.old index.old }
     requires in_bounds { 4 ≤ length memo.old }
-    ensures { Covered (problem_of packages.now (value optional) order.now) (length memo.old / 4) (value items) limit
-        t.old t.new index.new result.answer result.steps result.made result.full result.over }
+    ensures { CoverEnded (problem_of packages.now (value optional) order.now) (length memo.old / 4) (value items) limit
+        t.old t.new index.new result }
 {
     let places = memo.len() / 4;
     let n = t[0];
-    let r = seek(
+    let Some(r) = seek(
         packages, optional, order, t, index, memo, places, items, limit,
-    );
-    if r.over {
+    ) else {
         table::rollback(t, n);
-        return Answer {
-            answer: 0,
-            steps: 0,
-            made: 0,
-            full: false,
-            over: true,
-        };
-    }
+        return Err(Failure::Spent);
+    };
     if r.full {
         table::rollback(t, n);
-        return Answer {
-            answer: 0,
-            steps: r.steps,
-            made: 0,
-            full: true,
-            over: false,
-        };
+        return Err(Failure::Full);
     }
-    let made = t[0] - n;
-    Answer {
+    Ok(Answer {
         answer: r.answer,
         steps: r.steps,
-        made,
-        full: false,
-        over: false,
-    }
+        made: t[0] - n,
+    })
 }

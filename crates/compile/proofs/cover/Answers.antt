@@ -1,14 +1,16 @@
-use Rattle.compile.proofs.TopLaws.{covered-full, covered-answer}
+use Rattle.compile.proofs.TopLaws.{covered-over, covered-full, covered-answer}
 use Rattle.table.proofs.GrownLaws.{grown_more}
 use mathlib.Core.Path.{refl}
 use Rattle.compile.proofs.cover.Goals as goal
 
-pub returns-then-r-2 : goal.returns-then-r-2
-returns-then-r-2 c = covered-full c.seek-r.ensures _ _ _ c.if-r.false c.if-r-2.true
-    (c.rollback-then-r-2.ensures _ _ c.requires.sound c.seek-r.ensures.grown refl)
+pub returns-in_default : goal.returns-in_default
+returns-in_default c = covered-over c.in_default.ensures _ _ refl (c.rollback.ensures _ _ c.requires.sound c.in_default.ensures.grown refl)
 
-pub overflow_sub-made : goal.overflow_sub-made
-overflow_sub-made c = grown_more c.seek-r.ensures.grown
+pub returns-then-r : goal.returns-then-r
+returns-then-r c = covered-full c.in-Some.ensures _ _ _ refl c.if-r.true (c.rollback-then-r.ensures _ _ c.requires.sound c.in-Some.ensures.grown refl)
+
+pub overflow_sub-result : goal.overflow_sub-result
+overflow_sub-result c = grown_more c.in-Some.ensures.grown
 
 pub returns : goal.returns
-returns c = covered-answer c.seek-r.ensures _ c.if-r.false c.if-r-2.false refl
+returns c = covered-answer c.in-Some.ensures _ refl c.if-r.false refl
