@@ -1,7 +1,7 @@
 -- Union, intersection, difference and join: the end cases, what is remembered, and the recursion. Assumes nothing.
 use mathlib.Core.Path.{◌≡◌, refl, sym, ap, ap₂, subst, subst⁻¹, ◌∙◌}
 use mathlib.Core.Logic.{◌⊎◌, inl, inr}
-use mathlib.Core.Bool.{Bool, ◌&&◌, ◌||◌, and_comm, or_comm}
+use mathlib.Core.Bool.{Bool, true, ◌&&◌, ◌||◌, and_comm, or_comm}
 use mathlib.Core.List.{List, [], ◌∷◌}
 use Prim.Native.Nat.{ℕ, zero, suc, ◌+◌, ◌-◌, ◌*◌, ◌/◌, ◌%◌, ◌<◌, ◌≤◌}
 use native.Mathlib.Omega.{arith}
@@ -15,8 +15,12 @@ use Rattle.zdd.specs.Operations.{combine, join, Apart}
 use Rattle.zdd.proofs.Operations.{union-nil, nil-union, union_self, inter-nil, nil-inter, inter_self, differ-nil, nil-differ, differ_self}
 use Rattle.zdd.proofs.Join.{join-nil, nil-join, join_one, one_join}
 use Rattle.zdd.proofs.JoinParts.{labels_apart}
-use Rattle.family.specs.Gives.{Operable, Gives, Noded, Answers}
-use Rattle.family.specs.Memo.{combined, Combinable, Ordered, Two, Pair, Ended, Ends, Cut}
+use Rattle.std.proofs.Common.{Option, Some, None}
+use Rattle.base.proofs.Bools.{never}
+use Rattle.family.specs.declared.Operation.{Operation}
+use Rattle.family.specs.declared.Operation.TheVariants.{Union, Intersection, Difference, Join}
+use Rattle.family.specs.Gives.{Operable, Gives, Yields, Noded, Answers}
+use Rattle.family.specs.Memo.{combined, Combinable, lesser_first, Ordered, Two, Pair, Ended, Ends, Cut}
 use Rattle.family.specs.Memo.{mixed, Packed, place_of, entry_at, tagged, Hit, Recalled, Remembered, Noted}
 use Rattle.family.proofs.MemoryLaws.{mixed-small, mixed-once, place-once, empty}
 use Rattle.family.proofs.GivesLaws.{gives_there, gives_answers, gives_keeps, gives_more, gives_eq, step-none-hi, step-none-lo, step_child, step-node}
@@ -27,24 +31,25 @@ combine-turns : (o : Bool → Bool → Bool) → ((a b : Bool) → o a b ≡ o b
 unfolding combine
 combine-turns o c K F G = filter_same (λ t. o (elem t F) (elem t G)) (λ t. o (elem t G) (elem t F)) (sets K) (λ t m. c (elem t F) (elem t G))
 
-turned : (op : ℕ) → op < 2 → (K : List ℕ) (F G : Family) → combined op K F G ≡ combined op K G F
-turned zero h = combine-turns ◌||◌ or_comm
-turned (suc zero) h = combine-turns ◌&&◌ and_comm
-turned (suc (suc n)) h = absurd (omega arith)
+turned : (op : Operation) → lesser_first op ≡ true → (K : List ℕ) (F G : Family) → combined op K F G ≡ combined op K G F
+turned Union h = combine-turns ◌||◌ or_comm
+turned Intersection h = combine-turns ◌&&◌ and_comm
+turned Difference h = absurd (never h refl)
+turned Join h = absurd (never h refl)
 
-pub packed_straight : (op f g : ℕ) {k : ℕ} → k ≡ mixed (f * 65536 + g) → Packed op f g k
+pub packed_straight : (op : Operation) (f g : ℕ) {k : ℕ} → k ≡ mixed (f * 65536 + g) → Packed op f g k
 packed_straight op f g e = record { first = f; second = g; is = e; order = inl (refl, refl) }
 
-pub packed_turned : (op f g : ℕ) {k : ℕ} → op < 2 → k ≡ mixed (g * 65536 + f) → Packed op f g k
-packed_turned op f g h e = record { first = g; second = f; is = e; order = inr (omega arith, (refl, refl)) }
+pub packed_turned : (op : Operation) (f g : ℕ) {k : ℕ} → lesser_first op ≡ true → k ≡ mixed (g * 65536 + f) → Packed op f g k
+packed_turned op f g h e = record { first = g; second = f; is = e; order = inr (h, (refl, refl)) }
 
-module _ {op f g k : ℕ} (p : Packed op f g k) where
+module _ {op : Operation} {f g k : ℕ} (p : Packed op f g k) where
   pub packed_same : (φ : ℕ → Family) (K : List ℕ) → combined op K (φ p.first) (φ p.second) ≡ combined op K (φ f) (φ g)
   packed_same φ K = go p.order
     where
       go : Ordered op f g p.first p.second → combined op K (φ p.first) (φ p.second) ≡ combined op K (φ f) (φ g)
       go (inl e) = ap₂ (combined op K) (ap φ e.0) (ap φ e.1)
-      go (inr e) = ap₂ (combined op K) (ap φ e.1.0) (ap φ e.1.1) ∙ turned op (omega (arith, e.0)) K (φ g) (φ f)
+      go (inr e) = ap₂ (combined op K) (ap φ e.1.0) (ap φ e.1.1) ∙ turned op e.0 K (φ g) (φ f)
 
   pub packed_known : (n : ℕ) → f < n → g < n → (p.first < n) × (p.second < n)
   packed_known n l m = go p.order
@@ -74,55 +79,50 @@ module _ {K : List ℕ} {ns : List Node} {f g : ℕ} (q : Pair K ns f g) where
   none : {F : Family} → F ≡ [] → Answers ns 0 F
   none e = record { known = omega arith; holds = family-zero ns ∙ sym e }
 
-  left-nil : (op : ℕ) {F : Family} → f ≡ 0 → combined op K [] (family ns g) ≡ F → combined op K (family ns f) (family ns g) ≡ F
+  left-nil : (op : Operation) {F : Family} → f ≡ 0 → combined op K [] (family ns g) ≡ F → combined op K (family ns f) (family ns g) ≡ F
   left-nil op z e = ap (λ (H : Family). combined op K H (family ns g)) (nil f z) ∙ e
 
-  right_nil : (op : ℕ) {F : Family} → g ≡ 0 → combined op K (family ns f) [] ≡ F → combined op K (family ns f) (family ns g) ≡ F
+  right_nil : (op : Operation) {F : Family} → g ≡ 0 → combined op K (family ns f) [] ≡ F → combined op K (family ns f) (family ns g) ≡ F
   right_nil op z e = ap (λ (H : Family). combined op K (family ns f) H) (nil g z) ∙ e
 
-  both : (op : ℕ) {F : Family} → f ≡ g → combined op K (family ns f) (family ns f) ≡ F → combined op K (family ns f) (family ns g) ≡ F
+  both : (op : Operation) {F : Family} → f ≡ g → combined op K (family ns f) (family ns f) ≡ F → combined op K (family ns f) (family ns g) ≡ F
   both op z e = ap (λ (k : ℕ). combined op K (family ns f) (family ns k)) (sym z) ∙ e
 
-  end_left-union : (op : ℕ) → f ≡ 0 → op ≡ 0 → Answers ns g (combined op K (family ns f) (family ns g))
-  end_left-union zero z e = record { known = q.right; holds = sym (left-nil 0 z (nil-union K q.keys (family ns g) lg)) }
-  end_left-union (suc op) z e = absurd (omega arith)
+  end_left_union : f ≡ 0 → Answers ns g (combined Union K (family ns f) (family ns g))
+  end_left_union z = record { known = q.right; holds = sym (left-nil Union z (nil-union K q.keys (family ns g) lg)) }
 
-  end_left : (op : ℕ) → f ≡ 0 → 0 < op → Answers ns 0 (combined op K (family ns f) (family ns g))
-  end_left zero z e = absurd (omega arith)
-  end_left (suc zero) z e = none (left-nil 1 z (nil-inter K q.keys (family ns g) lg))
-  end_left (suc (suc zero)) z e = none (left-nil 2 z (nil-differ K q.keys (family ns g) lg))
-  end_left (suc (suc (suc n))) z e = none (left-nil 3 z (nil-join K q.keys (family ns g)))
+  end_left : (op : Operation) → (op ≡ Union → ⊥) → f ≡ 0 → Answers ns 0 (combined op K (family ns f) (family ns g))
+  end_left Union e z = absurd (e refl)
+  end_left Intersection e z = none (left-nil Intersection z (nil-inter K q.keys (family ns g) lg))
+  end_left Difference e z = none (left-nil Difference z (nil-differ K q.keys (family ns g) lg))
+  end_left Join e z = none (left-nil Join z (nil-join K q.keys (family ns g)))
 
-  end_right_inter : (op : ℕ) → g ≡ 0 → op ≡ 1 → Answers ns 0 (combined op K (family ns f) (family ns g))
-  end_right_inter zero z e = absurd (omega arith)
-  end_right_inter (suc zero) z e = none (right_nil 1 z (inter-nil K q.keys (family ns f) lf))
-  end_right_inter (suc (suc n)) z e = absurd (omega arith)
+  end_right_union : g ≡ 0 → Answers ns f (combined Union K (family ns f) (family ns g))
+  end_right_union z = record { known = q.left; holds = sym (right_nil Union z (union-nil K q.keys (family ns f) lf)) }
 
-  end_right : (op : ℕ) → g ≡ 0 → op < 3 → (op ≡ 1 → ⊥) → Answers ns f (combined op K (family ns f) (family ns g))
-  end_right zero z l e = record { known = q.left; holds = sym (right_nil 0 z (union-nil K q.keys (family ns f) lf)) }
-  end_right (suc zero) z l e = absurd (e refl)
-  end_right (suc (suc zero)) z l e = record { known = q.left; holds = sym (right_nil 2 z (differ-nil K q.keys (family ns f) lf)) }
-  end_right (suc (suc (suc n))) z l e = absurd (omega arith)
+  end_right_inter : g ≡ 0 → Answers ns 0 (combined Intersection K (family ns f) (family ns g))
+  end_right_inter z = none (right_nil Intersection z (inter-nil K q.keys (family ns f) lf))
 
-  end_both : (op : ℕ) → f ≡ g → op < 2 → Answers ns f (combined op K (family ns f) (family ns g))
-  end_both zero z e = record { known = q.left; holds = sym (both 0 z (union_self K q.keys (family ns f) lf)) }
-  end_both (suc zero) z e = record { known = q.left; holds = sym (both 1 z (inter_self K q.keys (family ns f) lf)) }
-  end_both (suc (suc n)) z e = absurd (omega arith)
+  end_right_differ : g ≡ 0 → Answers ns f (combined Difference K (family ns f) (family ns g))
+  end_right_differ z = record { known = q.left; holds = sym (right_nil Difference z (differ-nil K q.keys (family ns f) lf)) }
 
-  end_both-differ : (op : ℕ) → f ≡ g → op ≡ 2 → Answers ns 0 (combined op K (family ns f) (family ns g))
-  end_both-differ zero z e = absurd (omega arith)
-  end_both-differ (suc zero) z e = absurd (omega arith)
-  end_both-differ (suc (suc zero)) z e = none (both 2 z (differ_self K q.keys (family ns f) lf))
-  end_both-differ (suc (suc (suc n))) z e = absurd (omega arith)
+  end_right_join : g ≡ 0 → Answers ns 0 (combined Join K (family ns f) (family ns g))
+  end_right_join z = none (right_nil Join z (join-nil K q.keys (family ns f)))
 
-  -- a join with 0, and one with 1
-  end_right_join : g ≡ 0 → Answers ns 0 (join K (family ns f) (family ns g))
-  end_right_join z = none (right_nil 3 z (join-nil K q.keys (family ns f)))
+  end_both_union : f ≡ g → Answers ns f (combined Union K (family ns f) (family ns g))
+  end_both_union z = record { known = q.left; holds = sym (both Union z (union_self K q.keys (family ns f) lf)) }
 
-  end_left_one : f ≡ 1 → Answers ns g (join K (family ns f) (family ns g))
+  end_both_inter : f ≡ g → Answers ns f (combined Intersection K (family ns f) (family ns g))
+  end_both_inter z = record { known = q.left; holds = sym (both Intersection z (inter_self K q.keys (family ns f) lf)) }
+
+  end_both_differ : f ≡ g → Answers ns 0 (combined Difference K (family ns f) (family ns g))
+  end_both_differ z = none (both Difference z (differ_self K q.keys (family ns f) lf))
+
+  -- a join with 1
+  end_left_one : f ≡ 1 → Answers ns g (combined Join K (family ns f) (family ns g))
   end_left_one z = record { known = q.right; holds = sym (ap (λ (H : Family). join K H (family ns g)) (one f z) ∙ one_join K q.keys (family ns g) lg) }
 
-  end_right_one : g ≡ 1 → Answers ns f (join K (family ns f) (family ns g))
+  end_right_one : g ≡ 1 → Answers ns f (combined Join K (family ns f) (family ns g))
   end_right_one z = record { known = q.left; holds = sym (ap (join K (family ns f)) (one g z) ∙ join_one K q.keys (family ns f) lf) }
 
   -- two nodes that have no label in common are two
@@ -138,73 +138,65 @@ module _ {K : List ℕ} {ns : List Node} {f g : ℕ} (q : Pair K ns f g) where
       same (suc zero) l h x = omega arith
       same (suc (suc i)) l h x = labels_apart q.nodes i i (omega arith) (omega arith) x refl
 
-  answered : (op r : ℕ) → Answers ns r (combined op K (family ns f) (family ns g)) → Ended op K ns f g r
-  answered op r a =
-      let z : r < 65536 = omega (arith, a.known, q.few) in
-      record { small = omega arith; answer = λ h. (z, a); two = λ e. absurd (omega arith) }
+  answered : (op : Operation) (r : ℕ) → Answers ns r (combined op K (family ns f) (family ns g)) → Ended op K ns f g (Some r)
+  answered op r a = (omega (arith, a.known, q.few), a)
 
-module _ (op f g : ℕ) where
-  pub ends-left-union : f ≡ 0 → op ≡ 0 → Ends op f g g
-  ends-left-union z e K ns q c = answered q op g (end_left-union q op z e)
+-- what is so of an operation is so of op, which is that operation
+abbrev this : (f g : ℕ) (r : Option ℕ) {op o : Operation} → op ≡ o → Ends o f g r → Ends op f g r
+this f g r e s = subst⁻¹ (λ (o : Operation). Ends o f g r) e s
 
-  pub ends-left : f ≡ 0 → 0 < op → Ends op f g 0
-  ends-left z e K ns q c = answered q op 0 (end_left q op z e)
+module _ (op : Operation) (f g : ℕ) where
+  pub ends_left_union : f ≡ 0 → op ≡ Union → Ends op f g (Some g)
+  ends_left_union z e = this f g (Some g) e (λ K ns q c. answered q Union g (end_left_union q z))
 
-  pub ends_right_inter : g ≡ 0 → op ≡ 1 → Ends op f g 0
-  ends_right_inter z e K ns q c = answered q op 0 (end_right_inter q op z e)
+  pub ends_left : f ≡ 0 → (op ≡ Union → ⊥) → Ends op f g (Some 0)
+  ends_left z e K ns q c = answered q op 0 (end_left q op e z)
 
-  pub ends_right : g ≡ 0 → op < 3 → (op ≡ 1 → ⊥) → Ends op f g f
-  ends_right z l e K ns q c = answered q op f (end_right q op z l e)
+  pub ends_right_kept : g ≡ 0 → (op ≡ Union) ⊎ (op ≡ Difference) → Ends op f g (Some f)
+  ends_right_kept z (inl e) = this f g (Some f) e (λ K ns q c. answered q Union f (end_right_union q z))
+  ends_right_kept z (inr e) = this f g (Some f) e (λ K ns q c. answered q Difference f (end_right_differ q z))
 
-  pub ends-both : f ≡ g → op < 2 → Ends op f g f
-  ends-both z e K ns q c = answered q op f (end_both q op z e)
+  pub ends_right_none : g ≡ 0 → (op ≡ Intersection) ⊎ (op ≡ Join) → Ends op f g (Some 0)
+  ends_right_none z (inl e) = this f g (Some 0) e (λ K ns q c. answered q Intersection 0 (end_right_inter q z))
+  ends_right_none z (inr e) = this f g (Some 0) e (λ K ns q c. answered q Join 0 (end_right_join q z))
 
-  pub ends-both-differ : f ≡ g → op ≡ 2 → Ends op f g 0
-  ends-both-differ z e K ns q c = answered q op 0 (end_both-differ q op z e)
+  pub ends_both : f ≡ g → (op ≡ Union) ⊎ (op ≡ Intersection) → Ends op f g (Some f)
+  ends_both z (inl e) = this f g (Some f) e (λ K ns q c. answered q Union f (end_both_union q z))
+  ends_both z (inr e) = this f g (Some f) e (λ K ns q c. answered q Intersection f (end_both_inter q z))
 
-  open_ended : {K : List ℕ} {ns : List Node} → Two f g → Ended op K ns f g 65537
-  open_ended w = record { small = omega arith; answer = λ h. absurd (omega arith); two = λ e. w }
+  pub ends_both_differ : f ≡ g → op ≡ Difference → Ends op f g (Some 0)
+  ends_both_differ z e = this f g (Some 0) e (λ K ns q c. answered q Difference 0 (end_both_differ q z))
 
-  pub ends_open : Two f g → Ends op f g 65537
-  ends_open w K ns q c = open_ended w
+  pub ends_join : (r : Option ℕ) → op ≡ Join → Ends Join f g r → Ends op f g r
+  ends_join r e s = this f g r e s
 
 module _ (f g : ℕ) where
-  pub joins_right : g ≡ 0 → Ends 3 f g 0
-  joins_right z K ns q c = answered q 3 0 (end_right_join q z)
+  pub joins_left_one : f ≡ 1 → Ends Join f g (Some g)
+  joins_left_one z K ns q c = answered q Join g (end_left_one q z)
 
-  pub joins_left_one : f ≡ 1 → Ends 3 f g g
-  joins_left_one z K ns q c = answered q 3 g (end_left_one q z)
+  pub joins_right_one : g ≡ 1 → Ends Join f g (Some f)
+  joins_right_one z K ns q c = answered q Join f (end_right_one q z)
 
-  pub joins_right_one : g ≡ 1 → Ends 3 f g f
-  joins_right_one z K ns q c = answered q 3 f (end_right_one q z)
-
-  pub joins_open : 2 ≤ f → 2 ≤ g → Ends 3 f g 65537
-  joins_open l m K ns q c = open_ended 3 f g (apart_two q l m (c (omega arith)))
-
--- from 3 on an operation is the join
-pub ends_join : (op f g r : ℕ) → 2 < op → Ends 3 f g r → Ends op f g r
-ends_join zero f g r h s = absurd (omega arith)
-ends_join (suc zero) f g r h s = absurd (omega arith)
-ends_join (suc (suc zero)) f g r h s = absurd (omega arith)
-ends_join (suc (suc (suc n))) f g r h s = λ K ns q c. let x = s K ns q (λ l. c h) in record { small = x.small; answer = x.answer; two = x.two }
+  pub joins_open : 2 ≤ f → 2 ≤ g → Ends Join f g None
+  joins_open l m K ns q c = apart_two q l m (c refl)
 
 -- ---- what is remembered of two numbers
 
-pub recalled_answers : {op : ℕ} {K : List ℕ} {ns : List Node} {memo : List ℕ} {f g at k r : ℕ} → Pair K ns f g → Remembered op K ns memo → Packed op f g k
-    → at ≡ place_of (length memo) k → Recalled memo at k r → r < 65537 → Answers ns r (combined op K (family ns f) (family ns g))
-recalled_answers {op} {K} {ns} {memo} {f} {g} {at} {k} {r} q m p e s h =
+pub recalled_answers : {op : Operation} {K : List ℕ} {ns : List Node} {memo : List ℕ} {f g at k r : ℕ} → Pair K ns f g → Remembered op K ns memo → Packed op f g k
+    → at ≡ place_of (length memo) k → Recalled memo at k (Some r) → Answers ns r (combined op K (family ns f) (family ns g))
+recalled_answers {op} {K} {ns} {memo} {f} {g} {at} {k} {r} q m p e s =
     let w = packed_known p 65536 (omega (arith, q.left, q.few)) (omega (arith, q.right, q.few)) in
     let z : at ≡ place_of (length memo) (mixed (p.first * 65536 + p.second)) = e ∙ ap (place_of (length memo)) p.is in
     subst (λ (F : Family). Answers ns r F) (packed_same p (family ns) K)
-    (subst⁻¹ (λ (i : ℕ). Answers ns i (combined op K (family ns p.first) (family ns p.second))) (s.is h ∙ ap (λ (i : ℕ). entry_at memo i % 65536 - 1) z)
+    (subst⁻¹ (λ (i : ℕ). Answers ns i (combined op K (family ns p.first) (family ns p.second))) (s.2 ∙ ap (λ (i : ℕ). entry_at memo i % 65536 - 1) z)
     (m.each p.first p.second w.0 w.1 (record {
-      tag = ap (λ (i : ℕ). entry_at memo i / 65536) (sym z) ∙ s.tag h ∙ ap (λ (j : ℕ). j % 65536) p.is;
-      some = subst (λ (i : ℕ). 0 < entry_at memo i % 65536) z (s.some h);
+      tag = ap (λ (i : ℕ). entry_at memo i / 65536) (sym z) ∙ s.0 ∙ ap (λ (j : ℕ). j % 65536) p.is;
+      some = subst (λ (i : ℕ). 0 < entry_at memo i % 65536) z s.1;
     })).1.1)
 
 -- ---- what is remembered
 
-pub remembered_fresh : (op : ℕ) (K : List ℕ) (ns : List Node) (memo : List ℕ) → 32768 ≤ length memo → length memo ≤ 2147483648 → ((i : ℕ) → get_or memo i 0 ≡ 0)
+pub remembered_fresh : (op : Operation) (K : List ℕ) (ns : List Node) (memo : List ℕ) → 32768 ≤ length memo → length memo ≤ 2147483648 → ((i : ℕ) → get_or memo i 0 ≡ 0)
     → Remembered op K ns memo
 remembered_fresh op K ns memo l m z = record {
   least = l;
@@ -212,7 +204,7 @@ remembered_fresh op K ns memo l m z = record {
   each = λ f g a b h. absurd (omega (arith, h.some, empty memo z (place_of (length memo) (mixed (f * 65536 + g)))));
 }
 
-pub remembered_grown : {op : ℕ} {K t t' index' memo : List ℕ} {r : ℕ} {F : Family} → Gives K t t' index' r F → r < 65536
+pub remembered_grown : {op : Operation} {K t t' index' memo : List ℕ} {r : ℕ} {F : Family} → Gives K t t' index' r F → r < 65536
     → Remembered op K (nodes_of t) memo → Remembered op K (nodes_of t') memo
 remembered_grown {op} {K} {t} {t'} {index'} {memo} g h m = record {
   least = m.least;
@@ -232,7 +224,7 @@ remembered_grown {op} {K} {t} {t'} {index'} {memo} g h m = record {
       );
 }
 
-pub remembered_noted : {op : ℕ} {K memo memo' : List ℕ} {ns : List Node} (at f g r k : ℕ) → Noted memo at k r memo' → at ≡ place_of (length memo) k → k ≡ mixed (f * 65536 + g)
+pub remembered_noted : {op : Operation} {K memo memo' : List ℕ} {ns : List Node} (at f g r k : ℕ) → Noted memo at k r memo' → at ≡ place_of (length memo) k → k ≡ mixed (f * 65536 + g)
     → f < 65536 → g < 65536 → f < suc (suc (length ns)) → g < suc (suc (length ns)) → Answers ns r (combined op K (family ns f) (family ns g))
     → Remembered op K ns memo → Remembered op K ns memo'
 remembered_noted {op} {K} {memo} {memo'} {ns} at f g r k s ea ek lf lg wf wg a m = record {
@@ -274,7 +266,7 @@ remembered_noted {op} {K} {memo} {memo'} {ns} at f g r k s ea ek lf lg wf wg a m
 -- ---- the recursion
 
 -- the combination of the numbers f and g of t
-abbrev pub joint : ℕ → List ℕ → List ℕ → ℕ → ℕ → Family
+abbrev pub joint : Operation → List ℕ → List ℕ → ℕ → ℕ → Family
 joint op K t f g = combined op K (family (nodes_of t) f) (family (nodes_of t) g)
 
 pub pair_of : {K t index : List ℕ} {f g : ℕ} → Operable K t index → (f < count t + 2) × (g < count t + 2) → Pair K (nodes_of t) f g
@@ -286,35 +278,29 @@ pair_of {K} {t} y w = record {
   right = omega (arith, w.1, length-nodes t);
 }
 
-module _ {op : ℕ} {K t index memo : List ℕ} {f g r : ℕ} (y : Operable K t index) (m : Remembered op K (nodes_of t) memo) (w : (f < count t + 2) × (g < count t + 2)) where
-  there : r < 65536 → Answers (nodes_of t) r (joint op K t f g) → Gives K t t index r (joint op K t f g) × (r < 65536 → Remembered op K (nodes_of t) memo)
-  there l a = (gives_there y.sound y.indexed l a, λ h. m)
+module _ {op : Operation} {K t index : List ℕ} {f g : ℕ} (y : Operable K t index) (w : (f < count t + 2) × (g < count t + 2)) where
+  pub ended_gives : {r : ℕ} → Combinable op (nodes_of t) f g → Ends op f g (Some r) → Yields K t t index (Some r) (joint op K t f g)
+  ended_gives c s = let x = s K (nodes_of t) (pair_of y w) c in (x.0, gives_there y.sound y.indexed x.0 x.1)
 
-  pub ended_gives : Combinable op (nodes_of t) f g → Ends op f g r → (r ≡ 65537 → ⊥) → Gives K t t index r (joint op K t f g) × (r < 65536 → Remembered op K (nodes_of t) memo)
-  ended_gives c s d =
-      let x = s K (nodes_of t) (pair_of y w) c in
-      let z : r < 65537 = omega (arith, x.small) in
-      there (x.answer z).0 (x.answer z).1
+  pub ends_two : Combinable op (nodes_of t) f g → Ends op f g None → Two f g
+  ends_two c s = s K (nodes_of t) (pair_of y w) c
 
-  pub ends_two : Combinable op (nodes_of t) f g → Ends op f g r → r ≡ 65537 → Two f g
-  ends_two c s e = (s K (nodes_of t) (pair_of y w) c).two e
+  pub recalled_gives : {memo : List ℕ} {at k r : ℕ} → Remembered op K (nodes_of t) memo → Packed op f g k → at ≡ place_of (length memo) k → Recalled memo at k (Some r)
+      → Yields K t t index (Some r) (joint op K t f g)
+  recalled_gives {memo} {at} {k} {r} m p e s =
+      let a = recalled_answers (pair_of y w) m p e s in
+      let l : r < 65536 = omega (arith, a.known, y.sound.few, length-nodes t) in
+      (l, gives_there y.sound y.indexed l a)
 
-  pub recalled_gives : {at k : ℕ} → Packed op f g k → at ≡ place_of (length memo) k → Recalled memo at k r → (r ≡ 65537 → ⊥)
-      → Gives K t t index r (joint op K t f g) × (r < 65536 → Remembered op K (nodes_of t) memo)
-  recalled_gives p e s d =
-      let z : r < 65537 = omega (arith, s.small) in
-      let a = recalled_answers (pair_of y w) m p e s z in
-      there (omega (arith, a.known, y.sound.few, length-nodes t)) a
-
-pub hi-known : {op : ℕ} {K t index : List ℕ} {f g p f1 g1 f0 g0 : ℕ} → Operable K t index → Cut op K (nodes_of t) f g p f1 g1 f0 g0 → (f1 < count t + 2) × (g1 < count t + 2)
+pub hi-known : {op : Operation} {K t index : List ℕ} {f g p f1 g1 f0 g0 : ℕ} → Operable K t index → Cut op K (nodes_of t) f g p f1 g1 f0 g0 → (f1 < count t + 2) × (g1 < count t + 2)
 hi-known {op} {K} {t} y c = (omega (arith, c.f1_known, length-nodes t), omega (arith, c.g1_known, length-nodes t))
 
-module _ (op : ℕ) {K t index : List ℕ} {f g : ℕ} (y : Operable K t index) (w : (f < count t + 2) × (g < count t + 2)) {p f1 g1 f0 g0 : ℕ} (c : Cut op K (nodes_of t) f g p f1 g1 f0 g0)
+module _ (op : Operation) {K t index : List ℕ} {f g : ℕ} (y : Operable K t index) (w : (f < count t + 2) × (g < count t + 2)) {p f1 g1 f0 g0 : ℕ} (c : Cut op K (nodes_of t) f g p f1 g1 f0 g0)
     {t1 index1 : List ℕ} {h : ℕ} (q1 : Gives K t t1 index1 h (joint op K t f1 g1)) where
   split_o : Split K (joint op K t f g) p (joint op K t f1 g1) (joint op K t f0 g0)
   split_o = c.split
 
-  pub hi-none : h ≡ 65536 → Gives K t t1 index1 65536 (joint op K t f g)
+  pub hi-none : h ≡ 65536 → Yields K t t1 index1 None (joint op K t f g)
   hi-none e = step-none-hi split_o q1 e
 
   pub hi-ready : Operable K t1 index1
@@ -331,29 +317,28 @@ module _ (op : ℕ) {K t index : List ℕ} {f g : ℕ} (y : Operable K t index) 
       p0 : Gives K t1 t0 index0 l (joint op K t f0 g0)
       p0 = gives_eq (ap₂ (combined op K) (gives_keeps q1 w1 f0 c.f0_known) (gives_keeps q1 w1 g0 c.g0_known)) q0
 
-      pub lo-none : l ≡ 65536 → Gives K t t0 index0 65536 (joint op K t f g)
+      pub lo-none : l ≡ 65536 → Yields K t t0 index0 None (joint op K t f g)
       lo-none e = step-none-lo split_o q1 w1 p0 e
 
-      module _ (w0 : l < 65536) {t' index' : List ℕ} {r : ℕ} (n : Noded t0 t' index' p l h r) where
-        whole : Gives K t t' index' r (joint op K t f g)
-        whole = step-node split_o q1 w1 p0 c.label-known w0 n
+      module _ (w0 : l < 65536) (t' index' : List ℕ) where
+        pub whole : (r : Option ℕ) → Noded t0 t' index' p l h r → Yields K t t' index' r (joint op K t f g)
+        whole r n = step-node split_o q1 w1 p0 t' index' r c.label-known w0 n
 
-        pub last_none : r ≡ 65536 → Gives K t t' index' 65536 (joint op K t f g)
-        last_none e = subst (λ (x : ℕ). Gives K t t' index' x (joint op K t f g)) e whole
+        pub last_none : Noded t0 t' index' p l h None → Yields K t t' index' None (joint op K t f g)
+        last_none n = whole None n
 
-        pub last_noted : {memo0 memo' : List ℕ} (at : ℕ) {k : ℕ} (e : Packed op f g k) → at ≡ place_of (length memo0) k → Remembered op K (nodes_of t0) memo0
-            → Noted memo0 at k r memo' → Gives K t t' index' r (joint op K t f g) × (r < 65536 → Remembered op K (nodes_of t') memo')
-        last_noted {memo0} {memo'} at {k} e ea m s = (whole, λ z. kept z)
-          where
-            kept : r < 65536 → Remembered op K (nodes_of t') memo'
-            kept z =
-                let wf : f < suc (suc (length (nodes_of t))) = omega (arith, w.0, length-nodes t) in
-                let wg : g < suc (suc (length (nodes_of t))) = omega (arith, w.1, length-nodes t) in
-                let x = packed_known e (suc (suc (length (nodes_of t)))) wf wg in
-                let a : Answers (nodes_of t') r (joint op K t e.first e.second) =
-                subst⁻¹ (λ (F : Family). Answers (nodes_of t') r F) (packed_same e (family (nodes_of t)) K) (gives_answers whole z) in
-                let m' : Remembered op K (nodes_of t') memo0 = remembered_grown (n K (step_child split_o q1 w1 p0 c.label-known w0)) z m in
-                remembered_noted at e.first e.second r k s ea e.is (omega (arith, x.0, y.sound.few, length-nodes t)) (omega (arith, x.1, y.sound.few, length-nodes t))
-                (omega (arith, x.0, gives_more whole z)) (omega (arith, x.1, gives_more whole z))
-                (subst⁻¹ (λ (F : Family). Answers (nodes_of t') r (combined op K F (family (nodes_of t') e.second))) (gives_keeps whole z e.first x.0)
-                (subst⁻¹ (λ (F : Family). Answers (nodes_of t') r (combined op K (family (nodes_of t) e.first) F)) (gives_keeps whole z e.second x.1) a)) m'
+        pub last_noted : {r : ℕ} → Noded t0 t' index' p l h (Some r) → {memo0 memo' : List ℕ} (at : ℕ) {k : ℕ} (e : Packed op f g k) → at ≡ place_of (length memo0) k
+            → Remembered op K (nodes_of t0) memo0 → Noted memo0 at k r memo' → Remembered op K (nodes_of t') memo'
+        last_noted {r} n {memo0} {memo'} at {k} e ea m s =
+            let all = whole (Some r) n in
+            let wf : f < suc (suc (length (nodes_of t))) = omega (arith, w.0, length-nodes t) in
+            let wg : g < suc (suc (length (nodes_of t))) = omega (arith, w.1, length-nodes t) in
+            let x = packed_known e (suc (suc (length (nodes_of t)))) wf wg in
+            let a : Answers (nodes_of t') r (joint op K t e.first e.second) =
+            subst⁻¹ (λ (F : Family). Answers (nodes_of t') r F) (packed_same e (family (nodes_of t)) K) (gives_answers all.1 all.0) in
+            let made = n K (step_child split_o q1 w1 p0 c.label-known w0) in
+            let m' : Remembered op K (nodes_of t') memo0 = remembered_grown made.1 made.0 m in
+            remembered_noted at e.first e.second r k s ea e.is (omega (arith, x.0, y.sound.few, length-nodes t)) (omega (arith, x.1, y.sound.few, length-nodes t))
+            (omega (arith, x.0, gives_more all.1 all.0)) (omega (arith, x.1, gives_more all.1 all.0))
+            (subst⁻¹ (λ (F : Family). Answers (nodes_of t') r (combined op K F (family (nodes_of t') e.second))) (gives_keeps all.1 all.0 e.first x.0)
+            (subst⁻¹ (λ (F : Family). Answers (nodes_of t') r (combined op K (family (nodes_of t) e.first) F)) (gives_keeps all.1 all.0 e.second x.1) a)) m'

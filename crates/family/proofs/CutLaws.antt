@@ -3,7 +3,7 @@
 use mathlib.Core.Path.{◌≡◌, refl, sym, ap, subst, subst⁻¹, ◌∙◌}
 use mathlib.Core.Bool.{Bool, false, ◌&&◌, ◌||◌}
 use mathlib.Core.List.{List}
-use Prim.Native.Nat.{ℕ, zero, suc, ◌+◌, ◌-◌, ◌*◌, ◌<◌, ◌≤◌}
+use Prim.Native.Nat.{ℕ, suc, ◌+◌, ◌-◌, ◌*◌, ◌<◌, ◌≤◌}
 use native.Mathlib.Omega.{arith}
 use native.Mathlib.Decide.{dec_lt}
 use lib.ListN.{length, get_or}
@@ -16,29 +16,21 @@ use Rattle.zdd.proofs.TableLaws.{over-of-key}
 use Rattle.zdd.proofs.Parts.{split_same, split_left, split_right}
 use Rattle.zdd.proofs.Join.{apart-turn}
 use Rattle.zdd.proofs.JoinParts.{split_join_left, split_join_right, hi-apart, lo-apart, labels_apart}
+use Rattle.family.specs.declared.Operation.{Operation}
+use Rattle.family.specs.declared.Operation.TheVariants.{Union, Intersection, Difference, Join}
 use Rattle.family.specs.Memo.{combined, Combinable, beside_of, Two, Top, Cut}
 use Rattle.family.proofs.RestrictLaws.{two_more, word-node, word-label}
 
 -- ---- the number beside a label that it lacks
 
-pub beside-join : (op k : ℕ) → 2 < op → beside_of op k ≡ k
-beside-join zero k h = absurd (omega arith)
-beside-join (suc zero) k h = absurd (omega arith)
-beside-join (suc (suc zero)) k h = absurd (omega arith)
-beside-join (suc (suc (suc n))) k h = refl
+beside-join : (op : Operation) (k : ℕ) → op ≡ Join → beside_of op k ≡ k
+beside-join op k h = ap (λ (o : Operation). beside_of o k) h
 
-pub beside_none : (op k : ℕ) → op ≤ 2 → beside_of op k ≡ 0
-beside_none zero k h = refl
-beside_none (suc zero) k h = refl
-beside_none (suc (suc zero)) k h = refl
-beside_none (suc (suc (suc n))) k h = absurd (omega arith)
-
-beside_most : (op k : ℕ) → beside_of op k ≤ k
-beside_most op k = go (dec_lt 2 op)
-  where
-    go : Dec (2 < op) → beside_of op k ≤ k
-    go (yes h) = omega (arith, beside-join op k h)
-    go (no h) = omega (arith, beside_none op k (omega arith))
+beside_most : (op : Operation) (k : ℕ) → beside_of op k ≤ k
+beside_most Union k = omega arith
+beside_most Intersection k = omega arith
+beside_most Difference k = omega arith
+beside_most Join k = omega arith
 
 -- ---- nodes
 
@@ -53,15 +45,15 @@ module _ {K : List ℕ} (k : Keys K) {ns : List Node} (n : Nodes K ns) where
       (combine o K (family ns (node_at i).hi) (family ns 0)) (combine o K (family ns (node_at i).lo) (family ns g))
   left_tested o z i g w b v = rw (family-zero ns) (split_left k n o z i g w b v)
 
-  left_split : (op i g : ℕ) → i < length ns → g < suc (suc (length ns)) → Over K ns (suc (key K (node_at i).label)) g
+  left_split : (op : Operation) (i g : ℕ) → i < length ns → g < suc (suc (length ns)) → Over K ns (suc (key K (node_at i).label)) g
       → Split K (combined op K (family ns (suc (suc i))) (family ns g)) (node_at i).label
       (combined op K (family ns (node_at i).hi) (family ns (beside_of op g))) (combined op K (family ns (node_at i).lo) (family ns g))
-  left_split zero = left_tested ◌||◌ refl
-  left_split (suc zero) = left_tested ◌&&◌ refl
-  left_split (suc (suc zero)) = left_tested minus refl
-  left_split (suc (suc (suc m))) = split_join_left k n
+  left_split Union = left_tested ◌||◌ refl
+  left_split Intersection = left_tested ◌&&◌ refl
+  left_split Difference = left_tested minus refl
+  left_split Join = split_join_left k n
 
-  pub node-left : (op i g : ℕ) → i < length ns → g < suc (suc (length ns)) → Over K ns (suc (key K (node_at i).label)) g → Combinable op ns (suc (suc i)) g
+  pub node-left : (op : Operation) (i g : ℕ) → i < length ns → g < suc (suc (length ns)) → Over K ns (suc (key K (node_at i).label)) g → Combinable op ns (suc (suc i)) g
       → Cut op K ns (suc (suc i)) g (node_at i).label (node_at i).hi (beside_of op g) (node_at i).lo g
   node-left op i g w b v c =
       let x : Fine K ns i (node_at i) = n.each i w in
@@ -73,7 +65,7 @@ module _ {K : List ℕ} (k : Keys K) {ns : List Node} (n : Nodes K ns) where
         g0_known = b;
         falls1 = omega (arith, x.hi-below, beside_most op g);
         falls0 = omega (arith, x.lo-below);
-        hi_combinable = λ l. rw (beside-join op g (omega arith)) (hi-apart n i w (c l));
+        hi_combinable = λ l. rw (beside-join op g l) (hi-apart n i w (c l));
         lo_combinable = λ l. lo-apart n i w (c l);
         split = left_split op i g w b v;
       }
@@ -85,15 +77,15 @@ module _ {K : List ℕ} (k : Keys K) {ns : List Node} (n : Nodes K ns) where
       (combine o K (family ns 0) (family ns (node_at j).hi)) (combine o K (family ns f) (family ns (node_at j).lo))
   right_tested o z f j b w v = rw (family-zero ns) (split_right k n o z f j b w v)
 
-  right_split : (op f j : ℕ) → f < suc (suc (length ns)) → j < length ns → Over K ns (suc (key K (node_at j).label)) f
+  right_split : (op : Operation) (f j : ℕ) → f < suc (suc (length ns)) → j < length ns → Over K ns (suc (key K (node_at j).label)) f
       → Split K (combined op K (family ns f) (family ns (suc (suc j)))) (node_at j).label
       (combined op K (family ns (beside_of op f)) (family ns (node_at j).hi)) (combined op K (family ns f) (family ns (node_at j).lo))
-  right_split zero = right_tested ◌||◌ refl
-  right_split (suc zero) = right_tested ◌&&◌ refl
-  right_split (suc (suc zero)) = right_tested minus refl
-  right_split (suc (suc (suc m))) = split_join_right k n
+  right_split Union = right_tested ◌||◌ refl
+  right_split Intersection = right_tested ◌&&◌ refl
+  right_split Difference = right_tested minus refl
+  right_split Join = split_join_right k n
 
-  pub node_right : (op f j : ℕ) → f < suc (suc (length ns)) → j < length ns → Over K ns (suc (key K (node_at j).label)) f → Combinable op ns f (suc (suc j))
+  pub node_right : (op : Operation) (f j : ℕ) → f < suc (suc (length ns)) → j < length ns → Over K ns (suc (key K (node_at j).label)) f → Combinable op ns f (suc (suc j))
       → Cut op K ns f (suc (suc j)) (node_at j).label (beside_of op f) (node_at j).hi f (node_at j).lo
   node_right op f j b w v c =
       let x : Fine K ns j (node_at j) = n.each j w in
@@ -105,21 +97,21 @@ module _ {K : List ℕ} (k : Keys K) {ns : List Node} (n : Nodes K ns) where
         g0_known = omega (arith, x.lo-below);
         falls1 = omega (arith, x.hi-below, beside_most op f);
         falls0 = omega (arith, x.lo-below);
-        hi_combinable = λ l. rw (beside-join op f (omega arith)) (apart-turn (hi-apart n j w (apart-turn (c l))));
+        hi_combinable = λ l. rw (beside-join op f l) (apart-turn (hi-apart n j w (apart-turn (c l))));
         lo_combinable = λ l. apart-turn (lo-apart n j w (apart-turn (c l)));
         split = right_split op f j b w v;
       }
 
   -- two nodes with one label, which have it in common
-  same_split : (op i j : ℕ) → i < length ns → j < length ns → (node_at i).label ≡ (node_at j).label → Combinable op ns (suc (suc i)) (suc (suc j))
+  same_split : (op : Operation) (i j : ℕ) → i < length ns → j < length ns → (node_at i).label ≡ (node_at j).label → Combinable op ns (suc (suc i)) (suc (suc j))
       → Split K (combined op K (family ns (suc (suc i))) (family ns (suc (suc j)))) (node_at i).label
       (combined op K (family ns (node_at i).hi) (family ns (node_at j).hi)) (combined op K (family ns (node_at i).lo) (family ns (node_at j).lo))
-  same_split zero i j a b e c = split_same k n ◌||◌ refl i j a b e
-  same_split (suc zero) i j a b e c = split_same k n ◌&&◌ refl i j a b e
-  same_split (suc (suc zero)) i j a b e c = split_same k n minus refl i j a b e
-  same_split (suc (suc (suc m))) i j a b e c = absurd (labels_apart n i j a b (c (omega arith)) e)
+  same_split Union i j a b e c = split_same k n ◌||◌ refl i j a b e
+  same_split Intersection i j a b e c = split_same k n ◌&&◌ refl i j a b e
+  same_split Difference i j a b e c = split_same k n minus refl i j a b e
+  same_split Join i j a b e c = absurd (labels_apart n i j a b (c refl) e)
 
-  pub node-same : (op i j : ℕ) → i < length ns → j < length ns → (node_at i).label ≡ (node_at j).label → Combinable op ns (suc (suc i)) (suc (suc j))
+  pub node-same : (op : Operation) (i j : ℕ) → i < length ns → j < length ns → (node_at i).label ≡ (node_at j).label → Combinable op ns (suc (suc i)) (suc (suc j))
       → Cut op K ns (suc (suc i)) (suc (suc j)) (node_at i).label (node_at i).hi (node_at j).hi (node_at i).lo (node_at j).lo
   node-same op i j a b e c =
       let x : Fine K ns i (node_at i) = n.each i a in
@@ -164,7 +156,7 @@ top_of {K} {t} s f a l w e r q z = record {
 -- ---- the words of two numbers
 
 module _ {K t : List ℕ} (s : Sound K t) (k : Keys K) {f g : ℕ} (w : (f < count t + 2) × (g < count t + 2)) (two : Two f g) {a b : ℕ} (ta : Top K (nodes_of t) f a) (tb : Top K (nodes_of t) g b)
-    (op : ℕ) (c : Combinable op (nodes_of t) f g) where
+    (op : Operation) (c : Combinable op (nodes_of t) f g) where
   -- the node of a number
   abbrev node_of : ℕ → Node
   node_of j = get_or (nodes_of t) (j - 2) blank

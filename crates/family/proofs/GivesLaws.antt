@@ -14,7 +14,8 @@ use Rattle.zdd.proofs.Room.{same-capacity}
 use Rattle.zdd.proofs.Split.{from_over}
 use Rattle.zdd.proofs.Got.{got_eq, got_there, got_idle, got_split, got_known, got_flag, got_made_exactly, got_old}
 use Rattle.table.specs.State.{Indexed, May, Made, Unique, Rolled}
-use Rattle.family.specs.Gives.{Gives, Child, Noded, Answers, Produced}
+use Rattle.std.proofs.Common.{Option, Some, None}
+use Rattle.family.specs.Gives.{Gives, Yields, Child, Noded, Answers, Returned}
 
 -- ---- a number that is there
 
@@ -33,17 +34,19 @@ module _ {K t t' index' : List ℕ} {x : Node} {r : ℕ} (m : Made K t t' index'
   abbrev J : Family
   J = fork x.label (family (nodes_of t) x.hi) (family (nodes_of t) x.lo)
 
-  pub made_gives : 0 < r → Gives K t t' index' r J
+  pub made_gives : 0 < r → Yields K t t' index' (Some r) J
   made_gives p =
       let g : Got K (capacity t) (nodes_of t) false r (nodes_of t') false J = m.gained.got (λ e. omega arith) in
-      let b : r < 65536 = omega (arith, g.known, length-nodes t', m.grown.sound.few) in
-      record {
-        long = m.grown.long;
-        sound = m.grown.sound;
-        indexed = m.indexed;
-        small = omega arith;
-        gained = record { got = λ n. g; full = λ e. absurd (omega arith) };
-      }
+      let b : r < 65536 = omega (arith, g.known, length-nodes t', m.grown.sound.few) in (
+        b,
+        record {
+          long = m.grown.long;
+          sound = m.grown.sound;
+          indexed = m.indexed;
+          small = omega arith;
+          gained = record { got = λ n. g; full = λ e. absurd (omega arith) };
+        },
+      )
 
   pub made-short : r ≡ 0 → Gives K t t' index' 65536 J
   made-short z = record {
@@ -55,21 +58,24 @@ module _ {K t t' index' : List ℕ} {x : Node} {r : ℕ} (m : Made K t t' index'
   }
 
 -- what make says
-pub noded_lo : {t index : List ℕ} (label lo hi : ℕ) → Indexed t index → hi ≡ 0 → Noded t t index label lo hi lo
+pub noded_lo : {t index : List ℕ} (label lo hi : ℕ) → Indexed t index → hi ≡ 0 → Noded t t index label lo hi (Some lo)
 noded_lo {t} {index} label lo hi d e K c =
-    gives_there c.sound d (omega (arith, c.lo-known, c.sound.few)) (record {
-      known = omega (arith, c.lo-known, length-nodes t);
-      holds = sym (ap (λ (F : Family). fork label F (family (nodes_of t) lo)) (ap (family (nodes_of t)) e ∙ family-zero (nodes_of t)));
-    })
+    let l : lo < 65536 = omega (arith, c.lo-known, c.sound.few) in (
+      l,
+      gives_there c.sound d l (record {
+        known = omega (arith, c.lo-known, length-nodes t);
+        holds = sym (ap (λ (F : Family). fork label F (family (nodes_of t) lo)) (ap (family (nodes_of t)) e ∙ family-zero (nodes_of t)));
+      }),
+    )
 
 may : {K t : List ℕ} {label lo hi : ℕ} → Child K t label lo hi → 0 < hi → May K t (node label lo hi)
 may c h = record { sound = c.sound; fine = c.fine h }
 
 module _ (t t' index' : List ℕ) (label lo hi : ℕ) where
-  pub noded_made : (r : ℕ) → 0 < hi → 0 < r → Unique t t' index' (node label lo hi) r → Noded t t' index' label lo hi r
+  pub noded_made : (r : ℕ) → 0 < hi → 0 < r → Unique t t' index' (node label lo hi) r → Noded t t' index' label lo hi (Some r)
   noded_made r h p u K c = made_gives (u K (may c h)) p
 
-  pub noded_none : (r : ℕ) → 0 < hi → r ≡ 0 → Unique t t' index' (node label lo hi) r → Noded t t' index' label lo hi 65536
+  pub noded_none : (r : ℕ) → 0 < hi → r ≡ 0 → Unique t t' index' (node label lo hi) r → Noded t t' index' label lo hi None
   noded_none r h p u K c = made-short (u K (may c h)) p
 
 -- ---- the parts, then the node
@@ -149,45 +155,50 @@ module _ {K t : List ℕ} {R R1 R0 : Family} {p : ℕ} (s : Split K R p R1 R0) {
         }
 
     -- and then it is the whole
-    pub step-node : {t' index' : List ℕ} {r : ℕ} → p < length K → l < 65536 → Noded t0 t' index' p l h r → Gives K t t' index' r R
-    step-node {t'} {index'} {r} k w0 n =
-        let g = n K (step_child k w0) in
-        record {
-          long = g.long ∙ long0;
-          sound = g.sound;
-          indexed = g.indexed;
-          small = g.small;
-          gained = record {
-            got = λ z. got_split {h = h} {l = l} s (given g1 w1) (move t t1 t0 g1.long (given g0 w0)) (move t t0 t' long0 (g.gained.got z));
-            full = λ z. got_split {h = h} {l = l} s (given g1 w1) (move t t1 t0 g1.long (given g0 w0)) (move t t0 t' long0 (g.gained.full z));
-          };
-        }
+    step-whole : {t' index' : List ℕ} {r : ℕ} → l < 65536 → Gives K t0 t' index' r (fork p (family (nodes_of t0) h) (family (nodes_of t0) l)) → Gives K t t' index' r R
+    step-whole {t'} {index'} {r} w0 g = record {
+      long = g.long ∙ long0;
+      sound = g.sound;
+      indexed = g.indexed;
+      small = g.small;
+      gained = record {
+        got = λ z. got_split {h = h} {l = l} s (given g1 w1) (move t t1 t0 g1.long (given g0 w0)) (move t t0 t' long0 (g.gained.got z));
+        full = λ z. got_split {h = h} {l = l} s (given g1 w1) (move t t1 t0 g1.long (given g0 w0)) (move t t0 t' long0 (g.gained.full z));
+      };
+    }
+
+    pub step-node : (t' index' : List ℕ) (r : Option ℕ) → p < length K → l < 65536 → Noded t0 t' index' p l h r → Yields K t t' index' r R
+    step-node t' index' (Some r) k w0 n = let g = n K (step_child k w0) in (g.0, step-whole w0 g.1)
+    step-node t' index' None k w0 n = step-whole w0 (n K (step_child k w0))
 
 -- ---- a call: what was made is taken back where there was no room
 
-module _ {K t t' index' : List ℕ} {r : ℕ} {F : Family} (g : Gives K t t' index' r F) where
-  pub produced_done : (r ≡ 65536 → ⊥) → Produced K t t' index' r F
-  produced_done d = record {
-    small = g.small;
-    full = λ e. absurd (d e);
-    same = λ e. absurd (d e);
-    room = λ h. got_flag t g.sound g.long (given g h);
-    done = λ h.
-        let q = given g h in
-        record {
-          grown = record { long = g.long; sound = g.sound; old = got_old t g.sound g.long q };
-          indexed = g.indexed;
-          known = got_known t g.sound g.long q;
-          holds = q.holds refl;
-          made = got_made_exactly t g.sound g.long q refl;
-        };
-  }
+module _ {K t t' index' : List ℕ} {F : Family} where
+  pub produced_done : {r : ℕ} → Yields K t t' index' (Some r) F → Returned K t t' index' (Some r) F
+  produced_done {r} (l, g) = (
+    l,
+    record {
+      small = g.small;
+      full = λ e. absurd (omega arith);
+      same = λ e. absurd (omega arith);
+      room = λ h. got_flag t g.sound g.long (given g h);
+      done = λ h.
+          let q = given g h in
+          record {
+            grown = record { long = g.long; sound = g.sound; old = got_old t g.sound g.long q };
+            indexed = g.indexed;
+            known = got_known t g.sound g.long q;
+            holds = q.holds refl;
+            made = got_made_exactly t g.sound g.long q refl;
+          };
+    },
+  )
 
-  pub produced_full : {n : ℕ} {u index : List ℕ} → r ≡ 65536 → Sound K t → n ≡ count t → Rolled t' n u → Produced K t u index 65536 F
-  produced_full {n} {u} e s c back = record {
+  pub produced_full : {n : ℕ} {u index : List ℕ} → Yields K t t' index' None F → Sound K t → n ≡ count t → Rolled t' n u → Returned K t u index None F
+  produced_full {n} {u} g s c back = record {
     small = omega arith;
-    full = λ z. got_flag t g.sound g.long (g.gained.full e);
-    same = λ z. back K t s (record { long = g.long; sound = g.sound; old = got_old t g.sound g.long (g.gained.full e) }) c;
+    full = λ z. got_flag t g.sound g.long (g.gained.full refl);
+    same = λ z. back K t s (record { long = g.long; sound = g.sound; old = got_old t g.sound g.long (g.gained.full refl) }) c;
     room = λ h. absurd (omega arith);
     done = λ h. absurd (omega arith);
   }

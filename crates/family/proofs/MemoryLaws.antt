@@ -8,6 +8,7 @@ use native.Mathlib.Omega.{arith}
 use native.Mathlib.Decide.{dec_lt, ℕ_discrete}
 use lib.ListN.{length, get_or, set, length-set}
 use lib.Seq.{get_or-set_same, get_or-set_other}
+use Rattle.std.proofs.Common.{Some}
 use Rattle.family.specs.Memo.{mixed, chosen, half, replaced, entry_at, place_of, tagged, Recalled, Noted}
 
 -- ---- a pair is told by its place and its tag
@@ -77,16 +78,8 @@ half_other (suc p) (suc q) w e a b f h = absurd (f (omega arith))
 
 -- ---- what is recalled
 
-pub recalled_none : (memo : List ℕ) (at k : ℕ) → Recalled memo at k 65537
-recalled_none memo at k = record { small = omega arith; tag = λ h. absurd (omega arith); some = λ h. absurd (omega arith); is = λ h. absurd (omega arith) }
-
-pub recalled_entry : (memo : List ℕ) (at k e r : ℕ) → e ≡ entry_at memo at → e / 65536 ≡ k % 65536 → (e % 65536 ≡ 0 → ⊥) → r ≡ e % 65536 - 1 → Recalled memo at k r
-recalled_entry memo at k e r z t s q = record {
-  small = omega arith;
-  tag = λ h. ap (λ (x : ℕ). x / 65536) (sym z) ∙ t;
-  some = λ h. omega (arith, s);
-  is = λ h. omega arith;
-}
+pub recalled_entry : (memo : List ℕ) (at k e r : ℕ) → e ≡ entry_at memo at → e / 65536 ≡ k % 65536 → (e % 65536 ≡ 0 → ⊥) → r ≡ e % 65536 - 1 → Recalled memo at k (Some r)
+recalled_entry memo at k e r z t s q = (ap (λ (x : ℕ). x / 65536) (sym z) ∙ t, omega (arith, s), omega arith)
 
 -- ---- a store
 

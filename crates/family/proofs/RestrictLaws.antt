@@ -16,7 +16,8 @@ use Rattle.zdd.proofs.TableLaws.{over-of-key, fine_at}
 use Rattle.zdd.specs.Work.{Split}
 use Rattle.zdd.specs.Operations.{excluding}
 use Rattle.zdd.proofs.Parts.{with_after, without_after, with_other, without_other, with-same, without-same}
-use Rattle.family.specs.Gives.{Operable, Gives, Noded, Answers}
+use Rattle.std.proofs.Common.{Option, Some, None, IfSome}
+use Rattle.family.specs.Gives.{Operable, Gives, Yields, Noded, Answers}
 use Rattle.family.specs.Memo.{restricted, Kept, Soon}
 use Rattle.family.proofs.GivesLaws.{gives_there, gives_answers, gives_keeps, gives_more, gives_eq, step-none-hi, step-none-lo, step_child, step-node}
 
@@ -97,41 +98,39 @@ module _ {K t : List ℕ} (s : Sound K t) (k : Keys K) (p f : ℕ) (w : f < coun
   few : (r : ℕ) {F : Family} → Answers (nodes_of t) r F → r < 65536
   few r a = omega (arith, a.known, length-nodes t, s.few)
 
-  pub soon-answer : (b : Bool) (r : ℕ) → Answers (nodes_of t) r (restricted b K p (family (nodes_of t) f)) → Soon b K p (nodes_of t) f r
-  soon-answer b r a =
-      let z : r < 65536 = few r a in
-      record { small = omega arith; answer = λ h. (z, a); branch = λ e. absurd (omega arith); own = λ e q. absurd (omega arith) }
+  pub soon-answer : (b : Bool) (r : ℕ) → Answers (nodes_of t) r (restricted b K p (family (nodes_of t) f)) → Soon b K p (nodes_of t) f (Some r)
+  soon-answer b r a = (few r a, a)
 
   ww : f < suc (suc (length (nodes_of t)))
   ww = omega (arith, length-nodes t)
 
   -- a terminal
-  pub soon_end_with : {b : Bool} → f < 2 → b ≡ true → Soon b K p (nodes_of t) f 0
-  soon_end_with {b} h e = subst⁻¹ (λ (b : Bool). Soon b K p (nodes_of t) f 0) e (soon-answer true 0 (after_with k s.nodes p f ww (over_end K (nodes_of t) (suc (key K p)) f h)))
+  pub soon_end_with : {b : Bool} → f < 2 → b ≡ true → Soon b K p (nodes_of t) f (Some 0)
+  soon_end_with {b} h e = subst⁻¹ (λ (b : Bool). Soon b K p (nodes_of t) f (Some 0)) e (soon-answer true 0 (after_with k s.nodes p f ww (over_end K (nodes_of t) (suc (key K p)) f h)))
 
-  pub soon_end_without : {b : Bool} → f < 2 → b ≡ false → Soon b K p (nodes_of t) f f
-  soon_end_without {b} h e = subst⁻¹ (λ (b : Bool). Soon b K p (nodes_of t) f f) e (soon-answer false f (after_without k s.nodes p f ww (over_end K (nodes_of t) (suc (key K p)) f h)))
+  pub soon_end_without : {b : Bool} → f < 2 → b ≡ false → Soon b K p (nodes_of t) f (Some f)
+  soon_end_without {b} h e = subst⁻¹ (λ (b : Bool). Soon b K p (nodes_of t) f (Some f)) e (soon-answer false f (after_without k s.nodes p f ww (over_end K (nodes_of t) (suc (key K p)) f h)))
 
   module _ (l : 2 ≤ f) (a : ℕ) (e : a ≡ 3 * f - 5) where
     -- the label p
-    pub soon_own_without : {b : Bool} → get_or t a 0 ≡ p → b ≡ false → Soon b K p (nodes_of t) f (get_or t (a + 1) 0)
-    soon_own_without {b} d q = subst⁻¹ (λ (b : Bool). Soon b K p (nodes_of t) f (get_or t (a + 1) 0)) q (soon-answer false (get_or t (a + 1) 0) (own_without s f a l w e k p d))
+    pub soon_own_without : {b : Bool} → get_or t a 0 ≡ p → b ≡ false → Soon b K p (nodes_of t) f (Some (get_or t (a + 1) 0))
+    soon_own_without {b} d q = subst⁻¹ (λ (b : Bool). Soon b K p (nodes_of t) f (Some (get_or t (a + 1) 0))) q (soon-answer false (get_or t (a + 1) 0) (own_without s f a l w e k p d))
 
-    pub soon_own_with : {b : Bool} → b ≡ true → Soon b K p (nodes_of t) f 65537
-    soon_own_with q = record { small = omega arith; answer = λ h. absurd (omega arith); branch = λ z. l; own = λ z y. q }
+    pub soon_own_with : {b : Bool} → b ≡ true → Soon b K p (nodes_of t) f None
+    soon_own_with q = (l, λ y. q)
 
-    pub soon_other : {b : Bool} → (get_or t a 0 ≡ p → ⊥) → Soon b K p (nodes_of t) f 65537
-    soon_other d = record { small = omega arith; answer = λ h. absurd (omega arith); branch = λ z. l; own = λ z y. absurd (d (sym (word-label s f a l w e) ∙ y)) }
+    pub soon_other : {b : Bool} → (get_or t a 0 ≡ p → ⊥) → Soon b K p (nodes_of t) f None
+    soon_other d = (l, λ y. absurd (d (sym (word-label s f a l w e) ∙ y)))
 
     late : key K p < key K (get_or t a 0) → Over K (nodes_of t) (suc (key K p)) f
     late h = over-of-key K (nodes_of t) (suc (key K p)) f (λ z. subst⁻¹ (λ (q : ℕ). key K p < key K q) (word-label s f a l w e) h)
 
     -- a label after p
-    pub soon-late-with : {b : Bool} → key K p < key K (get_or t a 0) → b ≡ true → Soon b K p (nodes_of t) f 0
-    soon-late-with {b} h q = subst⁻¹ (λ (b : Bool). Soon b K p (nodes_of t) f 0) q (soon-answer true 0 (after_with k s.nodes p f ww (late h)))
+    pub soon-late-with : {b : Bool} → key K p < key K (get_or t a 0) → b ≡ true → Soon b K p (nodes_of t) f (Some 0)
+    soon-late-with {b} h q = subst⁻¹ (λ (b : Bool). Soon b K p (nodes_of t) f (Some 0)) q (soon-answer true 0 (after_with k s.nodes p f ww (late h)))
 
-    pub soon-late-without : {b : Bool} → key K p < key K (get_or t a 0) → b ≡ false → Soon b K p (nodes_of t) f f
-    soon-late-without {b} h q = subst⁻¹ (λ (b : Bool). Soon b K p (nodes_of t) f f) q (soon-answer false f (after_without k s.nodes p f ww (late h)))
+    pub soon-late-without : {b : Bool} → key K p < key K (get_or t a 0) → b ≡ false → Soon b K p (nodes_of t) f (Some f)
+    soon-late-without {b} h q = subst⁻¹ (λ (b : Bool). Soon b K p (nodes_of t) f (Some f)) q (soon-answer false f (after_without k s.nodes p f ww (late h)))
 
 -- what is wanted, said otherwise
 pub wanted-same : {b b' : Bool} {p p' : ℕ} (K : List ℕ) (F : Family) → b ≡ b' → p ≡ p' → restricted b K p F ≡ restricted b' K p' F
@@ -194,26 +193,22 @@ pub record Open (b : Bool) (K : List ℕ) (p : ℕ) (t index memo : List ℕ) (f
   pub p-known : p < length K
   pub own : get_or t a 0 ≡ p → b ≡ true
 
-pub open_of : {b : Bool} {K t index memo : List ℕ} {p f : ℕ} {r : ℕ} (a : ℕ) → Operable K t index → Kept b K p (nodes_of t) memo → (f < count t + 2) × (p < length K)
-    → Soon b K p (nodes_of t) f r → r ≡ 65537 → a ≡ 3 * f - 5 → Open b K p t index memo f a
-open_of {b} {K} {t} {index} {memo} {p} {f} {r} a y m w s e q =
-    let l : 2 ≤ f = s.branch e in
-    record {
-      ready = y;
-      kept = m;
-      low = l;
-      below = w.0;
-      place = q;
-      p-known = w.1;
-      own = λ d. s.own e (word-label y.sound f a l w.0 q ∙ d);
-    }
+pub open_of : {b : Bool} {K t index memo : List ℕ} {p f : ℕ} → Operable K t index → Kept b K p (nodes_of t) memo → (f < count t + 2) × (p < length K) → Soon b K p (nodes_of t) f None
+    → Open b K p t index memo f (3 * f - 5)
+open_of {b} {K} {t} {index} {memo} {p} {f} y m w s = record {
+  ready = y;
+  kept = m;
+  low = s.0;
+  below = w.0;
+  place = refl;
+  p-known = w.1;
+  own = λ d. s.1 (word-label y.sound f (3 * f - 5) s.0 w.0 refl ∙ d);
+}
 
 -- the answer at once
-pub soon_gives : {b : Bool} {K t index memo : List ℕ} {p f r : ℕ} → Operable K t index → Kept b K p (nodes_of t) memo → Soon b K p (nodes_of t) f r → (r ≡ 65537 → ⊥)
-    → Gives K t t index r (restricted b K p (family (nodes_of t) f)) × (r < 65536 → Kept b K p (nodes_of t) memo)
-soon_gives {b} {K} {t} {index} {memo} {p} {f} {r} y m s d =
-    let z : r < 65537 = omega (arith, s.small) in
-    (gives_there y.sound y.indexed (s.answer z).0 (s.answer z).1, λ h. m)
+pub soon_gives : (b : Bool) (p f r : ℕ) {K t index : List ℕ} → Operable K t index → Soon b K p (nodes_of t) f (Some r)
+    → Yields K t t index (Some r) (restricted b K p (family (nodes_of t) f))
+soon_gives b p f r y s = (s.0, gives_there y.sound y.indexed s.0 s.1)
 
 module _ {b : Bool} {K : List ℕ} {p : ℕ} {t index memo : List ℕ} {f a : ℕ} (o : Open b K p t index memo f a) where
   fine_o : Fine K (nodes_of t) (f - 2) (at-word t a)
@@ -232,24 +227,27 @@ module _ {b : Bool} {K : List ℕ} {p : ℕ} {t index memo : List ℕ} {f a : �
   lo_len = omega (arith, lo_falls, o.below, length-nodes t)
 
   -- the label is p
-  pub own_gives : {t' index' : List ℕ} {r : ℕ} → get_or t a 0 ≡ p → Noded t t' index' p 0 (get_or t (a + 2) 0) r
-      → Gives K t t' index' r (restricted b K p (family (nodes_of t) f)) × (r < 65536 → Kept b K p (nodes_of t') memo)
-  own_gives {t'} {index'} {r} d n =
+  pub own_gives : (t' index' : List ℕ) (r : Option ℕ) → get_or t a 0 ≡ p → Noded t t' index' p 0 (get_or t (a + 2) 0) r
+      → Yields K t t' index' r (restricted b K p (family (nodes_of t) f))
+  own_gives t' index' r d n =
       let s = o.ready.sound in
       let g1 : Gives K t t index (get_or t (a + 2) 0) (family (nodes_of t) (get_or t (a + 2) 0)) =
       gives_there s o.ready.indexed (omega (arith, hi-below, s.few)) (record { known = omega (arith, hi-below, length-nodes t); holds = refl }) in
       let g0 : Gives K t t index 0 [] = gives_there s o.ready.indexed (omega arith) (record { known = omega arith; holds = family-zero (nodes_of t) }) in
-      let g : Gives K t t' index' r (restricted b K p (family (nodes_of t) f)) =
-      subst⁻¹ (λ (c : Bool). Gives K t t' index' r (restricted c K p (family (nodes_of t) f))) (o.own d)
-      (step-node (split_own s f a o.low o.below o.place o.ready.keys p d) g1 (omega (arith, hi-below, s.few)) g0 o.p-known (omega arith) n) in
-      (g, λ h. kept_grown g h o.kept)
+      subst⁻¹ (λ (c : Bool). Yields K t t' index' r (restricted c K p (family (nodes_of t) f))) (o.own d)
+      (step-node (split_own s f a o.low o.below o.place o.ready.keys p d) g1 (omega (arith, hi-below, s.few)) g0 t' index' r o.p-known (omega arith) n)
+
+  pub own-kept : (t' index' : List ℕ) (r : Option ℕ) → get_or t a 0 ≡ p → Noded t t' index' p 0 (get_or t (a + 2) 0) r
+      → IfSome r (λ x. Kept b K p (nodes_of t') memo)
+  own-kept t' index' (Some r) d n = let g = own_gives t' index' (Some r) d n in kept_grown g.1 g.0 o.kept
+  own-kept t' index' None d n = tt
 
   -- the label is another one: hi, then lo, then the node
   module _ (d : get_or t a 0 ≡ p → ⊥) {t1 index1 : List ℕ} {h : ℕ} (g1 : Gives K t t1 index1 h (restricted b K p (family (nodes_of t) (get_or t (a + 2) 0)))) where
     split_o : Split K (restricted b K p (family (nodes_of t) f)) (get_or t a 0) (restricted b K p (family (nodes_of t) (get_or t (a + 2) 0))) (restricted b K p (family (nodes_of t) (get_or t (a + 1) 0)))
     split_o = split_other o.ready.sound f a o.low o.below o.place o.ready.keys b p d
 
-    pub hi-none : h ≡ 65536 → Gives K t t1 index1 65536 (restricted b K p (family (nodes_of t) f))
+    pub hi-none : h ≡ 65536 → Yields K t t1 index1 None (restricted b K p (family (nodes_of t) f))
     hi-none e = step-none-hi split_o g1 e
 
     pub hi-ready : Operable K t1 index1
@@ -263,29 +261,24 @@ module _ {b : Bool} {K : List ℕ} {p : ℕ} {t index memo : List ℕ} {f a : �
         g0 : Gives K t1 t0 index0 l (restricted b K p (family (nodes_of t) (get_or t (a + 1) 0)))
         g0 = gives_eq (ap (restricted b K p) (gives_keeps g1 w1 (get_or t (a + 1) 0) lo_len)) q0
 
-        pub lo-none : l ≡ 65536 → Gives K t t0 index0 65536 (restricted b K p (family (nodes_of t) f))
+        pub lo-none : l ≡ 65536 → Yields K t t0 index0 None (restricted b K p (family (nodes_of t) f))
         lo-none e = step-none-lo split_o g1 w1 g0 e
 
-        module _ (w0 : l < 65536) {t' index' : List ℕ} {r : ℕ} (n : Noded t0 t' index' (get_or t a 0) l h r) where
-          whole : Gives K t t' index' r (restricted b K p (family (nodes_of t) f))
-          whole = step-node split_o g1 w1 g0 fine_o.label-known w0 n
+        module _ (w0 : l < 65536) (t' index' : List ℕ) where
+          pub whole : (r : Option ℕ) → Noded t0 t' index' (get_or t a 0) l h r → Yields K t t' index' r (restricted b K p (family (nodes_of t) f))
+          whole r n = step-node split_o g1 w1 g0 t' index' r fine_o.label-known w0 n
 
-          pub last_none : r ≡ 65536 → Gives K t t' index' 65536 (restricted b K p (family (nodes_of t) f))
-          last_none e = subst (λ (x : ℕ). Gives K t t' index' x (restricted b K p (family (nodes_of t) f))) e whole
+          pub last_none : Noded t0 t' index' (get_or t a 0) l h None → Yields K t t' index' None (restricted b K p (family (nodes_of t) f))
+          last_none n = whole None n
 
-          -- nothing is stored
-          pub last_kept : {memo0 : List ℕ} → Kept b K p (nodes_of t0) memo0
-              → Gives K t t' index' r (restricted b K p (family (nodes_of t) f)) × (r < 65536 → Kept b K p (nodes_of t') memo0)
-          last_kept m = (whole, λ z. kept_grown (n K (step_child split_o g1 w1 g0 fine_o.label-known w0)) z m)
+          module _ {r : ℕ} (n : Noded t0 t' index' (get_or t a 0) l h (Some r)) where
+            -- nothing is stored
+            pub last_kept : {memo0 : List ℕ} → Kept b K p (nodes_of t0) memo0 → Kept b K p (nodes_of t') memo0
+            last_kept m = let x = n K (step_child split_o g1 w1 g0 fine_o.label-known w0) in kept_grown x.1 x.0 m
 
-          pub last_stored : {memo0 : List ℕ} (k v : ℕ) → k ≡ f → v ≡ r + 1 → Kept b K p (nodes_of t0) memo0
-              → Gives K t t' index' r (restricted b K p (family (nodes_of t) f)) × (r < 65536 → Kept b K p (nodes_of t') (set memo0 k v))
-          last_stored {memo0} k v ek ev m = (whole, λ z. kept z)
-            where
-              kept : r < 65536 → Kept b K p (nodes_of t') (set memo0 k v)
-              kept z =
-                  let wf : f < suc (suc (length (nodes_of t))) = omega (arith, o.below, length-nodes t) in
-                  let a : Answers (nodes_of t') r (restricted b K p (family (nodes_of t) f)) = gives_answers whole z in
-                  subst⁻¹ (λ (x : ℕ). Kept b K p (nodes_of t') (set memo0 x v)) ek
-                  (kept_stored f r v ev (omega (arith, o.below, o.ready.sound.few)) (omega (arith, wf, gives_more whole z))
-                  (subst⁻¹ (λ (F : Family). Answers (nodes_of t') r (restricted b K p F)) (gives_keeps whole z f wf) a) ((last_kept m).1 z))
+            pub last_stored : {memo0 : List ℕ} → Kept b K p (nodes_of t0) memo0 → Kept b K p (nodes_of t') (set memo0 f (r + 1))
+            last_stored m =
+                let wf : f < suc (suc (length (nodes_of t))) = omega (arith, o.below, length-nodes t) in
+                let x = whole (Some r) n in
+                kept_stored f r (r + 1) refl (omega (arith, o.below, o.ready.sound.few)) (omega (arith, wf, gives_more x.1 x.0))
+                (subst⁻¹ (λ (F : Family). Answers (nodes_of t') r (restricted b K p F)) (gives_keeps x.1 x.0 f wf) (gives_answers x.1 x.0)) (last_kept m)

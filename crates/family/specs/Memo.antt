@@ -1,9 +1,11 @@
 -- The operations, and what their memories hold. Assumes nothing.
-use Rattle.std.specs.Prelude.{◌≡◌, Bool, true, false, List, ◌⊎◌, ℕ, zero, suc, ◌+◌, ◌-◌, ◌*◌, ◌/◌, ◌%◌, ◌<◌, ◌≤◌, eqb, length, get_or}
+use Rattle.std.specs.Prelude.{◌≡◌, Bool, true, false, List, ◌⊎◌, ℕ, zero, suc, ◌+◌, ◌-◌, ◌*◌, ◌/◌, ◌%◌, ◌<◌, ◌≤◌, eqb, length, get_or, Option, Some, None, ⊤}
 use Rattle.zdd.specs.Table.{Node, blank, Family, family, Nodes, Keys}
 use Rattle.zdd.specs.Operations.{union, inter, differ, including, excluding, join, Apart}
 use Rattle.zdd.specs.Work.{Split}
 use Rattle.family.specs.Gives.{Answers}
+use Rattle.family.specs.declared.Operation.{Operation}
+use Rattle.family.specs.declared.Operation.TheVariants.{Union, Intersection, Difference, Join}
 
 -- ---- with and without
 
@@ -22,43 +24,47 @@ pub record Kept (b : Bool) (K : List ℕ) (p : ℕ) (ns : List Node) (memo : Lis
   pub place : (k : ℕ) → 0 < get_or memo k 0 → k < suc (suc (length ns))
   pub each : (k : ℕ) → 0 < get_or memo k 0 → Answers ns (get_or memo k 0 - 1) (restricted b K p (family ns k))
 
--- the number at once (r is not 65537), or a node whose restriction is to be made
-pub record Soon (b : Bool) (K : List ℕ) (p : ℕ) (ns : List Node) (f r : ℕ) : Type 0 where
-  pub small : r ≤ 65537
-  pub answer : r < 65537 → (r < 65536) × Answers ns r (restricted b K p (family ns f))
-  pub branch : r ≡ 65537 → 2 ≤ f
-  pub own : r ≡ 65537 → (get_or ns (f - 2) blank).label ≡ p → b ≡ true
+-- the number at once, or a node whose restriction is to be made
+abbrev pub Soon : Bool → List ℕ → ℕ → List Node → ℕ → Option ℕ → Type 0
+Soon b K p ns f (Some r) = (r < 65536) × Answers ns r (restricted b K p (family ns f))
+Soon b K p ns f None = (2 ≤ f) × ((get_or ns (f - 2) blank).label ≡ p → b ≡ true)
 
 -- ---- union, intersection, difference, join
 
--- union (op 0), intersection (1), difference (2), join (3)
-abbrev pub combined : ℕ → List ℕ → Family → Family → Family
-combined zero K F G = union K F G
-combined (suc zero) K F G = inter K F G
-combined (suc (suc zero)) K F G = differ K F G
-combined (suc (suc (suc n))) K F G = join K F G
+abbrev pub combined : Operation → List ℕ → Family → Family → Family
+combined Union K F G = union K F G
+combined Intersection K F G = inter K F G
+combined Difference K F G = differ K F G
+combined Join K F G = join K F G
 
 -- f and g can be combined: a join is of families that have no label in common
-abbrev pub Combinable : (op : ℕ) (ns : List Node) (f g : ℕ) → Type 0
-Combinable op ns f g = 2 < op → Apart (family ns f) (family ns g)
+abbrev pub Combinable : (op : Operation) (ns : List Node) (f g : ℕ) → Type 0
+Combinable op ns f g = op ≡ Join → Apart (family ns f) (family ns g)
 
 -- what goes with the other's sets at a label that number k lacks: in a join k's sets, each with each, and else none, since no set of k has the label
-abbrev pub beside_of : ℕ → ℕ → ℕ
-beside_of zero k = 0
-beside_of (suc zero) k = 0
-beside_of (suc (suc zero)) k = 0
-beside_of (suc (suc (suc n))) k = k
+abbrev pub beside_of : Operation → ℕ → ℕ
+beside_of Union k = 0
+beside_of Intersection k = 0
+beside_of Difference k = 0
+beside_of Join k = k
 
--- x and y are f and g, or, where the order does not matter, g and f
-abbrev pub Ordered : (op f g x y : ℕ) → Type 0
-Ordered op f g x y = ((x ≡ f) × (y ≡ g)) ⊎ ((op < 2) × ((x ≡ g) × (y ≡ f)))
+-- the lesser of two numbers is remembered as the first, since their order does not matter
+abbrev pub lesser_first : Operation → Bool
+lesser_first Union = true
+lesser_first Intersection = true
+lesser_first Difference = false
+lesser_first Join = false
+
+-- x and y are f and g, or, where the lesser may be the first, g and f
+abbrev pub Ordered : (op : Operation) (f g x y : ℕ) → Type 0
+Ordered op f g x y = ((x ≡ f) × (y ≡ g)) ⊎ ((lesser_first op ≡ true) × ((x ≡ g) × (y ≡ f)))
 
 -- a pair k, below 2 ^ 32, mixed: times an odd number modulo 2 ^ 32, which is one to one
 unfoldable pub mixed : ℕ → ℕ
 mixed k = k * 4021839121 % 4294967296
 
 -- the two numbers in one, mixed
-pub record Packed (op f g k : ℕ) : Type 0 where
+pub record Packed (op : Operation) (f g k : ℕ) : Type 0 where
   pub first : ℕ
   pub second : ℕ
   pub is : k ≡ mixed (first * 65536 + second)
@@ -96,19 +102,17 @@ pub record Hit (memo : List ℕ) (k : ℕ) : Type 0 where
   pub some : 0 < entry_at memo (place_of (length memo) k) % 65536
 
 -- an entry's number is that of its pair's combination
-pub record Remembered (op : ℕ) (K : List ℕ) (ns : List Node) (memo : List ℕ) : Type 0 where
+pub record Remembered (op : Operation) (K : List ℕ) (ns : List Node) (memo : List ℕ) : Type 0 where
   pub least : 32768 ≤ length memo
   pub most : length memo ≤ 2147483648
   pub each : (f g : ℕ) → f < 65536 → g < 65536 → Hit memo (mixed (f * 65536 + g))
       → (f < suc (suc (length ns))) × ((g < suc (suc (length ns)))
       × Answers ns (entry_at memo (place_of (length memo) (mixed (f * 65536 + g))) % 65536 - 1) (combined op K (family ns f) (family ns g)))
 
--- what recall answers: 65537, or the number of an entry with k's tag at the place
-pub record Recalled (memo : List ℕ) (at k r : ℕ) : Type 0 where
-  pub small : r ≤ 65537
-  pub tag : r < 65537 → entry_at memo at / 65536 ≡ k % 65536
-  pub some : r < 65537 → 0 < entry_at memo at % 65536
-  pub is : r < 65537 → r ≡ entry_at memo at % 65536 - 1
+-- what recall answers: None, or the number of an entry with k's tag at the place
+abbrev pub Recalled : List ℕ → ℕ → ℕ → Option ℕ → Type 0
+Recalled memo at k (Some r) = (entry_at memo at / 65536 ≡ k % 65536) × (0 < entry_at memo at % 65536) × (r ≡ entry_at memo at % 65536 - 1)
+Recalled memo at k None = ⊤
 
 -- what remember ensures: no place has changed, but perhaps the one, which then has the number under its pair
 pub record Noted (memo : List ℕ) (at k r : ℕ) (memo' : List ℕ) : Type 0 where
@@ -129,14 +133,13 @@ pub record Pair (K : List ℕ) (ns : List Node) (f g : ℕ) : Type 0 where
   pub left : f < suc (suc (length ns))
   pub right : g < suc (suc (length ns))
 
--- the number at once (r is not 65537), or two numbers whose combination is to be made
-pub record Ended (op : ℕ) (K : List ℕ) (ns : List Node) (f g r : ℕ) : Type 0 where
-  pub small : r ≤ 65537
-  pub answer : r < 65537 → (r < 65536) × Answers ns r (combined op K (family ns f) (family ns g))
-  pub two : r ≡ 65537 → Two f g
+-- the number at once, or two numbers whose combination is to be made
+abbrev pub Ended : Operation → List ℕ → List Node → ℕ → ℕ → Option ℕ → Type 0
+Ended op K ns f g (Some r) = (r < 65536) × Answers ns r (combined op K (family ns f) (family ns g))
+Ended op K ns f g None = Two f g
 
 -- what ended ensures, whatever the keys and the nodes
-abbrev pub Ends : ℕ → ℕ → ℕ → ℕ → Type 0
+abbrev pub Ends : Operation → ℕ → ℕ → Option ℕ → Type 0
 Ends op f g r = (K : List ℕ) (ns : List Node) → Pair K ns f g → Combinable op ns f g → Ended op K ns f g r
 
 -- the key of a number's label, or 2 ^ 32 for 0 and 1
@@ -145,7 +148,7 @@ pub record Top (K : List ℕ) (ns : List Node) (f r : ℕ) : Type 0 where
   pub key_of : 2 ≤ f → (r ≡ get_or K (get_or ns (f - 2) blank).label 0) × (r < 4294967296)
 
 -- the parts of f and g at the first label of the two
-pub record Cut (op : ℕ) (K : List ℕ) (ns : List Node) (f g label f1 g1 f0 g0 : ℕ) : Type 0 where
+pub record Cut (op : Operation) (K : List ℕ) (ns : List Node) (f g label f1 g1 f0 g0 : ℕ) : Type 0 where
   pub label-known : label < length K
   pub f1_known : f1 < suc (suc (length ns))
   pub g1_known : g1 < suc (suc (length ns))

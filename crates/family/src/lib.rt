@@ -1,30 +1,39 @@
 // Union, intersection, difference, join, and the sets with and without a label, on a sound table.
 #![tactic(auto)]
 
-ghost use Rattle.std.specs.Prelude.{◌≡◌, ℕ, suc, ◌+◌, ◌-◌, ◌*◌, ◌/◌, ◌%◌, ◌<◌, ◌≤◌, length, get_or, set};
+ghost use Rattle.std.specs.Prelude.{IfSome, ◌≡◌, ℕ, suc, ◌+◌, ◌-◌, ◌*◌, ◌/◌, ◌%◌, ◌<◌, ◌≤◌, length, get_or, set};
 ghost use Rattle.zdd.specs.Table.{node, blank, count, nodes_of, family, Sound, Keys};
 ghost use Rattle.table.specs.State.{Indexed};
-ghost use Rattle.family.specs.Gives.{Operable, Gives, Produced, Noded, Answers};
-ghost use Rattle.family.specs.Memo.{odd, restricted, Kept, Soon, combined, Combinable, beside_of, Ends, Two, Top, Cut};
+ghost use Rattle.family.specs.Gives.{Operable, Yields, Returned, Noded};
+ghost use Rattle.family.specs.Memo.{odd, restricted, Kept, Soon, lesser_first, combined, Combinable, beside_of, Ends, Two, Top, Cut};
 ghost use Rattle.family.specs.Memo.{mixed, Packed, place_of, chosen, entry_at, replaced, Recalled, Remembered, Noted};
 
-// The number of the node with these three words, found or made: lo where hi is 0; 65536 where there is no room.
-fn make(t: &mut [u32], index: &mut [u16; 131072], label: u32, lo: u32, hi: u32) -> u32
+// What two numbers are combined by.
+#[derive(Clone, Copy, PartialEq, Eq)]
+pub enum Operation {
+    Union,
+    Intersection,
+    Difference,
+    Join,
+}
+
+// The number of the node with these three words, found or made: lo where hi is 0; None where there is no room.
+fn make(t: &mut [u32], index: &mut [u16; 131072], label: u32, lo: u32, hi: u32) -> Option<u32>
     requires { Indexed t.old index.old }
     ensures { Noded t.old t.new index.new label lo hi result }
 {
     if hi == 0 {
-        return lo;
+        return Some(lo);
     }
     let r = table::unique(t, index, label, lo, hi);
     if r == 0 {
-        return 65536;
+        return None;
     }
-    r
+    Some(r)
 }
 
-// The number of f's sets with p (or without p) where it is plain or remembered; 65537 where it is to be made.
-fn soon(t: &[u32], keys: &[u32], memo: &[u16; 65536], p: u32, holding: bool, f: u32) -> u32
+// The number of f's sets with p (or without p) where it is plain or remembered; None where it is to be made.
+fn soon(t: &[u32], keys: &[u32], memo: &[u16; 65536], p: u32, holding: bool, f: u32) -> Option<u32>
     requires sound { Sound keys.now t.now }
     requires keys { Keys keys.now }
     requires kept { Kept holding keys.now p (nodes_of t.now) memo.now }
@@ -33,35 +42,33 @@ fn soon(t: &[u32], keys: &[u32], memo: &[u16; 65536], p: u32, holding: bool, f: 
 {
     if f < 2 {
         if holding {
-            return 0;
+            return Some(0);
         }
-        return f;
+        return Some(f);
     }
-    let k = base::wide(f);
+    let k = f as usize;
     let w = 3 * k - 5;
     let label = t[w];
     if label == p {
         if holding {
-            return 65537;
+            return None;
         }
-        return t[w + 1];
+        return Some(t[w + 1]);
     }
-    let at = base::wide(label);
-    let own = base::wide(p);
-    if keys[own] < keys[at] {
+    if keys[p as usize] < keys[label as usize] {
         if holding {
-            return 0;
+            return Some(0);
         }
-        return f;
+        return Some(f);
     }
-    let e = base::word(memo[k]);
+    let e = memo[k] as u32;
     if e != 0 {
-        return e - 1;
+        return Some(e - 1);
     }
-    65537
+    None
 }
 
-// The number of f's sets with p, or of those without p; 65536 where there is no room. p and which of the two are one number q, so that all arguments are in
+// The number of f's sets with p, or of those without p; None where there is no room. p and which of the two are one number q, so that all arguments are in
 // registers. (65535, the one number that does not fit into memo, is not remembered.)
 fn restrict(
     t: &mut [u32],
@@ -70,22 +77,21 @@ fn restrict(
     memo: &mut [u16; 65536],
     q: u64,
     f: u32,
-) -> u32
+) -> Option<u32>
     requires operable { Operable keys.now t.old index.old }
     requires kept { Kept (odd q) keys.now (q / 2) (nodes_of t.old) memo.old }
     requires f_bound { (f < count t.old + 2) × (q / 2 < length keys.now) }
     requires q_bound { q / 2 < 4294967296 }
-    ensures gives { Gives keys.now t.old t.new index.new result
+    ensures gives { Yields keys.now t.old t.new index.new result
         (restricted (odd q) keys.now (q / 2) (family (nodes_of t.old) f)) }
-    ensures kept_2 { result < 65536 → Kept (odd q) keys.now (q / 2) (nodes_of t.new) memo.new }
+    ensures kept_2 { IfSome result (λ r. Kept (odd q) keys.now (q / 2) (nodes_of t.new) memo.new) }
 {
     let p = (q / 2) as u32;
     let holding = q % 2 == 1;
-    let known = soon(t, keys, memo, p, holding, f);
-    if known != 65537 {
-        return known;
+    if let Some(known) = soon(t, keys, memo, p, holding, f) {
+        return Some(known);
     }
-    let k = base::wide(f);
+    let k = f as usize;
     let w = 3 * k - 5;
     let label = t[w];
     let lo = t[w + 1];
@@ -93,22 +99,13 @@ fn restrict(
     if label == p {
         return make(t, index, p, 0, hi);
     }
-    let h = restrict(t, keys, index, memo, q, hi);
-    if h == 65536 {
-        return 65536;
-    }
-    let l = restrict(t, keys, index, memo, q, lo);
-    if l == 65536 {
-        return 65536;
-    }
-    let r = make(t, index, label, l, h);
-    if r == 65536 {
-        return 65536;
-    }
+    let h = restrict(t, keys, index, memo, q, hi)?;
+    let l = restrict(t, keys, index, memo, q, lo)?;
+    let r = make(t, index, label, l, h)?;
     if r < 65535 {
         memo[k] = (r + 1) as u16;
     }
-    r
+    Some(r)
 }
 
 // A pair mixed, so that pairs that are near each other have places that are not; different pairs stay different.
@@ -119,17 +116,25 @@ fn mix(pair: u64) -> u64
     pair * 4021839121 % 4294967296
 }
 
-// f and g in one number, mixed, the lesser first where their order does not matter: in union (op 0) and intersection (1).
-fn pack(op: u8, f: u32, g: u32) -> u64
+// Whether the lesser of two numbers is remembered as the first: in union and intersection, where their order does not matter.
+fn lesser_first(op: Operation) -> bool
+    ensures { result ≡ lesser_first op }
+{
+    match op {
+        Operation::Union | Operation::Intersection => true,
+        Operation::Difference | Operation::Join => false,
+    }
+}
+
+// f and g in one number, mixed, the lesser first where that is remembered.
+fn pack(op: Operation, f: u32, g: u32) -> u64
     requires { (f < 65536) × (g < 65536) }
     ensures { Packed op f g result }
 {
-    if op < 2 {
-        if g < f {
-            return mix(base::widened(g) * 65536 + base::widened(f));
-        }
+    if lesser_first(op) && g < f {
+        return mix(g as u64 * 65536 + f as u64);
     }
-    mix(base::widened(f) * 65536 + base::widened(g))
+    mix(f as u64 * 65536 + g as u64)
 }
 
 // The place of a mixed pair in a memory of so many words, two places a word.
@@ -177,67 +182,59 @@ fn remember(memo: &mut [u64], at: usize, pair: u64, r: u32)
         return;
     }
     let w = at / 2;
-    let e = pair % 65536 * 65536 + (base::widened(r) + 1);
+    let e = pair % 65536 * 65536 + (r as u64 + 1);
     memo[w] = replace(memo[w], at, e);
 }
 
-// The number of f's and g's join where one of them is 1; 65537 where it is to be looked for.
-fn ended_join(f: u32, g: u32) -> u32
+// The number of f's and g's join where one of them is 1; None where it is to be looked for.
+fn ended_join(f: u32, g: u32) -> Option<u32>
     requires { (0 < f) × (0 < g) }
-    ensures { Ends 3 f g result }
+    ensures { Ends Operation.Join f g result }
 {
     if f == 1 {
-        return g;
+        return Some(g);
     }
     if g == 1 {
-        return f;
+        return Some(f);
     }
-    65537
+    None
 }
 
-// The number of f's and g's combination where it is plain; 65537 where it is to be looked for.
-fn ended(op: u8, f: u32, g: u32) -> u32
+// The number of f's and g's combination where it is plain; None where it is to be looked for.
+fn ended(op: Operation, f: u32, g: u32) -> Option<u32>
     ensures { Ends op f g result }
 {
     if f == 0 {
-        if op == 0 {
-            return g;
-        }
-        return 0;
+        return match op {
+            Operation::Union => Some(g),
+            _ => Some(0),
+        };
     }
     if g == 0 {
-        if op == 1 {
-            return 0;
-        }
-        if op > 2 {
-            return 0;
-        }
-        return f;
+        return match op {
+            Operation::Union | Operation::Difference => Some(f),
+            Operation::Intersection | Operation::Join => Some(0),
+        };
     }
-    if op > 2 {
-        return ended_join(f, g);
+    match op {
+        Operation::Join => ended_join(f, g),
+        Operation::Difference => if f == g { Some(0) } else { None },
+        Operation::Union | Operation::Intersection => if f == g { Some(f) } else { None },
     }
-    if f == g {
-        if op < 2 {
-            return f;
-        }
-        return 0;
-    }
-    65537
 }
 
-// The number that is remembered for the pair at its place; 65537 where none is.
-fn recall(memo: &[u64], at: usize, pair: u64) -> u32
+// The number that is remembered for the pair at its place, if one is.
+fn recall(memo: &[u64], at: usize, pair: u64) -> Option<u32>
     requires { at / 2 < length memo.now }
     ensures { Recalled memo.now at pair result }
 {
     let e = entry(memo, at);
     if e / 65536 == pair % 65536 {
         if e % 65536 != 0 {
-            return (e % 65536 - 1) as u32;
+            return Some((e % 65536 - 1) as u32);
         }
     }
-    65537
+    None
 }
 
 // The key of f's label; 2 ^ 32, later than every key, for 0 and 1.
@@ -249,9 +246,8 @@ fn top(t: &[u32], keys: &[u32], f: u32) -> u64
     if f < 2 {
         return 4294967296;
     }
-    let k = base::wide(f);
-    let at = base::wide(t[3 * k - 5]);
-    base::widened(keys[at])
+    let at = t[3 * (f as usize) - 5] as usize;
+    keys[at] as u64
 }
 
 #[derive(Clone, Copy)]
@@ -264,17 +260,17 @@ struct Parts {
 }
 
 // What a number that lacks a label is combined as, with the other's sets that have the label: itself in a join, and else 0, no set.
-fn beside(op: u8, k: u32) -> u32
+fn beside(op: Operation, k: u32) -> u32
     ensures { result ≡ beside_of op k }
 {
-    if op > 2 {
-        return k;
+    match op {
+        Operation::Join => k,
+        _ => 0,
     }
-    0
 }
 
 // f and g by the earlier of their first labels: what they have with it, and what without.
-fn cut(t: &[u32], keys: &[u32], op: u8, f: u32, g: u32) -> Parts
+fn cut(t: &[u32], keys: &[u32], op: Operation, f: u32, g: u32) -> Parts
     requires sound { Sound keys.now t.now }
     requires keys { Keys keys.now }
     requires f_bound { (f < count t.now + 2) × (g < count t.now + 2) }
@@ -284,8 +280,8 @@ fn cut(t: &[u32], keys: &[u32], op: u8, f: u32, g: u32) -> Parts
 {
     let a = top(t, keys, f);
     let b = top(t, keys, g);
-    let i = base::wide(f);
-    let j = base::wide(g);
+    let i = f as usize;
+    let j = g as usize;
     if a < b {
         let v = 3 * i - 5;
         return Parts {
@@ -317,49 +313,38 @@ fn cut(t: &[u32], keys: &[u32], op: u8, f: u32, g: u32) -> Parts
     }
 }
 
-// The number of f's and g's union (op 0), intersection (1), difference (2) or join (3); 65536 where there is no room.
+// The number of f's and g's combination; None where there is no room.
 fn combine(
     t: &mut [u32],
     keys: &[u32],
     index: &mut [u16; 131072],
     memo: &mut [u64],
-    op: u8,
+    op: Operation,
     f: u32,
     g: u32,
-) -> u32
+) -> Option<u32>
     requires operable { Operable keys.now t.old index.old }
     requires remembered { Remembered op keys.now (nodes_of t.old) memo.old }
     requires f_bound { (f < count t.old + 2) × (g < count t.old + 2) }
     requires combinable { Combinable op (nodes_of t.old) f g }
-    ensures gives { Gives keys.now t.old t.new index.new result
+    ensures gives { Yields keys.now t.old t.new index.new result
         (combined op keys.now (family (nodes_of t.old) f) (family (nodes_of t.old) g)) }
-    ensures remembered_2 { result < 65536 → Remembered op keys.now (nodes_of t.new) memo.new }
+    ensures remembered_2 { IfSome result (λ r. Remembered op keys.now (nodes_of t.new) memo.new) }
 {
-    let plain = ended(op, f, g);
-    if plain != 65537 {
-        return plain;
+    if let Some(plain) = ended(op, f, g) {
+        return Some(plain);
     }
     let pair = pack(op, f, g);
     let at = place(pair, memo.len());
-    let known = recall(memo, at, pair);
-    if known != 65537 {
-        return known;
+    if let Some(known) = recall(memo, at, pair) {
+        return Some(known);
     }
     let c = cut(t, keys, op, f, g);
-    let h = combine(t, keys, index, memo, op, c.f1, c.g1);
-    if h == 65536 {
-        return 65536;
-    }
-    let l = combine(t, keys, index, memo, op, c.f0, c.g0);
-    if l == 65536 {
-        return 65536;
-    }
-    let r = make(t, index, c.label, l, h);
-    if r == 65536 {
-        return 65536;
-    }
+    let h = combine(t, keys, index, memo, op, c.f1, c.g1)?;
+    let l = combine(t, keys, index, memo, op, c.f0, c.g0)?;
+    let r = make(t, index, c.label, l, h)?;
     remember(memo, at, pair, r);
-    r
+    Some(r)
 }
 
 // p, and whether the sets with it are wanted, in one number.
@@ -373,7 +358,7 @@ fn wanted(p: u32, holding: bool) -> u64
     twice
 }
 
-// The number of f's sets with p, or of those without p. Where there is no room it is 65536, and the table is as before.
+// The number of f's sets with p, or of those without p. Where there is no room it is None, and the table is as before.
 pub fn restriction(
     t: &mut [u32],
     keys: &[u32],
@@ -381,21 +366,20 @@ pub fn restriction(
     p: u32,
     holding: bool,
     f: u32,
-) -> u32
+) -> Option<u32>
     requires operable { Operable keys.now t.old index.old }
     requires f_bound { (f < count t.old + 2) × (p < length keys.now) }
-    ensures { Produced keys.now t.old t.new index.new result
+    ensures { Returned keys.now t.old t.new index.new result
         (restricted holding keys.now p (family (nodes_of t.old) f)) }
 {
     let n = t[0];
     let mut memo = [0u16; 65536];
     let q = wanted(p, holding);
-    let r = restrict(t, keys, index, &mut memo, q, f);
-    if r == 65536 {
+    let Some(r) = restrict(t, keys, index, &mut memo, q, f) else {
         table::rollback(t, n);
-        return 65536;
-    }
-    r
+        return None;
+    };
+    Some(r)
 }
 
 // How many of so many lent words are the memory: no more than have a place for each pair of numbers.
@@ -415,15 +399,15 @@ fn afresh(
     keys: &[u32],
     index: &mut [u16; 131072],
     memo: &mut [u64],
-    op: u8,
+    op: Operation,
     f: u32,
     g: u32,
-) -> u32
+) -> Option<u32>
     requires operable { Operable keys.now t.old index.old }
     requires in_bounds { (32768 ≤ length memo.old) × (length memo.old ≤ 2147483648) }
     requires f_bound { (f < count t.old + 2) × (g < count t.old + 2) }
     requires combinable { Combinable op (nodes_of t.old) f g }
-    ensures { Gives keys.now t.old t.new index.new result
+    ensures { Yields keys.now t.old t.new index.new result
         (combined op keys.now (family (nodes_of t.old) f) (family (nodes_of t.old) g)) }
 {
     base::clear(memo);
@@ -436,14 +420,14 @@ fn remembering(
     keys: &[u32],
     index: &mut [u16; 131072],
     work: &mut [u64],
-    op: u8,
+    op: Operation,
     f: u32,
     g: u32,
-) -> u32
+) -> Option<u32>
     requires operable { Operable keys.now t.old index.old }
     requires f_bound { (f < count t.old + 2) × (g < count t.old + 2) }
     requires combinable { Combinable op (nodes_of t.old) f g }
-    ensures { Gives keys.now t.old t.new index.new result
+    ensures { Yields keys.now t.old t.new index.new result
         (combined op keys.now (family (nodes_of t.old) f) (family (nodes_of t.old) g)) }
 {
     if work.len() < 131072 {
@@ -454,27 +438,26 @@ fn remembering(
     afresh(t, keys, index, &mut work[..size], op, f, g)
 }
 
-// The number of f's and g's union (op 0), intersection (1), difference (2) or join (3). Where there is no room it is 65536, and the table is as before.
+// The number of f's and g's combination. Where there is no room it is None, and the table is as before.
 pub fn combination(
     t: &mut [u32],
     keys: &[u32],
     index: &mut [u16; 131072],
     work: &mut [u64],
-    op: u8,
+    op: Operation,
     f: u32,
     g: u32,
-) -> u32
+) -> Option<u32>
     requires operable { Operable keys.now t.old index.old }
     requires f_bound { (f < count t.old + 2) × (g < count t.old + 2) }
     requires combinable { Combinable op (nodes_of t.old) f g }
-    ensures { Produced keys.now t.old t.new index.new result
+    ensures { Returned keys.now t.old t.new index.new result
         (combined op keys.now (family (nodes_of t.old) f) (family (nodes_of t.old) g)) }
 {
     let n = t[0];
-    let r = remembering(t, keys, index, work, op, f, g);
-    if r == 65536 {
+    let Some(r) = remembering(t, keys, index, work, op, f, g) else {
         table::rollback(t, n);
-        return 65536;
-    }
-    r
+        return None;
+    };
+    Some(r)
 }

@@ -1,3 +1,4 @@
+use mathlib.Core.Path.{refl}
 use Prim.Native.Nat.{◌*◌, ◌-◌}
 use native.Mathlib.Omega.{arith}
 use Rattle.family.proofs.CutLaws.{top_of}
@@ -7,11 +8,10 @@ use Rattle.family.proofs.top.Goals as goal
 pub bounds-keys-at : goal.bounds-keys-at
 bounds-keys-at c = omega (
   arith,
-  c.wide-at.ensures,
-  label-known c.requires.sound c.args.f (3 * c.wide-k.result - 5)
-      (omega (arith, c.if-f-lt2.false)) c.requires.f_bound (omega (arith, c.wide-k.ensures)),
+  label-known c.requires.sound c.args.f (3 * c.args.f - 5)
+      (omega (arith, c.if-f-lt2.false)) c.requires.f_bound refl,
 )
 
 pub returns : goal.returns
-returns c = top_of c.requires.sound c.args.f (3 * c.wide-k.result - 5) (omega (arith, c.if-f-lt2.false))
-    c.requires.f_bound (omega (arith, c.wide-k.ensures)) _ (rw c.wide-at.ensures at c.widened.ensures.0) c.widened.ensures.1
+returns c = top_of c.requires.sound c.args.f (3 * c.args.f - 5) (omega (arith, c.if-f-lt2.false))
+    c.requires.f_bound refl _ refl (omega arith)
