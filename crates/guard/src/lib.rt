@@ -5,18 +5,19 @@
 ghost use Rattle.std.specs.Prelude.{◌≡◌, false, not, List, [], ◌∷◌, ℕ, ◌≤◌};
 ghost use Rattle.itemset.specs.Words.{value, sets_of};
 ghost use Rattle.exact_cover.specs.Problem.{problem_of, Rows};
+ghost use Rattle.statement.specs.Replies.{refusal_of};
 ghost use Rattle.statement.specs.Refusals.{first_of, oversize, stray, nothing_compulsory, disordered, package_tests};
 ghost use Rattle.guard.specs.Admitted.{optional_tests, Blank, Tested, Admitted};
 
 use itemset::Items;
+use statement::Refusal;
 
 // Whether no package is empty and none has an item of m or above.
 fn clean(m: u32, packages: &[u64]) -> bool
     ensures { result ≡ not (stray m (sets_of packages.now)) }
 {
     let n = exact_cover::number(packages);
-    let mut k: usize = 0;
-    while k < n {
+    for k in 0..n {
         let x = exact_cover::items(packages, k);
         if itemset::is_empty(x) {
             return false;
@@ -24,7 +25,6 @@ fn clean(m: u32, packages: &[u64]) -> bool
         if !itemset::below(x, m) {
             return false;
         }
-        k += 1;
     }
     true
 }
@@ -44,32 +44,30 @@ fn all_due(packages: &[u64], optional: Items) -> bool
     ensures { (order : List ℕ) → result ≡ not (nothing_compulsory (problem_of packages.now (value optional) order)) }
 {
     let n = exact_cover::number(packages);
-    let mut p: usize = 0;
-    while p < n {
+    for p in 0..n {
         let x = exact_cover::items(packages, p);
         if exact_cover::is_done(x, optional) {
             return false;
         }
-        p += 1;
     }
     true
 }
 
-// Refusal 29 or 30, whatever the order; 0 for neither. (With nothing optional a package without a compulsory item is empty: 2 was said.)
-fn optional_refusal(m: u32, packages: &[u64], optional: Items) -> u8
+// Refusal 29 or 30, whatever the order. (With nothing optional a package without a compulsory item is empty: 2 was said.)
+fn admit_optional(m: u32, packages: &[u64], optional: Items) -> Result<(), Refusal>
     requires { stray m (sets_of packages.now) ≡ false }
-    ensures { (order : List ℕ) → result ≡ first_of (optional_tests (problem_of packages.now (value optional) order) m) }
+    ensures { (order : List ℕ) → refusal_of result ≡ first_of (optional_tests (problem_of packages.now (value optional) order) m) }
 {
     if itemset::is_empty(optional) {
-        return 0;
+        return Ok(());
     }
     if !itemset::below(optional, m) {
-        return 29;
+        return Err(Refusal::StrayOptional);
     }
     if !all_due(packages, optional) {
-        return 30;
+        return Err(Refusal::AllOptional);
     }
-    0
+    Ok(())
 }
 
 // Whether the order is each item below m just once. An item is marked where it was seen.
@@ -82,9 +80,8 @@ fn orderly(m: u32, order: &[u8]) -> bool
         return false;
     }
     let mut marks = [0u8; 192];
-    let mut j: usize = 0;
-    while j < n {
-        let i = order[j] as usize;
+    for &item in order {
+        let i = item as usize;
         if i >= n {
             return false;
         }
@@ -92,29 +89,30 @@ fn orderly(m: u32, order: &[u8]) -> bool
             return false;
         }
         marks[i] = 1;
-        j += 1;
     }
     true
 }
 
-// Refusal 1, 2, 29, 30 or 34; 0 for none of them.
-pub fn packages_refusal(m: u32, packages: &[u64], optional: Items, order: &[u8]) -> u8
-    ensures { result ≡ first_of (package_tests (problem_of packages.now (value optional) order.now) m []) }
+// Refusal 1, 2, 29, 30 or 34.
+pub fn admit_packages(
+    m: u32,
+    packages: &[u64],
+    optional: Items,
+    order: &[u8],
+) -> Result<(), Refusal>
+    ensures { refusal_of result ≡ first_of (package_tests (problem_of packages.now (value optional) order.now) m []) }
 {
     if too_large(m, packages) {
-        return 1;
+        return Err(Refusal::Oversize);
     }
     if !clean(m, packages) {
-        return 2;
+        return Err(Refusal::Stray);
     }
-    let r = optional_refusal(m, packages, optional);
-    if r != 0 {
-        return r;
-    }
+    admit_optional(m, packages, optional)?;
     if !orderly(m, order) {
-        return 34;
+        return Err(Refusal::Disordered);
     }
-    0
+    Ok(())
 }
 
 // Whether the table is sound; where it is, the keys and the index are ready.
@@ -135,7 +133,7 @@ fn usable(
     table::check(t, &keys[..n], index)
 }
 
-// Refusal 1, 2, 29, 30, 34 or 4; 0 where none applies, and then the keys and the index are ready.
+// Refusal 1, 2, 29, 30, 34 or 4; where none applies, the keys and the index are ready.
 pub fn admit(
     m: u32,
     packages: &[u64],
@@ -144,16 +142,13 @@ pub fn admit(
     t: &[u32],
     keys: &mut [u32],
     index: &mut [u16; 131072],
-) -> u8
+) -> Result<(), Refusal>
     requires { Blank keys.old index.old }
-    ensures { Admitted (problem_of packages.now (value optional) order.now) m t.now keys.new index.new result }
+    ensures { Admitted (problem_of packages.now (value optional) order.now) m t.now keys.new index.new (refusal_of result) }
 {
-    let r = packages_refusal(m, packages, optional, order);
-    if r != 0 {
-        return r;
-    }
+    admit_packages(m, packages, optional, order)?;
     if !usable(packages, optional, order, t, keys, index) {
-        return 4;
+        return Err(Refusal::Spoilt);
     }
-    0
+    Ok(())
 }

@@ -20,10 +20,7 @@ use Rattle.exact_cover.specs.Cover.{keys_of}
 use Rattle.query.specs.Questions.{family_at, position, lacking, difference, closest}
 use Rattle.query.proofs.Parts.{at_zero, some}
 use Rattle.query.proofs.Precede.{precede_ext}
-use Rattle.statement.specs.declared.Picked.{Picked}
-use Rattle.statement.specs.declared.Placed.{Placed}
-use Rattle.statement.specs.declared.Compared.{Compared}
-use Rattle.statement.specs.Replies.{refused, gives, reply, pick_reply, place_reply, closest_reply}
+use Rattle.statement.specs.Replies.{refused, gives, reply, Reply}
 use Rattle.statement.specs.Refusals.{first_of, list_tests, not_timetable, uncountable, absent, nothing, short_page, place_refusal, closest_refusal}
 use Rattle.statement.specs.Postconditions.{PickPost, PlacePost, ClosestPost, written}
 use Rattle.statement.proofs.FirstOf.{pass, none, passed, said_in_front, neither, avoided}
@@ -105,7 +102,7 @@ compared-ready Q m t a s words page e =
 some_member : {Q : Problem} {m : ℕ} {t : List ℕ} {a : ℕ} → Open Q m t a → 0 < a → 0 < length (family_at t a)
 some_member R l = some (readable R) _ l (in_table R)
 
-module _ {Q : Problem} {m : ℕ} {t : List ℕ} {a : ℕ} {s : List ℕ} {words : ℕ} {page : List ℕ} {r : Compared} {page' : List ℕ}
+module _ {Q : Problem} {m : ℕ} {t : List ℕ} {a : ℕ} {s : List ℕ} {words : ℕ} {page : List ℕ} {r : Reply (ℕ × ℕ)} {page' : List ℕ}
     (P : ClosestPost Q m t a s words page r page') where
   abbrev F : Family
   F = family_at t a
@@ -113,13 +110,13 @@ module _ {Q : Problem} {m : ℕ} {t : List ℕ} {a : ℕ} {s : List ℕ} {words 
   abbrev refusal : ℕ
   refusal = closest_refusal Q m t a s words page
 
-  given : {n d : ℕ} → closest_reply r ≡ gives (n, d) → (refusal ≡ 0) × (n ≡ length (closest s F)) × (d ≡ difference s (closest s F))
+  given : {n d : ℕ} → r ≡ gives (n, d) → (refusal ≡ 0) × (n ≡ length (closest s F)) × (d ≡ difference s (closest s F))
   given {n} {d} e =
       let z = was_given (n, d) refusal (length (closest s F), difference s (closest s F)) (sym e ∙ P.result) in
       (z.0, ap (λ (x : ℕ × ℕ). x.0) z.1, ap (λ (x : ℕ × ℕ). x.1) z.1)
 
   -- THEOREM: where it gives n and d, the first n places of the page have the nearest member, d its difference, and the rest of the page is as it was
-  pub closest_answered : {n d : ℕ} → closest_reply r ≡ gives (n, d)
+  pub closest_answered : {n d : ℕ} → r ≡ gives (n, d)
       → Nearest F s (take n page') d × (length (take n page') ≡ n) × (drop n page' ≡ drop n page)
   closest_answered {n} {d} e =
       let z = given e in
@@ -131,7 +128,7 @@ module _ {Q : Problem} {m : ℕ} {t : List ℕ} {a : ℕ} {s : List ℕ} {words 
       )
 
   -- THEOREM: where the difference is 0 the given timetable is a member, and is what was written
-  pub closest-none : {n : ℕ} → closest_reply r ≡ gives (n, 0) → (elem s F ≡ true) × (take n page' ≡ s)
+  pub closest-none : {n : ℕ} → r ≡ gives (n, 0) → (elem s F ≡ true) × (take n page' ≡ s)
   closest-none {n} e =
       let N = (closest_answered e).0 in
       let R = compared-ready Q m t a s words page (given e).0 in
@@ -140,8 +137,8 @@ module _ {Q : Problem} {m : ℕ} {t : List ℕ} {a : ℕ} {s : List ℕ} {words 
       (subst⁻¹ (λ (u : List ℕ). elem u F ≡ true) same N.member, sym same)
 
   -- THEOREM: the difference is never more than that of a timetable that pick writes
-  pub never_more_than_picked : {n d : ℕ} → closest_reply r ≡ gives (n, d)
-      → {k words₂ : ℕ} {page₂ : List ℕ} {r₂ : Picked} {page₂' : List ℕ} {c : ℕ} → PickPost Q m t a k words₂ page₂ r₂ page₂' → pick_reply r₂ ≡ gives c
+  pub never_more_than_picked : {n d : ℕ} → r ≡ gives (n, d)
+      → {k words₂ : ℕ} {page₂ : List ℕ} {r₂ : Reply ℕ} {page₂' : List ℕ} {c : ℕ} → PickPost Q m t a k words₂ page₂ r₂ page₂' → r₂ ≡ gives c
       → d ≤ difference s (take c page₂')
   never_more_than_picked e {k} {page₂' = page₂'} {c = c} P₂ e₂ =
       let R = picked P₂ e₂ in
@@ -168,11 +165,11 @@ module _ {Q : Problem} {m : ℕ} {t : List ℕ} {a : ℕ} (R : Open Q m t a) (s 
       ∙ pass 15 _ (page_fits page (closest s (family_at t a)) (subst⁻¹ (λ (u : List ℕ). length u ≤ length page) closest_itself l)) ∙ none
 
 -- THEOREM: a timetable that place finds is its own closest, with the difference 0
-pub closest_of_member : {Q : Problem} {m : ℕ} {t : List ℕ} {a : ℕ} {s : List ℕ} {words : ℕ} {r : Placed} {k : ℕ}
-    → PlacePost Q m t a s words r → place_reply r ≡ gives k
+pub closest_of_member : {Q : Problem} {m : ℕ} {t : List ℕ} {a : ℕ} {s : List ℕ} {words : ℕ} {r : Reply ℕ} {k : ℕ}
+    → PlacePost Q m t a s words r → r ≡ gives k
     → (words' : ℕ) → a + 1 ≤ words' → (page : List ℕ) → length s ≤ length page
-    → (r' : Compared) (page' : List ℕ) → ClosestPost Q m t a s words' page r' page'
-    → (closest_reply r' ≡ gives (length s, 0)) × (page' ≡ s ++ drop (length s) page)
+    → (r' : Reply (ℕ × ℕ)) (page' : List ℕ) → ClosestPost Q m t a s words' page r' page'
+    → (r' ≡ gives (length s, 0)) × (page' ≡ s ++ drop (length s) page)
 closest_of_member {Q} {m} {t} {a} {s} {words} {r} {k} L e words' w page l r' page' P =
     let z = was_given k (place_refusal Q m t a s words) (position s (family_at t a)) (sym e ∙ L.result) in
     let R = placed-ready Q m t a s words z.0 in
@@ -195,10 +192,10 @@ module _ (Q : Problem) (m : ℕ) (t : List ℕ) (a : ℕ) (s : List ℕ) (words 
   unfolding closest_refusal
   closest-list page = refl
 
-module _ {Q : Problem} {m : ℕ} {t : List ℕ} {a : ℕ} {s : List ℕ} {words : ℕ} {r : Placed} (L : PlacePost Q m t a s words r)
-    {page : List ℕ} {r' : Compared} {page' : List ℕ} (P : ClosestPost Q m t a s words page r' page') where
+module _ {Q : Problem} {m : ℕ} {t : List ℕ} {a : ℕ} {s : List ℕ} {words : ℕ} {r : Reply ℕ} (L : PlacePost Q m t a s words r)
+    {page : List ℕ} {r' : Reply (ℕ × ℕ)} {page' : List ℕ} (P : ClosestPost Q m t a s words page r' page') where
   -- THEOREM: every refusal of place but 11 and 14 is closest's
-  pub closest_as_place : {n : ℕ} → place_reply r ≡ refused n → (n ≡ 11 → ⊥) → (n ≡ 14 → ⊥) → (closest_reply r' ≡ refused n) × (page' ≡ page)
+  pub closest_as_place : {n : ℕ} → r ≡ refused n → (n ≡ 11 → ⊥) → (n ≡ 14 → ⊥) → (r' ≡ refused n) × (page' ≡ page)
   closest_as_place {n} e f g =
       let z = was_refused n (place_refusal Q m t a s words) _ (sym e ∙ L.result) in
       let k = closest-list Q m t a s words page
@@ -206,7 +203,7 @@ module _ {Q : Problem} {m : ℕ} {t : List ℕ} {a : ℕ} {s : List ℕ} {words 
       (P.result ∙ sym (reply-refused n _ k z.1), P.pages ∙ sym (page_left n _ page k z.1))
 
   -- THEOREM: and every refusal of closest but 13 and 15 is place's
-  pub place_as_closest : {n : ℕ} → closest_reply r' ≡ refused n → (n ≡ 13 → ⊥) → (n ≡ 15 → ⊥) → place_reply r ≡ refused n
+  pub place_as_closest : {n : ℕ} → r' ≡ refused n → (n ≡ 13 → ⊥) → (n ≡ 15 → ⊥) → r ≡ refused n
   place_as_closest {n} e f g =
       let z = was_refused n (closest_refusal Q m t a s words page) _ (sym e ∙ P.result) in
       let k = place-list Q m t a s words
@@ -214,8 +211,8 @@ module _ {Q : Problem} {m : ℕ} {t : List ℕ} {a : ℕ} {s : List ℕ} {words 
       L.result ∙ sym (reply-refused n _ k z.1)
 
 -- THEOREM: 11 is never said: nothing is counted
-pub closest_uncounted : {Q : Problem} {m : ℕ} {t : List ℕ} {a : ℕ} {s : List ℕ} {words : ℕ} {page : List ℕ} {r : Compared} {page' : List ℕ}
-    → ClosestPost Q m t a s words page r page' → closest_reply r ≡ refused 11 → ⊥
+pub closest_uncounted : {Q : Problem} {m : ℕ} {t : List ℕ} {a : ℕ} {s : List ℕ} {words : ℕ} {page : List ℕ} {r : Reply (ℕ × ℕ)} {page' : List ℕ}
+    → ClosestPost Q m t a s words page r page' → r ≡ refused 11 → ⊥
 unfolding closest_refusal
 closest_uncounted {Q} {m} {t} {a} {s} {words} {page} P e =
     avoided 11 _ tt (was_refused 11 (closest_refusal Q m t a s words page) _ (sym e ∙ P.result)).0

@@ -14,7 +14,7 @@ use Rattle.zdd.proofs.Words.{length-nodes}
 use Rattle.zdd.proofs.Tested.{sound_of}
 use Rattle.zdd.proofs.Counting.{branch_below, number_of, number_in}
 use Rattle.zdd.proofs.Below.{below_branch}
-use Rattle.statement.specs.declared.Report.{Report}
+use Rattle.statement.specs.Replies.{Report}
 use Rattle.query.specs.Questions.{family_at}
 use Rattle.statement.specs.Postconditions.{Answered}
 use Rattle.statement.proofs.Kept.{keeps, grows}

@@ -12,8 +12,7 @@ use lib.ListN.{length}
 use borrow.Author.Tests.{ltb-true}
 use Rattle.exact_cover.specs.Problem.{Problem}
 use Rattle.query.specs.Questions.{family_at, cost, cheapest}
-use Rattle.statement.specs.declared.Priced.{Priced}
-use Rattle.statement.specs.Replies.{refused, gives, reply, cheapest_reply}
+use Rattle.statement.specs.Replies.{refused, gives, reply, Reply}
 use Rattle.statement.specs.Refusals.{first_of, package_tests, priced_tests, unpriced, unsound, unknown_answer, short_work, nothing, short_page, cheapest_refusal}
 use Rattle.statement.specs.Postconditions.{CheapestPost, written}
 use Rattle.statement.proofs.FirstOf.{pass, hit, front, behind, only-there}
@@ -34,9 +33,9 @@ old_cheapest_refusal Q m C t a words page =
     []))
 
 -- the contract that went by it: `CheapestPost`, but for the list
-pub record OldCheapestPost (Q : Problem) (m : ℕ) (C t : List ℕ) (a words : ℕ) (page : List ℕ) (r : Priced) (page' : List ℕ) : Type 0 where
+pub record OldCheapestPost (Q : Problem) (m : ℕ) (C t : List ℕ) (a words : ℕ) (page : List ℕ) (r : Reply (ℕ × ℕ)) (page' : List ℕ) : Type 0 where
   pub result :
-      cheapest_reply r
+      r
       ≡ reply (old_cheapest_refusal Q m C t a words page) (length (cheapest C (family_at t a)), cost C (cheapest C (family_at t a)))
   pub pages : page' ≡ written (old_cheapest_refusal Q m C t a words page) (cheapest C (family_at t a)) page
 
@@ -93,9 +92,9 @@ module _ (Q : Problem) (m : ℕ) (C t : List ℕ) (a words : ℕ) (page : List �
 -- ---- the contracts, with the same arguments
 
 -- THEOREM: 8 is said exactly where no test before it holds and there are fewer than a + 1 words
-pub short_exactly : {Q : Problem} {m : ℕ} {C t : List ℕ} {a words : ℕ} {page : List ℕ} {r : Priced} {page' : List ℕ} → CheapestPost Q m C t a words page r page'
-    → (cheapest_reply r ≡ refused 8 → (first_of (priced_tests Q m C t a) ≡ 0) × (words < a + 1))
-    × (first_of (priced_tests Q m C t a) ≡ 0 → words < a + 1 → cheapest_reply r ≡ refused 8)
+pub short_exactly : {Q : Problem} {m : ℕ} {C t : List ℕ} {a words : ℕ} {page : List ℕ} {r : Reply (ℕ × ℕ)} {page' : List ℕ} → CheapestPost Q m C t a words page r page'
+    → (r ≡ refused 8 → (first_of (priced_tests Q m C t a) ≡ 0) × (words < a + 1))
+    × (first_of (priced_tests Q m C t a) ≡ 0 → words < a + 1 → r ≡ refused 8)
 unfolding short_work
 short_exactly {Q} {m} {C} {t} {a} {words} {page} P = (
   λ e.
@@ -105,13 +104,13 @@ short_exactly {Q} {m} {C} {t} {a} {words} {page} P = (
   λ e w. P.result ∙ sym (reply-refused 8 _ (new_list Q m C t a words page ∙ short Q m C t a words page e w) (λ z. omega arith)),
 )
 
-module _ {Q : Problem} {m : ℕ} {C t : List ℕ} {a words : ℕ} {page : List ℕ} {r₀ : Priced} {page₀ : List ℕ} (P₀ : OldCheapestPost Q m C t a words page r₀ page₀)
-    {r : Priced} {page' : List ℕ} (P : CheapestPost Q m C t a words page r page') where
+module _ {Q : Problem} {m : ℕ} {C t : List ℕ} {a words : ℕ} {page : List ℕ} {r₀ : Reply (ℕ × ℕ)} {page₀ : List ℕ} (P₀ : OldCheapestPost Q m C t a words page r₀ page₀)
+    {r : Reply (ℕ × ℕ)} {page' : List ℕ} (P : CheapestPost Q m C t a words page r page') where
   abbrev s : List ℕ
   s = cheapest C (family_at t a)
 
   -- THEOREM: reply and page are what they were, but where 8 was said to words that are enough now
-  pub only_limit_moved : ((cheapest_reply r ≡ cheapest_reply r₀) × (page' ≡ page₀)) ⊎ Moved Q m C t a words page
+  pub only_limit_moved : ((r ≡ r₀) × (page' ≡ page₀)) ⊎ Moved Q m C t a words page
   only_limit_moved = ⊎_elim
       (λ (e : cheapest_refusal Q m C t a words page ≡ old_cheapest_refusal Q m C t a words page). inl (
         P.result ∙ ap (λ (n : ℕ). reply n (length s, cost C s)) e ∙ sym P₀.result,
@@ -120,21 +119,21 @@ module _ {Q : Problem} {m : ℕ} {C t : List ℕ} {a words : ℕ} {page : List �
       (λ (z : Moved Q m C t a words page). inr z)
       (same_or_moved Q m C t a words page)
 
-  same : {n : ℕ} → old_cheapest_refusal Q m C t a words page ≡ n → (n ≡ 8 → ⊥) → (cheapest_reply r ≡ cheapest_reply r₀) × (page' ≡ page₀)
+  same : {n : ℕ} → old_cheapest_refusal Q m C t a words page ≡ n → (n ≡ 8 → ⊥) → (r ≡ r₀) × (page' ≡ page₀)
   same e f = ⊎_elim
-      (λ (k : (cheapest_reply r ≡ cheapest_reply r₀) × (page' ≡ page₀)). k)
+      (λ (k : (r ≡ r₀) × (page' ≡ page₀)). k)
       (λ (z : Moved Q m C t a words page). absurd (f (sym e ∙ z.was)))
       only_limit_moved
 
   -- THEOREM: what was answered is answered with the same number of packages, the same cost and the same page, on which the timetable stands
-  pub answered_as_before : {x : ℕ × ℕ} → cheapest_reply r₀ ≡ gives x → (cheapest_reply r ≡ gives x) × (page' ≡ page₀)
+  pub answered_as_before : {x : ℕ × ℕ} → r₀ ≡ gives x → (r ≡ gives x) × (page' ≡ page₀)
   answered_as_before {x} e =
       let z = was_given x (old_cheapest_refusal Q m C t a words page) (length s, cost C s) (sym e ∙ P₀.result) in
       let k = same z.0 (λ y. omega arith) in
       (k.0 ∙ e, k.1)
 
   -- THEOREM: every refusal but 8 is the same
-  pub refused_as_before : {n : ℕ} → cheapest_reply r₀ ≡ refused n → (n ≡ 8 → ⊥) → (cheapest_reply r ≡ refused n) × (page' ≡ page₀)
+  pub refused_as_before : {n : ℕ} → r₀ ≡ refused n → (n ≡ 8 → ⊥) → (r ≡ refused n) × (page' ≡ page₀)
   refused_as_before {n} e f =
       let z = was_refused n (old_cheapest_refusal Q m C t a words page) (length s, cost C s) (sym e ∙ P₀.result) in
       let k = same z.0 f in

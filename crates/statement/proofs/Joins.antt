@@ -30,7 +30,7 @@ use Rattle.exact_cover.specs.Cover.{keys_of}
 use Rattle.exact_cover.proofs.Order.{keys-apart, length-keys}
 use Rattle.query.specs.Questions.{family_at}
 use Rattle.statement.specs.declared.Call.TheVariants.{Join}
-use Rattle.statement.specs.declared.Report.{Report}
+use Rattle.statement.specs.Replies.{Report}
 use Rattle.statement.specs.Refusals.{first_of, unsound, unknown_answer, overlap, short_work, full, Fit}
 use Rattle.statement.specs.Calls.{join_least, call_refusal}
 use Rattle.statement.specs.Postconditions.{Answered, JoinPost}

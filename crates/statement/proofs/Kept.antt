@@ -8,7 +8,7 @@ use Rattle.zdd.specs.Table.{Node, Family, count, nodes_of, family}
 use Rattle.zdd.proofs.Grow.{family-append}
 use Rattle.zdd.proofs.Words.{length-nodes}
 use Rattle.query.specs.Questions.{family_at}
-use Rattle.statement.specs.declared.Report.{Report}
+use Rattle.statement.specs.Replies.{Report}
 use Rattle.statement.specs.Postconditions.{Declined, Answered, Makes}
 
 -- the call's refusal n is k, and k is said

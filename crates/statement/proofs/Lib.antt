@@ -1,5 +1,6 @@
 -- Theorems about the statement alone.
 pub mod FirstOf
+pub mod Results
 pub mod Admission
 pub mod TestLaws
 pub mod Overlaps

@@ -16,7 +16,7 @@ use Rattle.zdd.proofs.Tested.{sound_of}
 use Rattle.zdd.proofs.Canon.{canonical}
 use Rattle.zdd.proofs.Below.{below-append, below-known, below_le, new_all, new_missing}
 use Rattle.query.specs.Questions.{family_at}
-use Rattle.statement.specs.declared.Report.{Report}
+use Rattle.statement.specs.Replies.{Report}
 use Rattle.statement.specs.Postconditions.{Answered}
 use Rattle.statement.proofs.Kept.{nodes_split, keeps, grows}
 

@@ -19,9 +19,7 @@ use Rattle.zdd.proofs.Ordered.{nth-elem}
 use Rattle.exact_cover.specs.Problem.{Problem}
 use Rattle.exact_cover.specs.Cover.{keys_of}
 use Rattle.exact_cover.proofs.Order.{length-keys, keys-apart}
-use Rattle.statement.specs.declared.Picked.{Picked}
-use Rattle.statement.specs.declared.Placed.{Placed}
-use Rattle.statement.specs.Replies.{gives, reply, pick_reply, place_reply}
+use Rattle.statement.specs.Replies.{gives, reply, Reply}
 use Rattle.query.specs.Reading.{Readable}
 use Rattle.query.proofs.Seeks.{position_here, position_later}
 use Rattle.query.proofs.Differences.{set_in}
@@ -151,8 +149,8 @@ placed-ready Q m t a s words e =
     (counted_too a5.0 a11.0, not-false (elem s (family_at t a)) a14.0)
 
 -- what pick wrote, where it gave c
-pub picked : {Q : Problem} {m : ℕ} {t : List ℕ} {a k words : ℕ} {page : List ℕ} {r : Picked} {page' : List ℕ} {c : ℕ}
-    → PickPost Q m t a k words page r page' → pick_reply r ≡ gives c
+pub picked : {Q : Problem} {m : ℕ} {t : List ℕ} {a k words : ℕ} {page : List ℕ} {r : Reply ℕ} {page' : List ℕ} {c : ℕ}
+    → PickPost Q m t a k words page r page' → r ≡ gives c
     → Answerable Q m t a × (k < length (family_at t a)) × (take c page' ≡ nth (family_at t a) k)
 picked {Q} {m} {t} {a} {k} {words} {page} {r} {page'} {c} P e =
     let s : List ℕ = nth (family_at t a) k in
@@ -161,10 +159,10 @@ picked {Q} {m} {t} {a} {k} {words} {page} {r} {page'} {c} P e =
     (R.0, R.1, (page_holds s page z.0 z.1 P.pages).0)
 
 -- THEOREM: the place of what a pick of k wrote is k
-pub place-of-pick : {Q : Problem} {m : ℕ} {t : List ℕ} {a k words : ℕ} {page : List ℕ} {r : Picked} {page' : List ℕ} {c : ℕ}
-    → PickPost Q m t a k words page r page' → pick_reply r ≡ gives c
-    → (words' : ℕ) → a + 1 ≤ words' → (r' : Placed) → PlacePost Q m t a (take c page') words' r'
-    → place_reply r' ≡ gives k
+pub place-of-pick : {Q : Problem} {m : ℕ} {t : List ℕ} {a k words : ℕ} {page : List ℕ} {r : Reply ℕ} {page' : List ℕ} {c : ℕ}
+    → PickPost Q m t a k words page r page' → r ≡ gives c
+    → (words' : ℕ) → a + 1 ≤ words' → (r' : Reply ℕ) → PlacePost Q m t a (take c page') words' r'
+    → r' ≡ gives k
 place-of-pick {Q} {m} {t} {a} {k} {words} {page} {r} {page'} {c} P e words' w r' L =
     let R = picked P e in
     let F : Family = family_at t a in
@@ -173,11 +171,11 @@ place-of-pick {Q} {m} {t} {a} {k} {words} {page} {r} {page'} {c} P e words' w r'
     ∙ ap₂ reply (place-ready R.0 (take c page') words' w i) (ap (λ (s : List ℕ). position s F) R.2 ∙ position-nth F (once (opened R.0)) k R.1)
 
 -- THEOREM: the pick of the place of s writes s
-pub pick-of-place : {Q : Problem} {m : ℕ} {t : List ℕ} {a : ℕ} {s : List ℕ} {words : ℕ} {r : Placed} {k : ℕ}
-    → PlacePost Q m t a s words r → place_reply r ≡ gives k
+pub pick-of-place : {Q : Problem} {m : ℕ} {t : List ℕ} {a : ℕ} {s : List ℕ} {words : ℕ} {r : Reply ℕ} {k : ℕ}
+    → PlacePost Q m t a s words r → r ≡ gives k
     → (words' : ℕ) → a + 1 ≤ words' → (page : List ℕ) → length s ≤ length page
-    → (r' : Picked) (page' : List ℕ) → PickPost Q m t a k words' page r' page'
-    → (pick_reply r' ≡ gives (length s)) × (page' ≡ s ++ drop (length s) page)
+    → (r' : Reply ℕ) (page' : List ℕ) → PickPost Q m t a k words' page r' page'
+    → (r' ≡ gives (length s)) × (page' ≡ s ++ drop (length s) page)
 pick-of-place {Q} {m} {t} {a} {s} {words} {r} {k} L e words' w page l r' page' P =
     let F : Family = family_at t a in
     let z = was_given k (place_refusal Q m t a s words) (position s F) (sym e ∙ L.result) in
@@ -189,10 +187,10 @@ pick-of-place {Q} {m} {t} {a} {s} {words} {r} {k} L e words' w page l r' page' P
     (P.result ∙ ap₂ (λ (n : ℕ) (u : List ℕ). reply n (length u)) n0 j, P.pages ∙ ap₂ (λ (n : ℕ) (u : List ℕ). written n u page) n0 j)
 
 -- THEOREM: two picks from one answer that write the same timetable are picks of the same k
-pub pick-once : {Q : Problem} {m : ℕ} {t : List ℕ} {a k words : ℕ} {page : List ℕ} {r : Picked} {page' : List ℕ} {c : ℕ}
-    {m₂ k₂ words₂ : ℕ} {page₂ : List ℕ} {r₂ : Picked} {page₂' : List ℕ} {c₂ : ℕ}
-    → PickPost Q m t a k words page r page' → pick_reply r ≡ gives c
-    → PickPost Q m₂ t a k₂ words₂ page₂ r₂ page₂' → pick_reply r₂ ≡ gives c₂
+pub pick-once : {Q : Problem} {m : ℕ} {t : List ℕ} {a k words : ℕ} {page : List ℕ} {r : Reply ℕ} {page' : List ℕ} {c : ℕ}
+    {m₂ k₂ words₂ : ℕ} {page₂ : List ℕ} {r₂ : Reply ℕ} {page₂' : List ℕ} {c₂ : ℕ}
+    → PickPost Q m t a k words page r page' → r ≡ gives c
+    → PickPost Q m₂ t a k₂ words₂ page₂ r₂ page₂' → r₂ ≡ gives c₂
     → take c page' ≡ take c₂ page₂' → k ≡ k₂
 pick-once {t = t} {a = a} {k = k} {k₂ = k₂} P e P₂ e₂ same =
     let R = picked P e in

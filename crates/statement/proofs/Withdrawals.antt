@@ -27,9 +27,7 @@ use Rattle.exact_cover.proofs.Shortened.{shorten_few, shorten-row, old_known, co
 use Rattle.query.specs.Questions.{family_at, any_unknown}
 use Rattle.query.proofs.Precede.{known_at}
 use Rattle.statement.specs.declared.Call.TheVariants.{Cover}
-use Rattle.statement.specs.declared.Report.{Report}
-use Rattle.statement.specs.declared.Withdrawal.{Withdrawal}
-use Rattle.statement.specs.Replies.{gives, outcome_reply}
+use Rattle.statement.specs.Replies.{Report, Reply, gives}
 use Rattle.statement.specs.Refusals.{oversize, stray_package, stray, stray_optional, nothing_compulsory, unsound, unknown_answer, not_rising, short_work, full, Fit, withdraw_refusal}
 use Rattle.statement.specs.Calls.{call_refusal}
 use Rattle.statement.specs.Postconditions.{AnswerPost, Withdrawn, WithdrawPost}
@@ -93,7 +91,7 @@ fit_withdraw Q m t gone answers words e = (admits Q m t gone answers words e).fi
 
 -- ---- after it
 
-module _ {Q : Problem} {gone t answers : List ℕ} {r : Withdrawal} {t' answers' : List ℕ} (W : Withdrawn Q gone t answers r t' answers') where
+module _ {Q : Problem} {gone t answers : List ℕ} {r : Reply ℕ} {t' answers' : List ℕ} (W : Withdrawn Q gone t answers r t' answers') where
   -- THEOREM: two entries are one number exactly where what is left of their sets is equal
   pub entries_equal : (i j : ℕ) → i < length answers → j < length answers
       → (get_or answers' i 0 ≡ get_or answers' j 0) ↔ (withdrawn gone (family_at t (get_or answers i 0)) ≡ withdrawn gone (family_at t (get_or answers j 0)))
@@ -113,7 +111,7 @@ held_fits K t s a h =
     le-ltb (capacity t - count t) (missing ns (family_at t a)) (omega (arith, subst (λ (l : List Node). missing ns (family l a) ≤ 0) (append-nil ns) g))
 
 -- after a withdrawal that was not refused, whose entry j held the covering of d
-module _ {Q : Problem} {m : ℕ} {t gone answers : List ℕ} {words : ℕ} {r : Withdrawal} {t' answers' : List ℕ} (P : WithdrawPost Q m t gone answers words r t' answers')
+module _ {Q : Problem} {m : ℕ} {t gone answers : List ℕ} {words : ℕ} {r : Reply ℕ} {t' answers' : List ℕ} (P : WithdrawPost Q m t gone answers words r t' answers')
     (z : withdraw_refusal Q m t gone answers words ≡ 0) (d : Items) (j : ℕ) (h : j < length answers) (e : family_at t (get_or answers j 0) ≡ covering Q (value d)) where
   -- it holds that of the shortened list
   held : family_at t' (get_or answers' j 0) ≡ covering (shorten Q gone) (value d)
@@ -123,7 +121,7 @@ module _ {Q : Problem} {m : ℕ} {t gone answers : List ℕ} {words : ℕ} {r : 
 
   -- THEOREM: a cover of d answers with the entry, and makes no node
   pub finds_entry : (limit work : ℕ) (r' : Report) (t'' : List ℕ) → AnswerPost (shorten Q gone) m t' (Cover d limit) work r' t''
-      → call_refusal (shorten Q gone) m t' (Cover d limit) work ≡ 0 → (outcome_reply r'.outcome ≡ gives (get_or answers' j 0)) × (r'.made ≡ 0)
+      → call_refusal (shorten Q gone) m t' (Cover d limit) work ≡ 0 → (r'.outcome ≡ gives (get_or answers' j 0)) × (r'.made ≡ 0)
   finds_entry limit work r' t'' C y =
       let A = C.answered y in
       let known = (P.done z).known j h in

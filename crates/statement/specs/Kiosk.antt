@@ -4,8 +4,7 @@
 use Rattle.std.specs.Prelude.{List, [], ◌∷◌, ℕ}
 use Rattle.zdd.specs.Table.{Node}
 use Rattle.exact_cover.specs.Problem.{Problem}
-use Rattle.statement.specs.declared.Soundness.{Soundness}
-use Rattle.statement.specs.declared.Counted.{Counted}
+use Rattle.statement.specs.Replies.{Reply}
 use Rattle.statement.specs.Postconditions.{CheckPost, CountPost}
 
 unfoldable pub words_of : List Node → List ℕ
@@ -15,8 +14,8 @@ words_of (x ∷ ns) = x.label ∷ x.lo ∷ x.hi ∷ words_of ns
 abbrev pub table_of : ℕ → List Node → List ℕ
 table_of n ns = n ∷ words_of ns
 
-abbrev pub KioskCheckPost : (Q : Problem) (m n : ℕ) (ns : List Node) → Soundness → Type 0
+abbrev pub KioskCheckPost : (Q : Problem) (m n : ℕ) (ns : List Node) → Reply (Unit {0}) → Type 0
 KioskCheckPost Q m n ns = CheckPost Q m (table_of n ns)
 
-abbrev pub KioskCountPost : (Q : Problem) (m n : ℕ) (ns : List Node) (a words : ℕ) → Counted → Type 0
+abbrev pub KioskCountPost : (Q : Problem) (m n : ℕ) (ns : List Node) (a words : ℕ) → Reply ℕ → Type 0
 KioskCountPost Q m n ns a words = CountPost Q m (table_of n ns) a words

@@ -11,16 +11,7 @@ use Rattle.exact_cover.specs.Steps.{steps}
 use Rattle.exact_cover.specs.Shortened.{shorten}
 use Rattle.statement.specs.declared.Call.{Call}
 use Rattle.statement.specs.declared.Call.TheVariants.{Either, Both, Only, With, Without, Join}
-use Rattle.statement.specs.declared.Report.{Report}
-use Rattle.statement.specs.declared.Soundness.{Soundness}
-use Rattle.statement.specs.declared.Counted.{Counted}
-use Rattle.statement.specs.declared.Picked.{Picked}
-use Rattle.statement.specs.declared.Measured.{Measured}
-use Rattle.statement.specs.declared.Placed.{Placed}
-use Rattle.statement.specs.declared.Priced.{Priced}
-use Rattle.statement.specs.declared.Compared.{Compared}
-use Rattle.statement.specs.declared.Withdrawal.{Withdrawal}
-use Rattle.statement.specs.Replies.{refused, gives, reply, outcome_reply, soundness_reply, count_reply, pick_reply, measure_reply, place_reply, cheapest_reply, closest_reply, withdraw_reply}
+use Rattle.statement.specs.Replies.{Reply, refused, gives, reply, Report}
 use Rattle.query.specs.Questions.{family_at, nth, position, cost, cheapest, difference, closest}
 use Rattle.statement.specs.Calls.{family_of, steps_of, call_refusal, cover_refusal}
 use Rattle.statement.specs.Refusals.{places, check_refusal, count_refusal, pick_refusal, measure_refusal, place_refusal, cheapest_refusal, closest_refusal, withdraw_refusal}
@@ -29,7 +20,7 @@ use Rattle.statement.specs.Refusals.{places, check_refusal, count_refusal, pick_
 
 -- the call is refused with the number n: 0 steps, no node made, and the table is as before
 pub record Declined (n : ℕ) (t : List ℕ) (r : Report) (t' : List ℕ) : Type 0 where
-  pub outcome : outcome_reply r.outcome ≡ refused n
+  pub outcome : r.outcome ≡ refused n
   pub steps : r.steps ≡ 0
   pub made : r.made ≡ 0
   pub table : t' ≡ t
@@ -38,7 +29,7 @@ pub record Declined (n : ℕ) (t : List ℕ) (r : Report) (t' : List ℕ) : Type
 pub record Answered (K : List ℕ) (F : Family) (s : ℕ) (t : List ℕ) (r : Report) (t' : List ℕ) : Type 0 where
   -- the answer's number, one that the table knows, and what it holds
   pub number : ℕ
-  pub outcome : outcome_reply r.outcome ≡ gives number
+  pub outcome : r.outcome ≡ gives number
   pub known : number < count t' + 2
   pub holds : family_at t' number ≡ F
   pub steps : r.steps ≡ s
@@ -96,38 +87,38 @@ written zero s page = s ++ drop (length s) page
 written (suc n) s page = page
 
 -- the soundness check
-pub record CheckPost (Q : Problem) (m : ℕ) (t : List ℕ) (r : Soundness) : Type 0 where
-  pub result : soundness_reply r ≡ reply (check_refusal Q m t) tt
+pub record CheckPost (Q : Problem) (m : ℕ) (t : List ℕ) (r : Reply (Unit {0})) : Type 0 where
+  pub result : r ≡ reply (check_refusal Q m t) tt
 
 -- count: how many timetables the answer a holds
-pub record CountPost (Q : Problem) (m : ℕ) (t : List ℕ) (a words : ℕ) (r : Counted) : Type 0 where
-  pub result : count_reply r ≡ reply (count_refusal Q m t a words) (length (family_at t a))
+pub record CountPost (Q : Problem) (m : ℕ) (t : List ℕ) (a words : ℕ) (r : Reply ℕ) : Type 0 where
+  pub result : r ≡ reply (count_refusal Q m t a words) (length (family_at t a))
 
 -- pick k: the k-th timetable of the answer a, written to the page, and how many packages it has
-pub record PickPost (Q : Problem) (m : ℕ) (t : List ℕ) (a k words : ℕ) (page : List ℕ) (r : Picked) (page' : List ℕ) : Type 0 where
-  pub result : pick_reply r ≡ reply (pick_refusal Q m t a k words page) (length (nth (family_at t a) k))
+pub record PickPost (Q : Problem) (m : ℕ) (t : List ℕ) (a k words : ℕ) (page : List ℕ) (r : Reply ℕ) (page' : List ℕ) : Type 0 where
+  pub result : r ≡ reply (pick_refusal Q m t a k words page) (length (nth (family_at t a) k))
   pub pages : page' ≡ written (pick_refusal Q m t a k words page) (nth (family_at t a) k) page
 
 -- measure k: how many packages the k-th timetable of the answer a has
-pub record MeasurePost (Q : Problem) (m : ℕ) (t : List ℕ) (a k words : ℕ) (r : Measured) : Type 0 where
-  pub result : measure_reply r ≡ reply (measure_refusal Q m t a k words) (length (nth (family_at t a) k))
+pub record MeasurePost (Q : Problem) (m : ℕ) (t : List ℕ) (a k words : ℕ) (r : Reply ℕ) : Type 0 where
+  pub result : r ≡ reply (measure_refusal Q m t a k words) (length (nth (family_at t a) k))
 
 -- place: where the timetable s stands in the listing of the answer a
-pub record PlacePost (Q : Problem) (m : ℕ) (t : List ℕ) (a : ℕ) (s : List ℕ) (words : ℕ) (r : Placed) : Type 0 where
-  pub result : place_reply r ≡ reply (place_refusal Q m t a s words) (position s (family_at t a))
+pub record PlacePost (Q : Problem) (m : ℕ) (t : List ℕ) (a : ℕ) (s : List ℕ) (words : ℕ) (r : Reply ℕ) : Type 0 where
+  pub result : r ≡ reply (place_refusal Q m t a s words) (position s (family_at t a))
 
 -- cheapest: of the timetables of the answer a with the least cost the first listed, written to the page; how many packages it has, and its cost
-pub record CheapestPost (Q : Problem) (m : ℕ) (C t : List ℕ) (a words : ℕ) (page : List ℕ) (r : Priced) (page' : List ℕ) : Type 0 where
+pub record CheapestPost (Q : Problem) (m : ℕ) (C t : List ℕ) (a words : ℕ) (page : List ℕ) (r : Reply (ℕ × ℕ)) (page' : List ℕ) : Type 0 where
   pub result :
-      cheapest_reply r
+      r
       ≡ reply (cheapest_refusal Q m C t a words page) (length (cheapest C (family_at t a)), cost C (cheapest C (family_at t a)))
   pub pages : page' ≡ written (cheapest_refusal Q m C t a words page) (cheapest C (family_at t a)) page
 
 -- closest: of the timetables of the answer a that differ from s in the fewest packages the first listed, written to the page; how many packages it has, and
 -- the difference
-pub record ClosestPost (Q : Problem) (m : ℕ) (t : List ℕ) (a : ℕ) (s : List ℕ) (words : ℕ) (page : List ℕ) (r : Compared) (page' : List ℕ) : Type 0 where
+pub record ClosestPost (Q : Problem) (m : ℕ) (t : List ℕ) (a : ℕ) (s : List ℕ) (words : ℕ) (page : List ℕ) (r : Reply (ℕ × ℕ)) (page' : List ℕ) : Type 0 where
   pub result :
-      closest_reply r
+      r
       ≡ reply (closest_refusal Q m t a s words page) (length (closest s (family_at t a)), difference s (closest s (family_at t a)))
   pub pages : page' ≡ written (closest_refusal Q m t a s words page) (closest s (family_at t a)) page
 
@@ -138,15 +129,15 @@ abbrev pub Needed : (l t : List ℕ) → Type 0
 Needed l t = (k : ℕ) → 2 ≤ k → (k < count t + 2) ↔ ((a : ℕ) × (a ∈ l) × Below (nodes_of t) a k)
 
 -- it is refused with the number n: table and list are as before
-pub record Unmoved (n : ℕ) (t answers : List ℕ) (r : Withdrawal) (t' answers' : List ℕ) : Type 0 where
-  pub reply : withdraw_reply r ≡ refused n
+pub record Unmoved (n : ℕ) (t answers : List ℕ) (r : Reply ℕ) (t' answers' : List ℕ) : Type 0 where
+  pub reply : r ≡ refused n
   pub table : t' ≡ t
   pub list : answers' ≡ answers
 
 -- it is not
-pub record Withdrawn (Q : Problem) (gone t answers : List ℕ) (r : Withdrawal) (t' answers' : List ℕ) : Type 0 where
+pub record Withdrawn (Q : Problem) (gone t answers : List ℕ) (r : Reply ℕ) (t' answers' : List ℕ) : Type 0 where
   -- it returns how many nodes are left
-  pub reply : withdraw_reply r ≡ gives (count t')
+  pub reply : r ≡ gives (count t')
   -- the table is as long as before, and sound for the shortened list of packages; so every word behind the nodes left is 0
   pub long : length t' ≡ length t
   pub sound : soundb (keys_of (shorten Q gone)) t' ≡ true
@@ -157,6 +148,6 @@ pub record Withdrawn (Q : Problem) (gone t answers : List ℕ) (r : Withdrawal) 
   -- the nodes left are just those below the entries, their own included
   pub needed : Needed answers' t'
 
-pub record WithdrawPost (Q : Problem) (m : ℕ) (t gone answers : List ℕ) (words : ℕ) (r : Withdrawal) (t' answers' : List ℕ) : Type 0 where
+pub record WithdrawPost (Q : Problem) (m : ℕ) (t gone answers : List ℕ) (words : ℕ) (r : Reply ℕ) (t' answers' : List ℕ) : Type 0 where
   pub declined : 0 < withdraw_refusal Q m t gone answers words → Unmoved (withdraw_refusal Q m t gone answers words) t answers r t' answers'
   pub done : withdraw_refusal Q m t gone answers words ≡ 0 → Withdrawn Q gone t answers r t' answers'

@@ -1,24 +1,47 @@
--- What each answer enum means: document 01's number of a refusal, or the values that the call returns. The contracts use these. Assumes nothing.
-use Rattle.std.specs.Prelude.{Bool, true, false, List, ℕ, zero, suc, eqb}
+-- What a call's result means: document 01's number of a refusal, or the values that the call returns. The contracts use these. Assumes nothing.
+use Rattle.std.specs.Prelude.{Bool, true, false, List, ℕ, zero, suc, eqb, Result, Ok, Err}
 use Rattle.base.specs.Lists.{any}
-use Rattle.statement.specs.declared.Outcome.{Outcome}
-use Rattle.statement.specs.declared.Outcome.TheVariants.{Answer, Refused as OutcomeRefused}
-use Rattle.statement.specs.declared.Soundness.{Soundness}
-use Rattle.statement.specs.declared.Soundness.TheVariants.{Sound, Refused as SoundnessRefused}
-use Rattle.statement.specs.declared.Counted.{Counted}
-use Rattle.statement.specs.declared.Counted.TheVariants.{Count, Refused as CountedRefused}
-use Rattle.statement.specs.declared.Picked.{Picked}
-use Rattle.statement.specs.declared.Picked.TheVariants.{Packages, Refused as PickedRefused}
-use Rattle.statement.specs.declared.Measured.{Measured}
-use Rattle.statement.specs.declared.Measured.TheVariants.{Packages as MeasuredPackages, Refused as MeasuredRefused}
-use Rattle.statement.specs.declared.Placed.{Placed}
-use Rattle.statement.specs.declared.Placed.TheVariants.{Place, Refused as PlacedRefused}
 use Rattle.statement.specs.declared.Priced.{Priced}
-use Rattle.statement.specs.declared.Priced.TheVariants.{Cheapest, Refused as PricedRefused}
 use Rattle.statement.specs.declared.Compared.{Compared}
-use Rattle.statement.specs.declared.Compared.TheVariants.{Closest, Refused as ComparedRefused}
-use Rattle.statement.specs.declared.Withdrawal.{Withdrawal}
-use Rattle.statement.specs.declared.Withdrawal.TheVariants.{Nodes, Refused as WithdrawalRefused}
+use Rattle.statement.specs.declared.Report.{Report as CallReport}
+use Rattle.statement.specs.declared.Refusal.{Refusal}
+use Rattle.statement.specs.declared.Refusal.TheVariants.{Oversize, Stray, CostList, Spoilt, UnknownAnswer, UnknownPackage, UnknownItem, ShortWork, Spent, Full}
+use Rattle.statement.specs.declared.Refusal.TheVariants.{Uncountable, PastTheEnd, Nothing, Absent, ShortPage, StrayOptional, AllOptional, Disordered, Overlap, NotRising}
+use Rattle.statement.specs.declared.Refusal.TheVariants.{Cut, Mark, Version, Check, Size, SchoolTwice, StrayPackage, PackageTwice, StraySlot, WideSite, OptionalSlots}
+
+-- the number of a refusal: document 01's table, and document 02's lines of it
+abbrev pub number_of : Refusal → ℕ
+number_of Oversize = 1
+number_of Stray = 2
+number_of CostList = 3
+number_of Spoilt = 4
+number_of UnknownAnswer = 5
+number_of UnknownPackage = 6
+number_of UnknownItem = 7
+number_of ShortWork = 8
+number_of Spent = 9
+number_of Full = 10
+number_of Uncountable = 11
+number_of PastTheEnd = 12
+number_of Nothing = 13
+number_of Absent = 14
+number_of ShortPage = 15
+number_of Cut = 20
+number_of Mark = 21
+number_of Version = 22
+number_of Check = 23
+number_of Size = 24
+number_of SchoolTwice = 25
+number_of StrayPackage = 26
+number_of PackageTwice = 27
+number_of StrayOptional = 29
+number_of AllOptional = 30
+number_of StraySlot = 31
+number_of WideSite = 32
+number_of OptionalSlots = 33
+number_of Disordered = 34
+number_of Overlap = 35
+number_of NotRising = 36
 
 -- how a call ended: refused with document 01's number, or with the values of type A that it returns
 pub data Reply (A : Type 0) : Type 0 where
@@ -40,47 +63,32 @@ unfoldable pub says_only : {A : Type 0} → List ℕ → Reply A → Bool
 says_only ns (refused n) = any (eqb n) ns
 says_only ns (gives v) = true
 
--- cover, either, both, only, with, without: the answer's number
-abbrev pub outcome_reply : Outcome → Reply ℕ
-outcome_reply (Answer a) = gives a
-outcome_reply (OutcomeRefused n) = refused n
+-- the number of the refusal that a result is, 0 where it is none
+abbrev pub refusal_of : {A : Type 0} → Result A Refusal → ℕ
+refusal_of (Ok v) = 0
+refusal_of (Err e) = number_of e
 
--- the soundness check: no value
-abbrev pub soundness_reply : Soundness → Reply (Unit {0})
-soundness_reply Sound = gives tt
-soundness_reply (SoundnessRefused n) = refused n
-
--- count: how many timetables
-abbrev pub count_reply : Counted → Reply ℕ
-count_reply (Count c) = gives c
-count_reply (CountedRefused n) = refused n
-
--- pick: how many packages were written
-abbrev pub pick_reply : Picked → Reply ℕ
-pick_reply (Packages c) = gives c
-pick_reply (PickedRefused n) = refused n
-
--- measure: how many packages the timetable has
-abbrev pub measure_reply : Measured → Reply ℕ
-measure_reply (MeasuredPackages c) = gives c
-measure_reply (MeasuredRefused n) = refused n
-
--- place: the timetable's place
-abbrev pub place_reply : Placed → Reply ℕ
-place_reply (Place k) = gives k
-place_reply (PlacedRefused n) = refused n
+-- what a result says. Count gives how many timetables, pick and measure how many packages, place the timetable's place, withdraw how many nodes are left, the
+-- soundness check no value
+abbrev pub reply_of : {A : Type 0} → Result A Refusal → Reply A
+reply_of (Ok v) = gives v
+reply_of (Err e) = refused (number_of e)
 
 -- cheapest: how many packages were written, and their cost
-abbrev pub cheapest_reply : Priced → Reply (ℕ × ℕ)
-cheapest_reply (Cheapest c x) = gives (c, x)
-cheapest_reply (PricedRefused n) = refused n
+abbrev pub cheapest_reply : Result Priced Refusal → Reply (ℕ × ℕ)
+cheapest_reply (Ok p) = gives (p.packages, p.cost)
+cheapest_reply (Err e) = refused (number_of e)
 
 -- closest: how many packages were written, and the difference
-abbrev pub closest_reply : Compared → Reply (ℕ × ℕ)
-closest_reply (Closest c x) = gives (c, x)
-closest_reply (ComparedRefused n) = refused n
+abbrev pub closest_reply : Result Compared Refusal → Reply (ℕ × ℕ)
+closest_reply (Ok p) = gives (p.packages, p.difference)
+closest_reply (Err e) = refused (number_of e)
 
--- withdraw: how many nodes are left
-abbrev pub withdraw_reply : Withdrawal → Reply ℕ
-withdraw_reply (Nodes n) = gives n
-withdraw_reply (WithdrawalRefused n) = refused n
+-- what a call that makes an answer reports: the answer's number, its steps and the nodes that it made
+pub record Report : Type 0 where
+  pub outcome : Reply ℕ
+  pub steps : ℕ
+  pub made : ℕ
+
+abbrev pub report_of : CallReport → Report
+report_of r = record { outcome = reply_of r.outcome; steps = r.steps; made = r.made }

@@ -3,10 +3,13 @@
 // on a list of calls is in the crate `history`.
 #![tactic(auto)]
 
-ghost use Rattle.std.specs.Prelude.{List, ℕ};
+ghost use Rattle.std.specs.Prelude.{◌≡◌, List, ℕ};
+ghost use Rattle.statement.specs.Replies.{number_of, report_of};
 ghost use Rattle.statement.specs.Postconditions.{Declined};
 
 use itemset::Items;
+use std::error::Error;
+use std::fmt;
 
 // A call that makes an answer, with its own arguments. Cover has the item set and the step limit [document 01: D, B]; a and b are answers, p is a package.
 #[derive(Clone, Copy)]
@@ -20,83 +23,87 @@ pub enum Call {
     Join { a: u32, b: u32 },
 }
 
-// How a call that makes an answer ended: the answer's number, or the number of a refusal.
-#[derive(Clone, Copy)]
-pub enum Outcome {
-    Answer(u32),
-    Refused(u8),
+// Why a call is refused [document 01: refusals], each with its number. 20 to 27 and 31 to 33 are said of bids files alone.
+#[derive(Clone, Copy, Debug, PartialEq, Eq)]
+pub enum Refusal {
+    Oversize = 1,
+    Stray = 2,
+    CostList = 3,
+    Spoilt = 4,
+    UnknownAnswer = 5,
+    UnknownPackage = 6,
+    UnknownItem = 7,
+    ShortWork = 8,
+    Spent = 9,
+    Full = 10,
+    Uncountable = 11,
+    PastTheEnd = 12,
+    Nothing = 13,
+    Absent = 14,
+    ShortPage = 15,
+    Cut = 20,
+    Mark = 21,
+    Version = 22,
+    Check = 23,
+    Size = 24,
+    SchoolTwice = 25,
+    StrayPackage = 26,
+    PackageTwice = 27,
+    StrayOptional = 29,
+    AllOptional = 30,
+    StraySlot = 31,
+    WideSite = 32,
+    OptionalSlots = 33,
+    Disordered = 34,
+    Overlap = 35,
+    NotRising = 36,
 }
 
-// What such a call returns [document 01: report]: how it ended, its entries into Search, and the nodes that it made.
+impl Refusal {
+    // Its number, which is what is printed, and what C is told.
+    pub fn number(self) -> u8
+        ensures { result ≡ number_of self }
+    {
+        self as u8
+    }
+}
+
+impl fmt::Display for Refusal {
+    fn fmt<W: fmt::Write>(&self, f: &mut fmt::Formatter<W>) -> fmt::Result {
+        write!(f, "refused {}", self.number())
+    }
+}
+
+impl Error for Refusal {}
+
+// What a call that makes an answer returns [document 01: report]: the answer's number or the refusal, its entries into Search, and the nodes that it made.
 #[derive(Clone, Copy)]
 pub struct Report {
-    pub outcome: Outcome,
+    pub outcome: Result<u32, Refusal>,
     pub steps: u32,
     pub made: u32,
 }
 
-// What the soundness check returns.
-#[derive(Clone, Copy)]
-pub enum Soundness {
-    Sound,
-    Refused(u8),
-}
-
-// What count returns: how many timetables.
-#[derive(Clone, Copy)]
-pub enum Counted {
-    Count(u64),
-    Refused(u8),
-}
-
-// What pick returns: how many packages it wrote.
-#[derive(Clone, Copy)]
-pub enum Picked {
-    Packages(usize),
-    Refused(u8),
-}
-
-// What measure returns: how many packages the timetable has.
-#[derive(Clone, Copy)]
-pub enum Measured {
-    Packages(usize),
-    Refused(u8),
-}
-
-// What place returns: the timetable's place in the listing, from 0.
-#[derive(Clone, Copy)]
-pub enum Placed {
-    Place(u64),
-    Refused(u8),
-}
-
 // What cheapest returns: how many packages it wrote, and their cost.
 #[derive(Clone, Copy)]
-pub enum Priced {
-    Cheapest { packages: usize, cost: u32 },
-    Refused(u8),
+pub struct Priced {
+    pub packages: usize,
+    pub cost: u32,
 }
 
 // What closest returns: how many packages it wrote, and in how many packages they and the given timetable differ.
 #[derive(Clone, Copy)]
-pub enum Compared {
-    Closest { packages: usize, difference: u32 },
-    Refused(u8),
-}
-
-// What withdraw returns: how many nodes are left.
-#[derive(Clone, Copy)]
-pub enum Withdrawal {
-    Nodes(u32),
-    Refused(u8),
+pub struct Compared {
+    pub packages: usize,
+    pub difference: u32,
 }
 
 // The report of a refusal: with the table left alone it is what `Declined` asks.
-pub fn declined(number: u8) -> Report
-    ensures { (t : List ℕ) → Declined number t result t }
+pub fn declined(refusal: Refusal) -> Report
+    ensures { (t : List ℕ) → Declined (number_of refusal) t (report_of result) t }
 {
     Report {
-        outcome: Outcome::Refused(number),
+        outcome: Err(refusal),
         steps: 0,
         made: 0,
     }

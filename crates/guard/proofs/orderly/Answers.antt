@@ -7,17 +7,18 @@ use Rattle.guard.proofs.orderly.Goals as goal
 pub returns-then-order-n : goal.returns-then-order-n
 returns-then-order-n c = sym (ap not (not_as_long c.args.m c.args.order.now (λ e. omega (arith, c.if-order-n.true))))
 
-pub loop-j-init : goal.loop-j-init
-loop-j-init c = marked_start 192 refl c.requires (omega (arith, c.if-order-n.false))
+pub loop-item-init : goal.loop-item-init
+loop-item-init c = marked_start 192 refl c.requires (omega (arith, c.if-order-n.false))
 
 pub returns-then-i-n : goal.returns-then-i-n
-returns-then-i-n c = sym (ap not (stray-item c.loop-j.invariant c.loop-j-test.true refl c.if-i-n.true))
+returns-then-i-n c = sym (ap not (stray-item c.loop-item.invariant (omega (arith, c.loop-item.invariant.same, c.loop-item-test.true)) refl c.if-i-n.true))
 
 pub returns-then-marks-i-ne0 : goal.returns-then-marks-i-ne0
-returns-then-marks-i-ne0 c = sym (ap not (item-twice c.loop-j.invariant c.loop-j-test.true refl (omega (arith, c.if-i-n.false)) c.if-marks-i-ne0.true))
+returns-then-marks-i-ne0 c = sym (ap not
+    (item-twice c.loop-item.invariant (omega (arith, c.loop-item.invariant.same, c.loop-item-test.true)) refl (omega (arith, c.if-i-n.false)) c.if-marks-i-ne0.true))
 
-pub loop-j-preserved : goal.loop-j-preserved
-loop-j-preserved c = marked_more c.loop-j.invariant c.loop-j-test.true refl (omega (arith, c.if-i-n.false)) c.if-marks-i-ne0.false
+pub loop-item-preserved : goal.loop-item-preserved
+loop-item-preserved c = marked_more c.loop-item.invariant (omega (arith, c.loop-item.invariant.same, c.loop-item-test.true)) refl (omega (arith, c.if-i-n.false)) c.if-marks-i-ne0.false
 
 pub returns : goal.returns
-returns c = sym (ap not (marked_all c.loop-j.invariant (omega (arith, c.loop-j-test.false))))
+returns c = sym (ap not (marked_all c.loop-item.invariant (omega (arith, c.loop-item-test.false))))

@@ -6,7 +6,7 @@ use Rattle.itemset.specs.Words.{value}
 use borrow.Author.Tests.{not-true, not-false, eqb-true}
 use mathlib.Core.Path.{sym, ap, ◌∙◌}
 use mathlib.Core.Bool.{not}
-use Rattle.guard.proofs.optional_refusal.Goals as goal
+use Rattle.guard.proofs.admit_optional.Goals as goal
 
 pub returns-then-is_empty : goal.returns-then-is_empty
 returns-then-is_empty c order = let Q = problem_of c.args.packages.now (value c.args.optional) order in
