@@ -1,22 +1,22 @@
 -- The calls that make an answer: what `family`'s functions ask, and what their results make of the calls' contracts. Assumes nothing.
-use mathlib.Core.Path.{◌≡◌, refl, sym, ap, ◌∙◌, subst, subst⁻¹}
-use mathlib.Core.Logic.{◌⊎◌, inl, inr}
+use mathlib.Core.Path.{◌≡◌, refl, sym, ap, ◌∙◌, subst⁻¹}
 use mathlib.Core.Bool.{Bool, true, false, ◌||◌}
 use mathlib.Core.List.{List, [], ◌∷◌, ◌++◌}
-use Prim.Native.Nat.{ℕ, zero, suc, ◌+◌, ◌≤◌, ◌<◌}
-use native.Mathlib.Nat.{eq-or-lt_of_le}
+use Prim.Native.Nat.{ℕ, ◌+◌, ◌≤◌, ◌<◌}
 use native.Mathlib.Omega.{arith}
 use lib.ListN.{length, take}
 use Rattle.zdd.specs.Table.{Family, count, nodes_of}
 use Rattle.zdd.specs.Branches.{missing}
 use Rattle.table.specs.State.{Obtained}
-use Rattle.statement.specs.Replies.{gives, outcome_reply}
+use Rattle.statement.specs.Replies.{gives, Report}
 use Rattle.zdd.proofs.Tested.{sound_test}
+use Rattle.std.proofs.Common.{Option, Some, None}
+use Rattle.family.specs.declared.Operation.{Operation}
+use Rattle.family.specs.declared.Operation.TheVariants.{Union, Intersection, Difference, Join as JoinOf}
 use Rattle.exact_cover.specs.Problem.{Problem}
 use Rattle.exact_cover.specs.Cover.{keys_of}
 use Rattle.exact_cover.proofs.Order.{length-keys}
-use Rattle.family.specs.Gives.{Operable, Produced}
-use Rattle.statement.specs.declared.Report.{Report}
+use Rattle.family.specs.Gives.{Returned, Operable}
 use Rattle.statement.specs.Refusals.{first_of, unknown_answer, overlap, short_work, full, Fit}
 use Rattle.statement.specs.declared.Call.{Call}
 use Rattle.statement.specs.declared.Call.TheVariants.{Either, Both, Only, With, Without, Join}
@@ -53,26 +53,20 @@ second_unknown t a b h = go (unknown_answer t a) (answer-unknown t b h)
 
 -- ---- the tests of a call on two answers
 
-own_join : (Q : Problem) (t : List ℕ) (op a b words : ℕ) → 2 < op → own_front Q t op a b words ≡ join_front Q t a b words
-own_join Q t zero a b words l = absurd (omega arith)
-own_join Q t (suc zero) a b words l = absurd (omega arith)
-own_join Q t (suc (suc zero)) a b words l = absurd (omega arith)
-own_join Q t (suc (suc (suc op))) a b words l = refl
-
-own_other : (Q : Problem) (t : List ℕ) (op a b words : ℕ) → op ≤ 2 → own_front Q t op a b words ≡ (short_work 2 words, 8) ∷ []
-own_other Q t zero a b words n = refl
-own_other Q t (suc zero) a b words n = refl
-own_other Q t (suc (suc zero)) a b words n = refl
-own_other Q t (suc (suc (suc op))) a b words n = absurd (omega arith)
+own_other : (Q : Problem) (t : List ℕ) (op : Operation) (a b words : ℕ) → (op ≡ JoinOf → ⊥) → own_front Q t op a b words ≡ (short_work 2 words, 8) ∷ []
+own_other Q t Union a b words n = refl
+own_other Q t Intersection a b words n = refl
+own_other Q t Difference a b words n = refl
+own_other Q t JoinOf a b words n = absurd (n refl)
 
 -- every test has a number
-own_numbered : (Q : Problem) (t : List ℕ) (op a b words : ℕ) → Numbered (pair_front Q t op a b words)
-own_numbered Q t zero a b words = tt
-own_numbered Q t (suc zero) a b words = tt
-own_numbered Q t (suc (suc zero)) a b words = tt
-own_numbered Q t (suc (suc (suc op))) a b words = tt
+own_numbered : (Q : Problem) (t : List ℕ) (op : Operation) (a b words : ℕ) → Numbered (pair_front Q t op a b words)
+own_numbered Q t Union a b words = tt
+own_numbered Q t Intersection a b words = tt
+own_numbered Q t Difference a b words = tt
+own_numbered Q t JoinOf a b words = tt
 
-module _ (Q : Problem) (t : List ℕ) (op a b words : ℕ) where
+module _ (Q : Problem) (t : List ℕ) (op : Operation) (a b words : ℕ) where
   -- 5
   pub pair-unknown : (unknown_answer t a || unknown_answer t b) ≡ true → PairTested Q t op a b words 5
   pair-unknown e = record { says = sym (hit 5 _ e); known = λ z. absurd (omega arith); apart = λ z. absurd (omega arith) }
@@ -82,16 +76,16 @@ module _ (Q : Problem) (t : List ℕ) (op a b words : ℕ) where
     front_own ts e = ap first_of (sym e) ∙ sym (pass 5 _ (both-known t a b ha hb))
 
     -- those of a join
-    pub pair-join : 2 < op → (r : ℕ) → r ≡ first_of (join_front Q t a b words) → PairTested Q t op a b words r
+    pub pair-join : op ≡ JoinOf → (r : ℕ) → r ≡ first_of (join_front Q t a b words) → PairTested Q t op a b words r
     pair-join l r e = record {
-      says = e ∙ front_own _ (own_join Q t op a b words l);
+      says = e ∙ front_own _ (ap (λ (o : Operation). own_front Q t o a b words) l);
       known = λ z. (ha, hb);
       apart = λ z _. (passed (overlap Q t a b) 34 _ (sym e ∙ z)).0;
     }
 
     -- those of the others
-    pub pair_other : op ≤ 2 → (r : ℕ) → r ≡ first_of ((short_work 2 words, 8) ∷ []) → PairTested Q t op a b words r
-    pair_other n r e = record { says = e ∙ front_own _ (own_other Q t op a b words n); known = λ z. (ha, hb); apart = λ z l. absurd (omega arith) }
+    pub pair_other : (op ≡ JoinOf → ⊥) → (r : ℕ) → r ≡ first_of ((short_work 2 words, 8) ∷ []) → PairTested Q t op a b words r
+    pair_other n r e = record { says = e ∙ front_own _ (own_other Q t op a b words n); known = λ z. (ha, hb); apart = λ z l. absurd (n l) }
 
   -- a refusal by them is the call's, and where there is none 10 is left
   module _ {r : ℕ} (p : PairTested Q t op a b words r) (ts : List (Bool × ℕ)) where
@@ -117,7 +111,7 @@ module _ {Q : Problem} {t keys index : List ℕ} (g : Usable Q t keys index) whe
   labelled = record { keys = keys_of Q; sound = g.sound; each = length-keys Q }
 
   -- two answers that passed the tests of their call can be combined
-  pub combinable : {op a b words r : ℕ} → PairTested Q t op a b words r → r ≡ 0 → Combinable op (nodes_of t) a b
+  pub combinable : {op : Operation} {a b words r : ℕ} → PairTested Q t op a b words r → r ≡ 0 → Combinable op (nodes_of t) a b
   combinable {a = a} {b} p z l = let k = p.known z in apart Q t g.rows g.sound a b k.0 k.1 (p.apart z l)
 
 -- ---- the whole call
@@ -142,12 +136,12 @@ same-call Q m t words {r} {t'} e w = subst⁻¹ (λ (x : Call). AnswerPost Q m t
 -- ---- the calls of one shape
 
 module _ {Q : Problem} {m : ℕ} {t keys index : List ℕ} (f : Fit Q m) (g : Usable Q t keys index) (a b words : ℕ) {r : Report} {t' : List ℕ} where
-  pub pair-makes : (op : ℕ) → let F : Family = combined op (keys_of Q) (family_at t a) (family_at t b) in
+  pub pair-makes : (op : Operation) → let F : Family = combined op (keys_of Q) (family_at t a) (family_at t b) in
       Makes (keys_of Q) (first_of (pair_front Q t op a b words ++ ((full t F, 10) ∷ []))) F 0 t r t' → AnswerPost Q m t (pair_call op a b) words r t'
-  pair-makes zero w = call-makes (Either a b) words f g refl w
-  pair-makes (suc zero) w = call-makes (Both a b) words f g refl w
-  pair-makes (suc (suc zero)) w = call-makes (Only a b) words f g refl w
-  pair-makes (suc (suc (suc op))) w = call-makes (Join a b) words f g refl w
+  pair-makes Union w = call-makes (Either a b) words f g refl w
+  pair-makes Intersection w = call-makes (Both a b) words f g refl w
+  pair-makes Difference w = call-makes (Only a b) words f g refl w
+  pair-makes JoinOf w = call-makes (Join a b) words f g refl w
 
   pub part-makes : (holding : Bool) → let F : Family = restricted holding (keys_of Q) b (family_at t a) in
       Makes (keys_of Q) (first_of (part_tests Q.packages t a b F words)) F 0 t r t' → AnswerPost Q m t (part_call holding a b) words r t'
@@ -158,7 +152,7 @@ module _ {Q : Problem} {m : ℕ} {t keys index : List ℕ} (f : Fit Q m) (g : Us
 
 -- no test holds, and the number of the answer was got
 pub answers : {K t t' index' : List ℕ} {n k s : ℕ} {F : Family} {r : Report} → n ≡ 0 → Obtained K t t' index' k F
-    → outcome_reply r.outcome ≡ gives k → r.steps ≡ s → r.made ≡ missing (nodes_of t) F → Makes K n F s t r t'
+    → r.outcome ≡ gives k → r.steps ≡ s → r.made ≡ missing (nodes_of t) F → Makes K n F s t r t'
 answers {K} {t} {t'} {k = k} z d out steps made = record {
   declined = λ l. absurd (omega (arith, z));
   answered = λ _. record {
@@ -175,36 +169,23 @@ answers {K} {t} {t'} {k = k} z d out steps made = record {
   };
 }
 
-module _ {K t t' index' : List ℕ} {k : ℕ} {F : Family} (f : Produced K t t' index' k F) where
-  -- the table still has its word 0
-  pub makes_words : 0 < length t → 0 < length t'
-  makes_words h = go (eq-or-lt_of_le f.small)
-    where
-      go : (k ≡ 65536) ⊎ (k < 65536) → 0 < length t'
-      go (inl e) = omega (arith, ap length (f.same e))
-      go (inr l) = omega (arith, (f.done l).grown.long)
+-- the table still has its word 0, and has lost no node
+pub makes_words : (K t t' index' : List ℕ) (F : Family) (k : Option ℕ) → Returned K t t' index' k F → 0 < length t → 0 < length t'
+makes_words K t t' index' F (Some k) f h = omega (arith, (f.1.done f.0).grown.long)
+makes_words K t t' index' F None f h = omega (arith, ap length (f.same refl))
 
-  pub makes-more : k < 65536 → count t ≤ count t'
-  makes-more h = omega (arith, (f.done h).made)
+pub makes-more : (K t t' index' : List ℕ) (F : Family) (k : Option ℕ) → Returned K t t' index' k F → count t ≤ count t'
+makes-more K t t' index' F (Some k) f = omega (arith, (f.1.done f.0).made)
+makes-more K t t' index' F None f = omega (arith, ap count (f.same refl))
 
-module _ {K t t' index' : List ℕ} {k : ℕ} {F : Family} {r : Report} (f : Produced K t t' index' k F) (w : Reported t' (count t) k r) where
-  reported_full : k ≡ 65536 → Makes K (first_of ((full t F, 10) ∷ [])) F 0 t r t'
-  unfolding full
-  reported_full e =
-      let n : first_of ((full t F, 10) ∷ []) ≡ 10 = hit 10 [] (f.full e) in
-      let d : Declined 10 t r t = rw (f.same e) at (w.full e) in
-      rw (f.same e) (refused-makes 10 n (λ z. omega arith) d)
-
-  reported_answer : k < 65536 → Makes K (first_of ((full t F, 10) ∷ [])) F 0 t r t'
-  unfolding full
-  reported_answer h =
-      let d = f.done h in
-      answers (pass 10 [] (f.room h) ∙ none) d (w.outcome h) w.steps (omega (arith, w.made h, d.made))
-
-  -- the other refusals do not apply
-  pub reported_makes : {n : ℕ} → n ≡ first_of ((full t F, 10) ∷ []) → Makes K n F 0 t r t'
-  reported_makes {n} e = subst (λ (i : ℕ). Makes K i F 0 t r t') (sym e) (go (eq-or-lt_of_le f.small))
-    where
-      go : (k ≡ 65536) ⊎ (k < 65536) → Makes K (first_of ((full t F, 10) ∷ [])) F 0 t r t'
-      go (inl z) = reported_full z
-      go (inr h) = reported_answer h
+-- none of the other refusals applies: what the operation answers, reported, makes the call's contract
+pub reported_makes : (K t t' index' : List ℕ) (F : Family) (r : Report) (k : Option ℕ) → Returned K t t' index' k F → Reported t' (count t) k r
+    → {n : ℕ} → n ≡ first_of ((full t F, 10) ∷ []) → Makes K n F 0 t r t'
+unfolding full
+reported_makes K t t' index' F r (Some k) f w e =
+    let d = f.1.done f.0 in
+    answers (e ∙ pass 10 [] (f.1.room f.0) ∙ none) d w.0 w.1 (omega (arith, w.2, d.made))
+reported_makes K t t' index' F r None f w e =
+    let n : first_of ((full t F, 10) ∷ []) ≡ 10 = hit 10 [] (f.full refl) in
+    let d : Declined 10 t r t = rw (f.same refl) at w in
+    rw (f.same refl) (refused-makes 10 (e ∙ n) (λ z. omega arith) d)

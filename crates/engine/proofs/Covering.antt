@@ -1,5 +1,5 @@
 -- cover: what the search's answer makes of the call's refusal and report. Assumes nothing.
-use mathlib.Core.Path.{◌≡◌, sym, ap, ◌∙◌, subst⁻¹}
+use mathlib.Core.Path.{◌≡◌, refl, sym, ap, ◌∙◌, subst⁻¹}
 use mathlib.Core.Bool.{Bool, true, false, not}
 use mathlib.Core.List.{List, [], ◌∷◌}
 use Prim.Native.Nat.{ℕ, ◌≤◌, ◌<◌}
@@ -12,9 +12,12 @@ use Rattle.zdd.specs.Table.{Family}
 use Rattle.exact_cover.specs.Problem.{Problem}
 use Rattle.exact_cover.specs.Cover.{keys_of, covering}
 use Rattle.exact_cover.specs.Steps.{steps}
-use Rattle.compile.specs.State.{Covered}
-use Rattle.statement.specs.declared.Report.{Report}
-use Rattle.statement.specs.Replies.{gives, outcome_reply}
+use Rattle.std.specs.Prelude.{Err}
+use Rattle.compile.specs.declared.Failure.{Failure}
+use Rattle.compile.specs.declared.Failure.TheVariants.{Spent, Full}
+use Rattle.engine.specs.Reports.{failure_number}
+use Rattle.compile.specs.State.{CoverEnded, Covered}
+use Rattle.statement.specs.Replies.{Report, gives}
 use Rattle.statement.specs.Refusals.{Fit, first_of, unknown_item, places, spent, full}
 use Rattle.statement.specs.declared.Call.TheVariants.{Cover}
 use Rattle.statement.specs.Calls.{cover_tests, call_refusal}
@@ -87,8 +90,15 @@ module _ {Q : Problem} (m : ℕ) {t : List ℕ} {d limit : ℕ} (words : ℕ) {t
       let l : steps Q (places words) d ≤ limit = ltb-false limit (steps Q (places words) d) (sym c.spent ∙ o) in
       omega (arith, (c.answer o f).counted)
 
-  pub cover_answers : over ≡ false → filled ≡ false → (r : Report) → outcome_reply r.outcome ≡ gives a → r.steps ≡ n → r.made ≡ k
+  pub cover_answers : over ≡ false → filled ≡ false → (r : Report) → r.outcome ≡ gives a → r.steps ≡ n → r.made ≡ k
       → Makes (keys_of Q) (first_of (cover_tests Q m t d limit words)) (covering Q d) (steps Q (places words) d) t r t'
   cover_answers o f r out same made =
       let w = c.answer o f in
       answers (unrefused o f) w.got out (same ∙ w.counted) (made ∙ w.exactly)
+
+-- the search made no answer
+pub search_failed : (Q : Problem) (m : ℕ) (t : List ℕ) (d limit words : ℕ) (t' index' : List ℕ) → belowb d m ≡ true → 4 ≤ words → (x : Failure)
+    → CoverEnded Q (places words) d limit t t' index' (Err x) → (n : ℕ) → n ≡ failure_number x → (r : Report) → ((u : List ℕ) → Declined n u r u)
+    → Makes (keys_of Q) (first_of (cover_tests Q m t d limit words)) (covering Q d) (steps Q (places words) d) t r t'
+search_failed Q m t d limit words t' index' e h Spent c n z r w = refuses n (limit_met m words e h c refl ∙ sym z) (λ y. omega (arith, z, y)) (c.back refl) w
+search_failed Q m t d limit words t' index' e h Full c n z r w = refuses n (no_room_lem m words e h c refl refl ∙ sym z) (λ y. omega (arith, z, y)) (c.back_full refl) w

@@ -4,36 +4,21 @@ use mathlib.Core.Bool.{Bool, true, false, not}
 use mathlib.Core.List.{List, [], ◌∷◌, ◌++◌}
 use Prim.Native.Nat.{ℕ, ◌+◌, ◌≤◌, ◌<◌}
 use native.Mathlib.Omega.{arith}
-use lib.Dec.{leb}
 use lib.ListN.{length}
-use borrow.Author.Tests.{leb-false, eqb-true, not-true, not-false}
-use Rattle.zdd.specs.Table.{Family, count}
+use borrow.Author.Tests.{le-leb, lt-leb, eqb-true, not-true, not-false}
+use Rattle.zdd.specs.Table.{count}
 use Rattle.exact_cover.specs.Problem.{Problem}
 use Rattle.exact_cover.specs.Cover.{keys_of}
 use Rattle.exact_cover.proofs.Order.{length-keys}
 use Rattle.query.specs.Questions.{family_at, nth, position, cost, cheapest, difference, closest, in_precedence}
 use Rattle.query.specs.Reading.{Readable, Priceable, Filled, count_word}
 use Rattle.query.specs.Answers.{Told, Wrote, PlaceFound, Weighed}
-use Rattle.query.specs.declared.Tally.{Tally}
-use Rattle.query.specs.declared.Tally.TheVariants.{Exactly, TooMany}
-use Rattle.query.specs.declared.Written.{Written}
-use Rattle.query.specs.declared.Written.TheVariants.{Packages, Short}
-use Rattle.query.specs.declared.Spot.{Spot}
-use Rattle.query.specs.declared.Spot.TheVariants.{At, Absent}
 use Rattle.query.specs.declared.Chosen.{Chosen}
-use Rattle.query.specs.declared.Chosen.TheVariants.{Found, NoRoom}
-use Rattle.statement.specs.declared.Counted.{Counted}
-use Rattle.statement.specs.declared.Counted.TheVariants.{Refused as CountRefused}
-use Rattle.statement.specs.declared.Picked.{Picked}
-use Rattle.statement.specs.declared.Picked.TheVariants.{Refused as PickRefused}
-use Rattle.statement.specs.declared.Measured.TheVariants.{Packages as MeasurePackages, Refused as MeasureRefused}
-use Rattle.statement.specs.declared.Placed.{Placed}
-use Rattle.statement.specs.declared.Placed.TheVariants.{Refused as PlaceRefused}
-use Rattle.statement.specs.declared.Priced.{Priced}
-use Rattle.statement.specs.declared.Priced.TheVariants.{Refused as PriceRefused}
-use Rattle.statement.specs.declared.Compared.{Compared}
-use Rattle.statement.specs.declared.Compared.TheVariants.{Refused as CompareRefused}
-use Rattle.statement.specs.Replies.{gives, reply, count_reply, pick_reply, place_reply, cheapest_reply, closest_reply}
+use Rattle.std.specs.Prelude.{Option, Some, None, Result}
+use Rattle.std.specs.Option.{ok_or}
+use Rattle.statement.specs.declared.Refusal.{Refusal}
+use Rattle.statement.specs.declared.Refusal.TheVariants.{Uncountable, Absent, ShortPage}
+use Rattle.statement.specs.Replies.{Reply, refused, gives, reply, reply_of}
 use Rattle.statement.specs.Refusals.{first_of, package_tests, table_tests, open_tests, list_tests, priced_tests, unpriced, not_timetable, uncountable, past_end, absent, short_page}
 use Rattle.statement.specs.Refusals.{count_refusal, measure_refusal, pick_refusal, place_refusal, cheapest_refusal, closest_refusal}
 use Rattle.statement.specs.Postconditions.{CountPost, MeasurePost, PickPost, PlacePost, CheapestPost, ClosestPost, written}
@@ -42,7 +27,6 @@ use Rattle.statement.proofs.Admission.{fit_passes, fit_of, fit_refused, table-pa
 use Rattle.statement.proofs.TestLaws.{reply-refused, reply_gives, page_left, page_written, all-priced, not-priced, answer-known, answer-unknown, enough, too_few}
 use Rattle.statement.proofs.TestLaws.{countable, too_many, listed_test, something, is_nothing, page_fits, page_short}
 use Rattle.statement.proofs.Measure.{pick_before, pick_last}
-use Rattle.engine.specs.Answers.{tally_reply, end_refusal, written_reply, placed_reply, chosen_reply}
 use Rattle.engine.specs.Opened.{Opened, Reachable, OpenedAt, OpenedList}
 use Rattle.guard.specs.Admitted.{Usable, Admitted}
 use Rattle.guard.proofs.GuardLaws.{admit-refused}
@@ -109,32 +93,33 @@ counting o ok e l = (readable (o.ready ok).usable, (omega (arith, (o.ready ok).k
 -- ---- count
 
 module _ {Q : Problem} {m : ℕ} {t keys : List ℕ} {a words r : ℕ} (o : Opened (open_tests Q m t a) Q t keys a r) where
-  pub count-refused : (r ≡ 0 → ⊥) → CountPost Q m t a words (CountRefused r)
+  pub count-refused : (r ≡ 0 → ⊥) → CountPost Q m t a words (refused r)
   unfolding count_refusal
   count-refused f = record { result = reply-refused r _ (refused_by (open_tests Q m t a) o.says _ f) f }
 
   module _ (ok : r ≡ 0) where
-    pub count_words : words ≤ a → CountPost Q m t a words (CountRefused 8)
+    pub count_words : words ≤ a → CountPost Q m t a words (refused 8)
     unfolding count_refusal
     count_words h = record { result = reply-refused 8 _ (passed_by (open_tests Q m t a) o.says _ tt ok ∙ hit 8 _ (too_few (a + 1) words (omega arith))) (λ z. omega arith) }
 
-    pub count_delivers : a < words → (x : Counted) (c : Tally) → count_reply x ≡ tally_reply c → Told c (length (family_at t a)) → CountPost Q m t a words x
+    pub count_delivers : a < words → {x : Result ℕ Refusal} (c : Option ℕ) → x ≡ ok_or c Uncountable → Told c (length (family_at t a)) → CountPost Q m t a words (reply_of x)
     unfolding count_refusal
-    count_delivers room x c d e = record { result = d ∙ go c e }
+    count_delivers room c d e = record { result = rw d (go c e) }
       where
         so_far : count_refusal Q m t a words ≡ first_of ((uncountable (family_at t a), 11) ∷ [])
         so_far = passed_by (open_tests Q m t a) o.says _ tt ok ∙ pass 8 _ (enough (a + 1) words (omega arith))
 
-        go : (c : Tally) → Told c (length (family_at t a)) → tally_reply c ≡ reply (count_refusal Q m t a words) (length (family_at t a))
-        go (Exactly n) e = ap gives e.0 ∙ reply_gives _ (so_far ∙ pass 11 _ (countable (family_at t a) e.1) ∙ none)
-        go TooMany e = reply-refused 11 _ (so_far ∙ hit 11 _ (too_many (family_at t a) e)) (λ z. omega arith)
+        go : (c : Option ℕ) → Told c (length (family_at t a)) → reply_of (ok_or c Uncountable) ≡ reply (count_refusal Q m t a words) (length (family_at t a))
+        go (Some n) e = ap gives e.0 ∙ reply_gives _ (so_far ∙ pass 11 _ (countable (family_at t a) e.1) ∙ none)
+        go None e = reply-refused 11 _ (so_far ∙ hit 11 _ (too_many (family_at t a) e)) (λ z. omega arith)
 
 -- ---- the k-th timetable
 
--- 11 and 12 do not apply
-below_end : (F : Family) (k : ℕ) (c : Tally) → Told c (length F) → end_refusal c k ≡ 0 → k < length F
-below_end F k (Exactly n) d e = omega (arith, leb-false n k (passed (leb n k) 11 [] e).0, d.0)
-below_end F k TooMany d e = absurd (omega arith)
+-- only 11 and 12 are left
+measured_last : (Q : Problem) (m : ℕ) (t : List ℕ) (a k words : ℕ) {keys : List ℕ} {r : ℕ} → Opened (open_tests Q m t a) Q t keys a r → r ≡ 0 → a < words
+    → measure_refusal Q m t a k words ≡ first_of ((uncountable (family_at t a), 11) ∷ (past_end (family_at t a) k, 12) ∷ [])
+unfolding measure_refusal
+measured_last Q m t a k words o ok room = passed_by (open_tests Q m t a) o.says _ tt ok ∙ pass 8 _ (enough (a + 1) words (omega arith))
 
 module _ {Q : Problem} {m : ℕ} {t keys : List ℕ} {a k words q : ℕ} {w : List ℕ} (o : Opened (open_tests Q m t a) Q t keys a q) where
   pub at-refused : (q ≡ 0 → ⊥) → OpenedAt Q m t a k words w q
@@ -146,21 +131,29 @@ module _ {Q : Problem} {m : ℕ} {t keys : List ℕ} {a k words q : ℕ} {w : Li
     unfolding measure_refusal
     at_words h = record { says = sym (passed_by (open_tests Q m t a) o.says _ tt ok ∙ hit 8 _ (too_few (a + 1) words (omega arith))); ready = λ z. absurd (omega arith) }
 
-    pub at-counted : {r : ℕ} → a < words → (c : Tally) → Told c (length (family_at t a)) → Filled (count_word t) (a + 1) w → r ≡ end_refusal c k → OpenedAt Q m t a k words w r
-    unfolding measure_refusal past_end
-    at-counted room c told filled e = record {
-      says = e ∙ sym (passed_by (open_tests Q m t a) o.says _ tt ok ∙ pass 8 _ (enough (a + 1) words (omega arith)) ∙ go c told);
-      ready = λ z. record {
-        readable = readable (o.ready ok).usable;
-        known = (o.ready ok).known;
-        inside = below_end (family_at t a) k c told (sym e ∙ z);
-        counted = filled;
-      };
-    }
-      where
-        go : (c : Tally) → Told c (length (family_at t a)) → first_of ((uncountable (family_at t a), 11) ∷ (past_end (family_at t a) k, 12) ∷ []) ≡ end_refusal c k
-        go (Exactly n) d = pass 11 _ (countable (family_at t a) d.1) ∙ ap (λ (i : ℕ). first_of ((leb i k, 12) ∷ [])) (sym d.0)
-        go TooMany d = hit 11 _ (too_many (family_at t a) d)
+    module _ (room : a < words) where
+      pub at_uncountable : Told None (length (family_at t a)) → OpenedAt Q m t a k words w 11
+      at_uncountable d = record { says = sym (measured_last Q m t a k words o ok room ∙ hit 11 _ (too_many (family_at t a) d)); ready = λ z. absurd (omega arith) }
+
+      module _ {n : ℕ} (told : Told (Some n) (length (family_at t a))) where
+        pub at_end : n ≤ k → OpenedAt Q m t a k words w 12
+        unfolding past_end
+        at_end h = record {
+          says = sym (measured_last Q m t a k words o ok room ∙ pass 11 _ (countable (family_at t a) told.1) ∙ hit 12 _ (le-leb _ _ (omega (arith, told.0))));
+          ready = λ z. absurd (omega arith);
+        }
+
+        pub at-counted : k < n → Filled (count_word t) (a + 1) w → OpenedAt Q m t a k words w 0
+        unfolding past_end
+        at-counted h filled = record {
+          says = sym (measured_last Q m t a k words o ok room ∙ pass 11 _ (countable (family_at t a) told.1) ∙ pass 12 _ (lt-leb _ _ (omega (arith, told.0))) ∙ none);
+          ready = λ z. record {
+            readable = readable (o.ready ok).usable;
+            known = (o.ready ok).known;
+            inside = omega (arith, told.0);
+            counted = filled;
+          };
+        }
 
 -- what `query`'s walks ask, of the answer as an index n
 pub walks : {t w : List ℕ} {a k n : ℕ} → Reachable t a k w → n ≡ a
@@ -170,18 +163,18 @@ walks R e = (R.readable, ((omega (arith, R.known), rw e R.inside), rw e R.counte
 -- ---- measure and pick
 
 module _ {Q : Problem} {m : ℕ} {t : List ℕ} {a k words r : ℕ} {w : List ℕ} (o : OpenedAt Q m t a k words w r) where
-  pub measure-refused : (r ≡ 0 → ⊥) → MeasurePost Q m t a k words (MeasureRefused r)
+  pub measure-refused : (r ≡ 0 → ⊥) → MeasurePost Q m t a k words (refused r)
   measure-refused f = record { result = reply-refused r _ (sym o.says) f }
 
-  pub measure_delivers : {n : ℕ} → r ≡ 0 → n ≡ length (nth (family_at t a) k) → MeasurePost Q m t a k words (MeasurePackages n)
+  pub measure_delivers : {n : ℕ} → r ≡ 0 → n ≡ length (nth (family_at t a) k) → MeasurePost Q m t a k words (gives n)
   measure_delivers ok e = record { result = ap gives e ∙ reply_gives _ (sym o.says ∙ ok) }
 
-  pub pick-refused : {page : List ℕ} → (r ≡ 0 → ⊥) → PickPost Q m t a k words page (PickRefused r) page
+  pub pick-refused : {page : List ℕ} → (r ≡ 0 → ⊥) → PickPost Q m t a k words page (refused r) page
   pick-refused {page} f = let e = pick_before Q m t a k words page (sym o.says) f in record { result = reply-refused r _ e f; pages = page_left r _ page e f }
 
-  pub pick_delivers : {page page' : List ℕ} → r ≡ 0 → (x : Picked) (w : Written) → pick_reply x ≡ written_reply w
-      → Wrote (nth (family_at t a) k) page page' w → PickPost Q m t a k words page x page'
-  pick_delivers {page} {page'} ok x w d p = go w d p
+  pub pick_delivers : {page page' : List ℕ} → r ≡ 0 → {x : Result ℕ Refusal} (w : Option ℕ) → x ≡ ok_or w ShortPage
+      → Wrote (nth (family_at t a) k) page page' w → PickPost Q m t a k words page (reply_of x) page'
+  pick_delivers {page} {page'} ok w d p = rw d (go w p)
     where
       s : List ℕ
       s = nth (family_at t a) k
@@ -189,13 +182,13 @@ module _ {Q : Problem} {m : ℕ} {t : List ℕ} {a k words r : ℕ} {w : List �
       so_far : pick_refusal Q m t a k words page ≡ first_of ((short_page page s, 15) ∷ [])
       so_far = pick_last Q m t a k words page (sym o.says ∙ ok)
 
-      go : (w : Written) → pick_reply x ≡ written_reply w → Wrote (nth (family_at t a) k) page page' w → PickPost Q m t a k words page x page'
-      go (Packages n) d p =
+      go : (w : Option ℕ) → Wrote (nth (family_at t a) k) page page' w → PickPost Q m t a k words page (reply_of (ok_or w ShortPage)) page'
+      go (Some n) p =
           let z : pick_refusal Q m t a k words page ≡ 0 = so_far ∙ pass 15 _ (page_fits page s p.1) ∙ none in
-          record { result = d ∙ ap gives p.0 ∙ reply_gives (length s) z; pages = p.2 ∙ page_written s page z }
-      go Short d p =
+          record { result = ap gives p.0 ∙ reply_gives (length s) z; pages = p.2 ∙ page_written s page z }
+      go None p =
           let z : pick_refusal Q m t a k words page ≡ 15 = so_far ∙ hit 15 _ (page_short page s p.0) in
-          record { result = d ∙ reply-refused 15 _ z (λ y. omega arith); pages = p.1 ∙ page_left 15 s page z (λ y. omega arith) }
+          record { result = reply-refused 15 _ z (λ y. omega arith); pages = p.1 ∙ page_left 15 s page z (λ y. omega arith) }
 
 -- ---- a list of packages
 
@@ -242,35 +235,41 @@ module _ {Q : Problem} {m : ℕ} {t keys : List ℕ} {a : ℕ} {s : List ℕ} {w
 
 -- ---- place
 
+-- only 11 and 14 are left
+placed_last : (Q : Problem) (m : ℕ) (t : List ℕ) (a : ℕ) (s : List ℕ) (words : ℕ) {r : ℕ} → OpenedList Q m t a s words r → r ≡ 0
+    → place_refusal Q m t a s words ≡ first_of ((uncountable (family_at t a), 11) ∷ (absent (family_at t a) s, 14) ∷ [])
+unfolding place_refusal
+placed_last Q m t a s words o ok = passed_by (list_tests Q m t a s words) o.says _ tt ok
+
 module _ {Q : Problem} {m : ℕ} {t : List ℕ} {a : ℕ} {s : List ℕ} {words r : ℕ} (o : OpenedList Q m t a s words r) where
-  pub place-refused : (r ≡ 0 → ⊥) → PlacePost Q m t a s words (PlaceRefused r)
+  pub place-refused : (r ≡ 0 → ⊥) → PlacePost Q m t a s words (refused r)
   unfolding place_refusal
   place-refused f = record { result = reply-refused r _ (refused_by (list_tests Q m t a s words) o.says _ f) f }
 
-  pub place_delivers : r ≡ 0 → (x : Placed) (c : Tally) (p : Spot) → place_reply x ≡ placed_reply c p
-      → Told c (length (family_at t a)) → PlaceFound s (family_at t a) p → PlacePost Q m t a s words x
-  unfolding place_refusal absent
-  place_delivers ok x c p d e q = record { result = d ∙ go c e p q }
-    where
-      passed : place_refusal Q m t a s words ≡ first_of ((uncountable (family_at t a), 11) ∷ (absent (family_at t a) s, 14) ∷ [])
-      passed = passed_by (list_tests Q m t a s words) o.says _ tt ok
+  module _ (ok : r ≡ 0) where
+    pub place_uncountable : Told None (length (family_at t a)) → PlacePost Q m t a s words (refused 11)
+    place_uncountable e = record { result = reply-refused 11 _ (placed_last Q m t a s words o ok ∙ hit 11 _ (too_many (family_at t a) e)) (λ z. omega arith) }
 
-      go : (c : Tally) → Told c (length (family_at t a)) → (p : Spot) → PlaceFound s (family_at t a) p
-          → placed_reply c p ≡ reply (place_refusal Q m t a s words) (position s (family_at t a))
-      go (Exactly n) e (At k) p =
-          ap gives (p.1 e.1) ∙ reply_gives _ (passed ∙ pass 11 _ (countable (family_at t a) e.1) ∙ pass 14 _ (ap not p.0) ∙ none)
-      go (Exactly n) e Absent p = reply-refused 14 _ (passed ∙ pass 11 _ (countable (family_at t a) e.1) ∙ hit 14 _ (ap not p)) (λ z. omega arith)
-      go TooMany e p q = reply-refused 11 _ (passed ∙ hit 11 _ (too_many (family_at t a) e)) (λ z. omega arith)
+    pub place_delivers : {n : ℕ} → Told (Some n) (length (family_at t a)) → {x : Result ℕ Refusal} (p : Option ℕ) → x ≡ ok_or p Absent
+        → PlaceFound s (family_at t a) p → PlacePost Q m t a s words (reply_of x)
+    unfolding absent
+    place_delivers e p d q = record { result = rw d (go p q) }
+      where
+        go : (p : Option ℕ) → PlaceFound s (family_at t a) p → reply_of (ok_or p Absent) ≡ reply (place_refusal Q m t a s words) (position s (family_at t a))
+        go (Some k) p = ap gives (p.1 e.1) ∙ reply_gives _ (placed_last Q m t a s words o ok ∙ pass 11 _ (countable (family_at t a) e.1) ∙ pass 14 _ (ap not p.0) ∙ none)
+        go None p = reply-refused 14 _ (placed_last Q m t a s words o ok ∙ pass 11 _ (countable (family_at t a) e.1) ∙ hit 14 _ (ap not p)) (λ z. omega arith)
 
 -- ---- a chosen timetable
 
--- where only 15 is left, the call's reply and its page
-module _ (n : ℕ) (s : List ℕ) (x : ℕ) (page : List ℕ) (last : n ≡ first_of ((short_page page s, 15) ∷ [])) where
-  chosen_delivers : {page' : List ℕ} (b : Chosen) → Weighed s x page page' b → (chosen_reply b ≡ reply n (length s, x)) × (page' ≡ written n s page)
-  chosen_delivers (Found c w) p =
+-- where only 15 is left: the timetable s, of weight x, was written, or the page is too short
+module _ (n : ℕ) (s : List ℕ) (x : ℕ) (page : List ℕ) (last : n ≡ first_of ((short_page page s, 15) ∷ [])) {page' : List ℕ} where
+  pub chosen_written : {z : Chosen} → Weighed s x page page' (Some z) → (◌≡◌ {A = Reply (ℕ × ℕ)} (gives (z.packages, z.weight)) (reply n (length s, x))) × (page' ≡ written n s page)
+  chosen_written p =
       let z : n ≡ 0 = last ∙ pass 15 _ (page_fits page s p.2) ∙ none in
       (ap₂ (λ (i j : ℕ). gives (i, j)) p.0 p.1 ∙ reply_gives (length s, x) z, p.3 ∙ page_written s page z)
-  chosen_delivers NoRoom p =
+
+  pub chosen_short : Weighed s x page page' None → (◌≡◌ {A = Reply (ℕ × ℕ)} (refused 15) (reply n (length s, x))) × (page' ≡ written n s page)
+  chosen_short p =
       let z : n ≡ 15 = last ∙ hit 15 _ (page_short page s p.0) in
       (reply-refused 15 _ z (λ y. omega arith), p.1 ∙ page_left 15 s page z (λ y. omega arith))
 
@@ -286,56 +285,65 @@ module _ {Q : Problem} (m : ℕ) (C : List ℕ) {t keys : List ℕ} {a r : ℕ} 
   priceable = record { table = readable (o.ready ok).usable; priced = omega (arith, length-keys Q, priced) }
 
 module _ {Q : Problem} {m : ℕ} {C t : List ℕ} {a words : ℕ} {page : List ℕ} where
-  cheapest-post : {r : ℕ} → cheapest_refusal Q m C t a words page ≡ r → (r ≡ 0 → ⊥) → CheapestPost Q m C t a words page (PriceRefused r) page
+  cheapest-post : {r : ℕ} → cheapest_refusal Q m C t a words page ≡ r → (r ≡ 0 → ⊥) → CheapestPost Q m C t a words page (refused r) page
   cheapest-post {r} e f = record { result = reply-refused r _ e f; pages = page_left r _ page e f }
 
+-- only 15 is left
+cheapest_last : (Q : Problem) (m : ℕ) (C t : List ℕ) (a words : ℕ) (page : List ℕ) {keys : List ℕ} {r : ℕ} → Opened (priced_tests Q m C t a) Q t keys a r → r ≡ 0
+    → a + 1 ≤ words → (a ≡ 0 → ⊥) → cheapest_refusal Q m C t a words page ≡ first_of ((short_page page (cheapest C (family_at t a)), 15) ∷ [])
+unfolding cheapest_refusal
+cheapest_last Q m C t a words page o ok room some =
+    passed_by (priced_tests Q m C t a) o.says _ tt ok ∙ pass 8 _ (enough (a + 1) words room) ∙ pass 13 _ (something a some)
+
 module _ {Q : Problem} {m : ℕ} {C t keys : List ℕ} {a words r : ℕ} {page : List ℕ} (o : Opened (priced_tests Q m C t a) Q t keys a r) where
-  pub cheapest-refused : (r ≡ 0 → ⊥) → CheapestPost Q m C t a words page (PriceRefused r) page
+  pub cheapest-refused : (r ≡ 0 → ⊥) → CheapestPost Q m C t a words page (refused r) page
   unfolding cheapest_refusal
   cheapest-refused f = cheapest-post (refused_by (priced_tests Q m C t a) o.says _ f) f
 
   module _ (ok : r ≡ 0) where
-    pub cheapest_words : words < a + 1 → CheapestPost Q m C t a words page (PriceRefused 8) page
+    pub cheapest_words : words < a + 1 → CheapestPost Q m C t a words page (refused 8) page
     unfolding cheapest_refusal
     cheapest_words h = cheapest-post (passed_by (priced_tests Q m C t a) o.says _ tt ok ∙ hit 8 _ (too_few (a + 1) words h)) (λ z. omega arith)
 
     module _ (room : a + 1 ≤ words) where
-      pub cheapest-nothing : a ≡ 0 → CheapestPost Q m C t a words page (PriceRefused 13) page
+      pub cheapest-nothing : a ≡ 0 → CheapestPost Q m C t a words page (refused 13) page
       unfolding cheapest_refusal
       cheapest-nothing e =
           cheapest-post (passed_by (priced_tests Q m C t a) o.says _ tt ok ∙ pass 8 _ (enough (a + 1) words room) ∙ hit 13 _ (is_nothing a e)) (λ z. omega arith)
 
-      pub cheapest_delivers : {page' : List ℕ} → (a ≡ 0 → ⊥) → (x : Priced) (b : Chosen) → cheapest_reply x ≡ chosen_reply b
-          → Weighed (cheapest C (family_at t a)) (cost C (cheapest C (family_at t a))) page page' b → CheapestPost Q m C t a words page x page'
-      unfolding cheapest_refusal
-      cheapest_delivers some x b d p =
-          let s : List ℕ = cheapest C (family_at t a) in
-          let r =
-          chosen_delivers (cheapest_refusal Q m C t a words page) s (cost C s) page
-          (passed_by (priced_tests Q m C t a) o.says _ tt ok ∙ pass 8 _ (enough (a + 1) words room) ∙ pass 13 _ (something a some)) b p in
-          record { result = d ∙ r.0; pages = r.1 }
+      module _ (some : a ≡ 0 → ⊥) {page' : List ℕ} where
+        pub cheapest_short : Weighed (cheapest C (family_at t a)) (cost C (cheapest C (family_at t a))) page page' None → CheapestPost Q m C t a words page (refused 15) page'
+        cheapest_short p = let r = chosen_short _ _ _ page (cheapest_last Q m C t a words page o ok room some) p in record { result = r.0; pages = r.1 }
+
+        pub cheapest_delivers : {z : Chosen} → Weighed (cheapest C (family_at t a)) (cost C (cheapest C (family_at t a))) page page' (Some z)
+            → CheapestPost Q m C t a words page (gives (z.packages, z.weight)) page'
+        cheapest_delivers p = let r = chosen_written _ _ _ page (cheapest_last Q m C t a words page o ok room some) p in record { result = r.0; pages = r.1 }
 
 -- ---- closest
 
+-- only 15 is left
+closest_last : (Q : Problem) (m : ℕ) (t : List ℕ) (a : ℕ) (s : List ℕ) (words : ℕ) (page : List ℕ) {r : ℕ} → OpenedList Q m t a s words r → r ≡ 0 → (a ≡ 0 → ⊥)
+    → closest_refusal Q m t a s words page ≡ first_of ((short_page page (closest s (family_at t a)), 15) ∷ [])
+unfolding closest_refusal
+closest_last Q m t a s words page o ok some = passed_by (list_tests Q m t a s words) o.says _ tt ok ∙ pass 13 _ (something a some)
+
 module _ {Q : Problem} {m : ℕ} {t : List ℕ} {a : ℕ} {s : List ℕ} {words r : ℕ} {page : List ℕ} (o : OpenedList Q m t a s words r) where
-  closest-post : {n : ℕ} → closest_refusal Q m t a s words page ≡ n → (n ≡ 0 → ⊥) → ClosestPost Q m t a s words page (CompareRefused n) page
+  closest-post : {n : ℕ} → closest_refusal Q m t a s words page ≡ n → (n ≡ 0 → ⊥) → ClosestPost Q m t a s words page (refused n) page
   closest-post {n} e f = record { result = reply-refused n _ e f; pages = page_left n _ page e f }
 
-  pub closest-refused : (r ≡ 0 → ⊥) → ClosestPost Q m t a s words page (CompareRefused r) page
+  pub closest-refused : (r ≡ 0 → ⊥) → ClosestPost Q m t a s words page (refused r) page
   unfolding closest_refusal
   closest-refused f = closest-post (refused_by (list_tests Q m t a s words) o.says _ f) f
 
   module _ (ok : r ≡ 0) where
-    pub closest-nothing : a ≡ 0 → ClosestPost Q m t a s words page (CompareRefused 13) page
+    pub closest-nothing : a ≡ 0 → ClosestPost Q m t a s words page (refused 13) page
     unfolding closest_refusal
     closest-nothing e = closest-post (passed_by (list_tests Q m t a s words) o.says _ tt ok ∙ hit 13 _ (is_nothing a e)) (λ z. omega arith)
 
-    pub closest_delivers : {page' : List ℕ} → (a ≡ 0 → ⊥) → (x : Compared) (b : Chosen) → closest_reply x ≡ chosen_reply b
-        → Weighed (closest s (family_at t a)) (difference s (closest s (family_at t a))) page page' b → ClosestPost Q m t a s words page x page'
-    unfolding closest_refusal
-    closest_delivers some x b d p =
-        let u : List ℕ = closest s (family_at t a) in
-        let r =
-        chosen_delivers (closest_refusal Q m t a s words page) u (difference s u) page
-        (passed_by (list_tests Q m t a s words) o.says _ tt ok ∙ pass 13 _ (something a some)) b p in
-        record { result = d ∙ r.0; pages = r.1 }
+    module _ (some : a ≡ 0 → ⊥) {page' : List ℕ} where
+      pub closest_short : Weighed (closest s (family_at t a)) (difference s (closest s (family_at t a))) page page' None → ClosestPost Q m t a s words page (refused 15) page'
+      closest_short p = let r = chosen_short _ _ _ page (closest_last Q m t a s words page o ok some) p in record { result = r.0; pages = r.1 }
+
+      pub closest_delivers : {z : Chosen} → Weighed (closest s (family_at t a)) (difference s (closest s (family_at t a))) page page' (Some z)
+          → ClosestPost Q m t a s words page (gives (z.packages, z.weight)) page'
+      closest_delivers p = let r = chosen_written _ _ _ page (closest_last Q m t a s words page o ok some) p in record { result = r.0; pages = r.1 }

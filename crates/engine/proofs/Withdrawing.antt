@@ -11,7 +11,7 @@ use lib.Seq.{drop-cons}
 use borrow.Author.Tests.{le-leb, lt-leb}
 use Rattle.base.proofs.Bools.{or_right}
 use Rattle.base.proofs.Lists.{member_nth}
-use Rattle.zdd.specs.Table.{count, nodes_of, Sound, ◌∈◌}
+use Rattle.zdd.specs.Table.{count, nodes_of, ◌∈◌}
 use Rattle.zdd.specs.Below.{Below}
 use Rattle.zdd.proofs.Below.{below-known}
 use Rattle.zdd.proofs.Tested.{sound_test}
@@ -22,7 +22,6 @@ use Rattle.exact_cover.specs.Shortened.{shorten, rising}
 use Rattle.exact_cover.proofs.Order.{length-keys}
 use Rattle.exact_cover.proofs.Shortened.{keys_shorter}
 use Rattle.query.specs.Questions.{unknown_package, any_unknown}
-use Rattle.statement.specs.declared.Withdrawal.TheVariants.{Nodes, Refused}
 use Rattle.statement.specs.Replies.{refused, gives}
 use Rattle.statement.specs.Refusals.{withdraw_refusal}
 use Rattle.statement.specs.Postconditions.{WithdrawPost}
@@ -101,18 +100,24 @@ module _ {S s : List ℕ} {j least : ℕ} (R : Rising S s j least) where
             ∙ ap₂ (λ (b i : ℕ). not (rises_from S b (drop i s))) (sym (add-one p)) (sym (add-one j));
       }
 
+-- what the work asks of the lists and of the working words, of n labels
+pub record Asks (n : ℕ) (gone answers t : List ℕ) (words : ℕ) : Type 0 where
+  pub gone_known : Within gone n
+  pub answers_known : Within answers (count t + 2)
+  pub enough : count t + 2 ≤ words
+
 -- ---- the call
 
 module _ {Q : Problem} {m : ℕ} {t gone answers : List ℕ} {words : ℕ} where
   -- a refusal leaves table and list alone
-  declines : {n : ℕ} → withdraw_refusal Q m t gone answers words ≡ n → (n ≡ 0 → ⊥) → WithdrawPost Q m t gone answers words (Refused n) t answers
+  declines : {n : ℕ} → withdraw_refusal Q m t gone answers words ≡ n → (n ≡ 0 → ⊥) → WithdrawPost Q m t gone answers words (refused n) t answers
   declines {n} e f = record {
     declined = λ l. record { reply = ap refused (sym e); table = refl; list = refl };
     done = λ z. absurd (f (sym e ∙ z));
   }
 
   module _ {keys index : List ℕ} {r : ℕ} (o : Admitted Q m t keys index r) where
-    pub withdraw_not_admitted : (r ≡ 0 → ⊥) → WithdrawPost Q m t gone answers words (Refused r) t answers
+    pub withdraw_not_admitted : (r ≡ 0 → ⊥) → WithdrawPost Q m t gone answers words (refused r) t answers
     unfolding withdraw_refusal
     withdraw_not_admitted f = declines (admit-refused _ o f) f
 
@@ -122,27 +127,22 @@ module _ {Q : Problem} {m : ℕ} {t gone answers : List ℕ} {words : ℕ} where
       unfolding withdraw_refusal
       own_tests = table-passes t _ (o.fit z) (o.usable z).unspoilt ∙ sym p.says
 
-      pub withdraw-declined : (n ≡ 0 → ⊥) → WithdrawPost Q m t gone answers words (Refused n) t answers
+      pub withdraw-declined : (n ≡ 0 → ⊥) → WithdrawPost Q m t gone answers words (refused n) t answers
       withdraw-declined f = declines own_tests f
 
     module _ (z : r ≡ 0) {n : ℕ} (p : WithdrawTested Q t gone answers words n) (y : n ≡ 0) where
       clear : withdraw_refusal Q m t gone answers words ≡ 0
       clear = own_tests z p ∙ y
 
-      -- what the work asks
-      pub withdraw_asks :
-          Sound (take (length Q.packages) keys) t
-          × ((length (take (length Q.packages) keys) ≤ 512)
-          × (Within gone (length (take (length Q.packages) keys)) × (Within answers (count t + 2) × ((length index ≡ 131072) × (count t + 2 ≤ words)))))
+      -- what the work asks of the lists and of the working words
+      pub withdraw_asks : Asks (length (take (length Q.packages) keys)) gone answers t words
       withdraw_asks =
-          let u = o.usable z in
           let a = admits Q m t gone answers words clear in
-          rw (u.keyed.are, length-keys Q)
-          (u.sound, (packages_fit (o.fit z), (a.gone_known, (a.answers_known, (u.indexed.entries.long, a.enough)))))
+          rw ((o.usable z).keyed.are, length-keys Q) (record { gone_known = a.gone_known; answers_known = a.answers_known; enough = a.enough })
 
       -- and what it makes
       pub withdraw-done : {k : ℕ} {t' answers' : List ℕ} → Withdraws gone (keys_of Q) t answers t' answers' k
-          → WithdrawPost Q m t gone answers words (Nodes k) t' answers'
+          → WithdrawPost Q m t gone answers words (gives k) t' answers'
       withdraw-done {k} {t'} {answers'} W = record {
         declined = λ l. absurd (omega (arith, clear));
         done = λ _. record {

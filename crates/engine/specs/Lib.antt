@@ -1,5 +1,4 @@
 -- What the engine's inner functions cite. The public calls cite `statement`.
-pub mod Answers
 pub mod Opened
 pub mod Reports
 pub mod Withdrawing

@@ -5,44 +5,43 @@
 // earlier than another; t has the table's words, work are the working words, whose contents before a call do not matter.
 #![tactic(auto)]
 
-ghost use Rattle.std.specs.Prelude.{◌≡◌, ℕ, ◌+◌, ◌≤◌, ◌<◌, max, List, length};
+ghost use Rattle.std.specs.Prelude.{◌≡◌, true, ℕ, ◌+◌, ◌≤◌, ◌<◌, List, length, is_some};
 ghost use Rattle.base.specs.Lists.{any};
 ghost use Rattle.itemset.specs.Words.{value, sets_of};
 ghost use Rattle.zdd.specs.Table.{count as nodes};
 ghost use Rattle.exact_cover.specs.Problem.{problem_of};
-ghost use Rattle.statement.specs.Replies.{count_reply, pick_reply, place_reply, cheapest_reply, closest_reply};
+ghost use Rattle.statement.specs.Replies.{number_of, refusal_of, reply_of, cheapest_reply, closest_reply, report_of};
 ghost use Rattle.statement.specs.Refusals.{first_of, open_tests, unknown_answer, not_rising};
 ghost use Rattle.statement.specs.Postconditions.{CheckPost, CountPost, MeasurePost, PickPost, PlacePost, CheapestPost, ClosestPost, WithdrawPost};
 ghost use Rattle.statement.specs.Postconditions.{AnswerPost, CoverPost, EitherPost, BothPost, OnlyPost, WithPost, WithoutPost, JoinPost};
 ghost use Rattle.support.specs.Support.{Labelled};
 ghost use Rattle.table.specs.State.{Room};
-ghost use Rattle.engine.specs.Answers.{tally_reply, end_refusal, written_reply, placed_reply, chosen_reply};
 ghost use Rattle.engine.specs.Opened.{Opened, OpenedAt, OpenedList, OpenedPriced};
-ghost use Rattle.engine.specs.Reports.{Reported, pair_call, join_front, PairTested, part_call};
+ghost use Rattle.engine.specs.Reports.{failure_number, Reported, pair_call, join_front, PairTested, part_call};
 ghost use Rattle.engine.specs.Withdrawing.{WithdrawTested};
 
+use compile::Failure;
+use family::Operation;
 use itemset::Items;
-use query::{Chosen, Spot, Tally, Written};
-use statement::{
-    Call, Compared, Counted, Measured, Outcome, Picked, Placed, Priced, Report, Soundness,
-    Withdrawal,
-};
+use statement::{Call, Compared, Priced, Refusal, Report};
 
 // The soundness check: 1, 2, 29, 30, 34, 4 or sound.
-pub fn check(m: u32, packages: &[u64], optional: Items, order: &[u8], t: &[u32]) -> Soundness
-    ensures { CheckPost (problem_of packages.now (value optional) order.now) m t.now result }
+pub fn check(
+    m: u32,
+    packages: &[u64],
+    optional: Items,
+    order: &[u8],
+    t: &[u32],
+) -> Result<(), Refusal>
+    ensures { CheckPost (problem_of packages.now (value optional) order.now) m t.now (reply_of result) }
 {
     let mut keys = [0u32; 512];
     let mut index = [0u16; 131072];
-    let r = guard::admit(m, packages, optional, order, t, &mut keys, &mut index);
-    if r != 0 {
-        return Soundness::Refused(r);
-    }
-    Soundness::Sound
+    guard::admit(m, packages, optional, order, t, &mut keys, &mut index)
 }
 
-// Refusal 1, 2, 29, 30, 34, 4 or 5 of a call that reads an answer; 0 where none applies, and then the keys are ready.
-fn opened(
+// Refusal 1, 2, 29, 30, 34, 4 or 5 of a call that reads an answer; where none applies, the keys are ready.
+fn open(
     m: u32,
     packages: &[u64],
     optional: Items,
@@ -50,29 +49,17 @@ fn opened(
     t: &[u32],
     answer: u32,
     keys: &mut [u32; 512],
-) -> u8
+) -> Result<(), Refusal>
     requires { length keys.old ≡ 512 }
     ensures { Opened (open_tests (problem_of packages.now (value optional) order.now) m t.now answer)
-        (problem_of packages.now (value optional) order.now) t.now keys.new answer result }
+        (problem_of packages.now (value optional) order.now) t.now keys.new answer (refusal_of result) }
 {
     let mut index = [0u16; 131072];
-    let r = guard::admit(m, packages, optional, order, t, keys, &mut index);
-    if r != 0 {
-        return r;
+    guard::admit(m, packages, optional, order, t, keys, &mut index)?;
+    if t[0] as usize + 2 <= answer as usize {
+        return Err(Refusal::UnknownAnswer);
     }
-    if base::wide(t[0]) + 2 <= base::wide(answer) {
-        return 5;
-    }
-    0
-}
-
-fn counted(c: Tally) -> Counted
-    ensures { count_reply result ≡ tally_reply c }
-{
-    match c {
-        Tally::Exactly(n) => Counted::Count(n),
-        Tally::TooMany => Counted::Refused(11),
-    }
+    Ok(())
 }
 
 // How many timetables the answer holds.
@@ -84,39 +71,20 @@ pub fn count(
     t: &[u32],
     answer: u32,
     work: &mut [u64],
-) -> Counted
-    ensures { CountPost (problem_of packages.now (value optional) order.now) m t.now answer (length work.old) result }
+) -> Result<u64, Refusal>
+    ensures { CountPost (problem_of packages.now (value optional) order.now) m t.now answer (length work.old) (reply_of result) }
 {
     let mut keys = [0u32; 512];
-    let r = opened(m, packages, optional, order, t, answer, &mut keys);
-    if r != 0 {
-        return Counted::Refused(r);
-    }
-    let a = base::wide(answer);
+    open(m, packages, optional, order, t, answer, &mut keys)?;
+    let a = answer as usize;
     if work.len() <= a {
-        return Counted::Refused(8);
+        return Err(Refusal::ShortWork);
     }
-    let c = query::count(t, a, work);
-    counted(c)
+    query::count(t, a, work).ok_or(Refusal::Uncountable)
 }
 
-// Refusal 11 or 12 of a pick of k from that many; 0 for neither.
-fn past_end(c: Tally, k: u64) -> u8
-    ensures { result ≡ end_refusal c k }
-{
-    match c {
-        Tally::Exactly(n) => {
-            if n <= k {
-                return 12;
-            }
-            0
-        }
-        Tally::TooMany => 11,
-    }
-}
-
-// Refusal 1, 2, 29, 30, 34, 4, 5, 8, 11 or 12 of a call for the k-th timetable; 0 where none applies, and then the words have the counts that the walks go by.
-fn opened_at(
+// Refusal 1, 2, 29, 30, 34, 4, 5, 8, 11 or 12 of a call for the k-th timetable; where none applies, the words have the counts that the walks go by.
+fn open_at(
     m: u32,
     packages: &[u64],
     optional: Items,
@@ -125,20 +93,20 @@ fn opened_at(
     answer: u32,
     k: u64,
     work: &mut [u64],
-) -> u8
-    ensures { OpenedAt (problem_of packages.now (value optional) order.now) m t.now answer k (length work.old) work.new result }
+) -> Result<(), Refusal>
+    ensures { OpenedAt (problem_of packages.now (value optional) order.now) m t.now answer k (length work.old) work.new (refusal_of result) }
 {
     let mut keys = [0u32; 512];
-    let r = opened(m, packages, optional, order, t, answer, &mut keys);
-    if r != 0 {
-        return r;
-    }
-    let a = base::wide(answer);
+    open(m, packages, optional, order, t, answer, &mut keys)?;
+    let a = answer as usize;
     if work.len() <= a {
-        return 8;
+        return Err(Refusal::ShortWork);
     }
-    let c = query::count(t, a, work);
-    past_end(c, k)
+    let n = query::count(t, a, work).ok_or(Refusal::Uncountable)?;
+    if n <= k {
+        return Err(Refusal::PastTheEnd);
+    }
+    Ok(())
 }
 
 // How many packages the k-th timetable of the answer has: the first walk of `pick`.
@@ -151,24 +119,11 @@ pub fn measure(
     answer: u32,
     k: u64,
     work: &mut [u64],
-) -> Measured
-    ensures { MeasurePost (problem_of packages.now (value optional) order.now) m t.now answer k (length work.old) result }
+) -> Result<usize, Refusal>
+    ensures { MeasurePost (problem_of packages.now (value optional) order.now) m t.now answer k (length work.old) (reply_of result) }
 {
-    let r = opened_at(m, packages, optional, order, t, answer, k, work);
-    if r != 0 {
-        return Measured::Refused(r);
-    }
-    let a = base::wide(answer);
-    Measured::Packages(query::measure(t, a, k, work))
-}
-
-fn picked(w: Written) -> Picked
-    ensures { pick_reply result ≡ written_reply w }
-{
-    match w {
-        Written::Packages(n) => Picked::Packages(n),
-        Written::Short => Picked::Refused(15),
-    }
+    open_at(m, packages, optional, order, t, answer, k, work)?;
+    Ok(query::measure(t, answer as usize, k, work))
 }
 
 // The k-th timetable of the answer, to the start of the page: one walk measures it, and where the page is long enough a second writes it.
@@ -182,33 +137,16 @@ pub fn pick(
     k: u64,
     work: &mut [u64],
     page: &mut [u16],
-) -> Picked
+) -> Result<usize, Refusal>
     ensures { PickPost (problem_of packages.now (value optional) order.now) m t.now answer k
-        (length work.old) page.old result page.new }
+        (length work.old) page.old (reply_of result) page.new }
 {
-    let r = opened_at(m, packages, optional, order, t, answer, k, work);
-    if r != 0 {
-        return Picked::Refused(r);
-    }
-    let a = base::wide(answer);
-    let w = query::pick(t, a, k, work, page);
-    picked(w)
+    open_at(m, packages, optional, order, t, answer, k, work)?;
+    query::pick(t, answer as usize, k, work, page).ok_or(Refusal::ShortPage)
 }
 
-fn placed(c: Tally, s: Spot) -> Placed
-    ensures { place_reply result ≡ placed_reply c s }
-{
-    match c {
-        Tally::Exactly(_) => match s {
-            Spot::At(k) => Placed::Place(k),
-            Spot::Absent => Placed::Refused(14),
-        },
-        Tally::TooMany => Placed::Refused(11),
-    }
-}
-
-// Refusal 1, 2, 29, 30, 34, 4, 5, 6 or 8 of a call that is lent a list of packages; 0 where none applies, and then the list is in precedence.
-fn opened_list(
+// Refusal 1, 2, 29, 30, 34, 4, 5, 6 or 8 of a call that is lent a list of packages; where none applies, the list is in precedence.
+fn open_list(
     m: u32,
     packages: &[u64],
     optional: Items,
@@ -217,24 +155,19 @@ fn opened_list(
     answer: u32,
     list: &[u16],
     words: usize,
-) -> u8
-    ensures { OpenedList (problem_of packages.now (value optional) order.now) m t.now answer list.now words result }
+) -> Result<(), Refusal>
+    ensures { OpenedList (problem_of packages.now (value optional) order.now) m t.now answer list.now words (refusal_of result) }
 {
     let mut keys = [0u32; 512];
-    let r = opened(m, packages, optional, order, t, answer, &mut keys);
-    if r != 0 {
-        return r;
-    }
+    open(m, packages, optional, order, t, answer, &mut keys)?;
     let n = exact_cover::number(packages);
-    let listed = query::in_precedence(list, &keys[..n]);
-    let a = base::wide(answer);
-    if !listed {
-        return 6;
+    if !query::in_precedence(list, &keys[..n]) {
+        return Err(Refusal::UnknownPackage);
     }
-    if words <= a {
-        return 8;
+    if words <= answer as usize {
+        return Err(Refusal::ShortWork);
     }
-    0
+    Ok(())
 }
 
 // Where the list stands in the listing of the answer.
@@ -247,22 +180,17 @@ pub fn place(
     answer: u32,
     list: &[u16],
     work: &mut [u64],
-) -> Placed
-    ensures { PlacePost (problem_of packages.now (value optional) order.now) m t.now answer list.now (length work.old) result }
+) -> Result<u64, Refusal>
+    ensures { PlacePost (problem_of packages.now (value optional) order.now) m t.now answer list.now (length work.old) (reply_of result) }
 {
-    let words = work.len();
-    let r = opened_list(m, packages, optional, order, t, answer, list, words);
-    if r != 0 {
-        return Placed::Refused(r);
-    }
-    let a = base::wide(answer);
-    let c = query::count(t, a, work);
-    let s = query::place(t, a, list, work);
-    placed(c, s)
+    open_list(m, packages, optional, order, t, answer, list, work.len())?;
+    let a = answer as usize;
+    query::count(t, a, work).ok_or(Refusal::Uncountable)?;
+    query::place(t, a, list, work).ok_or(Refusal::Absent)
 }
 
 // Refusal 1, 2, 29, 30, 34, 3, 4 or 5: the tests of the packages come before 3, and once more, passed, before those of the table.
-fn opened_priced(
+fn open_priced(
     m: u32,
     packages: &[u64],
     optional: Items,
@@ -271,30 +199,15 @@ fn opened_priced(
     t: &[u32],
     answer: u32,
     keys: &mut [u32; 512],
-) -> u8
+) -> Result<(), Refusal>
     requires { length keys.old ≡ 512 }
-    ensures { OpenedPriced (problem_of packages.now (value optional) order.now) m costs.now t.now keys.new answer result }
+    ensures { OpenedPriced (problem_of packages.now (value optional) order.now) m costs.now t.now keys.new answer (refusal_of result) }
 {
-    let r = guard::packages_refusal(m, packages, optional, order);
-    if r != 0 {
-        return r;
-    }
+    guard::admit_packages(m, packages, optional, order)?;
     if costs.len() != exact_cover::number(packages) {
-        return 3;
+        return Err(Refusal::CostList);
     }
-    opened(m, packages, optional, order, t, answer, keys)
-}
-
-fn priced(c: Chosen) -> Priced
-    ensures { cheapest_reply result ≡ chosen_reply c }
-{
-    match c {
-        Chosen::Found { packages, weight } => Priced::Cheapest {
-            packages,
-            cost: weight,
-        },
-        Chosen::NoRoom => Priced::Refused(15),
-    }
+    open(m, packages, optional, order, t, answer, keys)
 }
 
 // Of the timetables of the answer with the least cost the first listed, to the start of the page.
@@ -308,36 +221,24 @@ pub fn cheapest(
     answer: u32,
     work: &mut [u64],
     page: &mut [u16],
-) -> Priced
+) -> Result<Priced, Refusal>
     ensures { CheapestPost (problem_of packages.now (value optional) order.now) m costs.now t.now answer (length work.old)
-        page.old result page.new }
+        page.old (cheapest_reply result) page.new }
 {
     let mut keys = [0u32; 512];
-    let r = opened_priced(m, packages, optional, order, costs, t, answer, &mut keys);
-    if r != 0 {
-        return Priced::Refused(r);
-    }
-    let a = base::wide(answer);
+    open_priced(m, packages, optional, order, costs, t, answer, &mut keys)?;
+    let a = answer as usize;
     if work.len() < a + 1 {
-        return Priced::Refused(8);
+        return Err(Refusal::ShortWork);
     }
     if a == 0 {
-        return Priced::Refused(13);
+        return Err(Refusal::Nothing);
     }
-    let c = query::cheapest(costs, t, a, work, page);
-    priced(c)
-}
-
-fn compared(c: Chosen) -> Compared
-    ensures { closest_reply result ≡ chosen_reply c }
-{
-    match c {
-        Chosen::Found { packages, weight } => Compared::Closest {
-            packages,
-            difference: weight,
-        },
-        Chosen::NoRoom => Compared::Refused(15),
-    }
+    let chosen = query::cheapest(costs, t, a, work, page).ok_or(Refusal::ShortPage)?;
+    Ok(Priced {
+        packages: chosen.packages,
+        cost: chosen.weight,
+    })
 }
 
 // Of the timetables of the answer that differ from the list in the fewest packages the first listed, to the start of the page.
@@ -351,37 +252,46 @@ pub fn closest(
     list: &[u16],
     work: &mut [u64],
     page: &mut [u16],
-) -> Compared
+) -> Result<Compared, Refusal>
     ensures { ClosestPost (problem_of packages.now (value optional) order.now) m t.now answer list.now
-        (length work.old) page.old result page.new }
+        (length work.old) page.old (closest_reply result) page.new }
 {
-    let words = work.len();
-    let r = opened_list(m, packages, optional, order, t, answer, list, words);
-    if r != 0 {
-        return Compared::Refused(r);
-    }
-    let a = base::wide(answer);
+    open_list(m, packages, optional, order, t, answer, list, work.len())?;
+    let a = answer as usize;
     if a == 0 {
-        return Compared::Refused(13);
+        return Err(Refusal::Nothing);
     }
-    let c = query::closest(list, t, a, work, page);
-    compared(c)
+    let chosen = query::closest(list, t, a, work, page).ok_or(Refusal::ShortPage)?;
+    Ok(Compared {
+        packages: chosen.packages,
+        difference: chosen.weight,
+    })
 }
 
-// The report of a call whose answer has the number k, or 65536 where there was no room for it. The table had `before` nodes before the call.
-fn report(t: &[u32], before: u32, k: u32) -> Report
+// The report of a call whose answer has the number k; None is that there was no room for it. The table had `before` nodes before the call.
+fn report(t: &[u32], before: u32, k: Option<u32>) -> Report
     requires t_nonzero { 0 < length t.now }
-    requires before_bound { k < 65536 → before ≤ nodes t.now }
-    ensures { Reported t.now before k result }
+    requires before_bound { is_some k ≡ true → before ≤ nodes t.now }
+    ensures { Reported t.now before k (report_of result) }
 {
-    if k < 65536 {
-        return Report {
-            outcome: Outcome::Answer(k),
+    match k {
+        Some(k) => Report {
+            outcome: Ok(k),
             steps: 0,
             made: t[0] - before,
-        };
+        },
+        None => statement::declined(Refusal::Full),
     }
-    statement::declined(10)
+}
+
+// Why a search made no answer, as a refusal.
+fn unanswered(failure: Failure) -> Refusal
+    ensures { number_of result ≡ failure_number failure }
+{
+    match failure {
+        Failure::Spent => Refusal::Spent,
+        Failure::Full => Refusal::Full,
+    }
 }
 
 // The timetables covering d, with the step limit `limit` [document 01: B]: four working words are one place of the memo.
@@ -395,19 +305,18 @@ pub fn cover(
     limit: u32,
     work: &mut [u64],
 ) -> Report
-    ensures { CoverPost (problem_of packages.now (value optional) order.now) m t.old (value d) limit (length work.old) result t.new }
+    ensures { CoverPost (problem_of packages.now (value optional) order.now) m t.old (value d) limit (length work.old) (report_of result) t.new }
 {
     let mut keys = [0u32; 512];
     let mut index = [0u16; 131072];
-    let r = guard::admit(m, packages, optional, order, t, &mut keys, &mut index);
-    if r != 0 {
-        return statement::declined(r);
+    if let Err(refusal) = guard::admit(m, packages, optional, order, t, &mut keys, &mut index) {
+        return statement::declined(refusal);
     }
     if !itemset::below(d, m) {
-        return statement::declined(7);
+        return statement::declined(Refusal::UnknownItem);
     }
     if work.len() < 4 {
-        return statement::declined(8);
+        return statement::declined(Refusal::ShortWork);
     }
     let found = compile::cover(
         packages,
@@ -419,89 +328,79 @@ pub fn cover(
         d,
         limit as u64,
     );
-    if found.over {
-        return statement::declined(9);
-    }
-    if found.full {
-        return statement::declined(10);
-    }
-    Report {
-        outcome: Outcome::Answer(found.answer),
-        steps: found.steps as u32,
-        made: found.made,
+    match found {
+        Ok(found) => Report {
+            outcome: Ok(found.answer),
+            steps: found.steps as u32,
+            made: found.made,
+        },
+        Err(failure) => statement::declined(unanswered(failure)),
     }
 }
 
-// The larger of two.
-fn larger(a: usize, b: usize) -> usize
-    ensures { result ≡ max a b }
-{
-    if a < b {
-        return b;
-    }
-    a
-}
-
-// Refusal 35 or 8 of a join of answers that the table knows, whatever is optional and whatever the order; 0 for neither.
-fn join_refusal(packages: &[u64], t: &[u32], a: u32, b: u32, words: usize) -> u8
+// Refusal 35 or 8 of a join of answers that the table knows, whatever is optional and whatever the order.
+fn admit_join(packages: &[u64], t: &[u32], a: u32, b: u32, words: usize) -> Result<(), Refusal>
     requires labelled { Labelled (sets_of packages.now) t.now }
     requires a_bound { (a < nodes t.now + 2) × (b < nodes t.now + 2) }
-    ensures { (optional : ℕ) (order : List ℕ) → result ≡ first_of (join_front (problem_of packages.now optional order) t.now a b words) }
+    ensures { (optional : ℕ) (order : List ℕ) → refusal_of result ≡ first_of (join_front (problem_of packages.now optional order) t.now a b words) }
 {
     if support::overlap(packages, t, a, b) {
-        return 35;
+        return Err(Refusal::Overlap);
     }
-    let most = larger(base::wide(a), base::wide(b));
-    if words < larger(most, 1) + 1 {
-        return 8;
+    let larger = (a as usize).max(b as usize);
+    if words < larger.max(1) + 1 {
+        return Err(Refusal::ShortWork);
     }
-    0
+    Ok(())
 }
 
-// Refusal 5, 35 or 8 of a call on the answers a and b, whatever is optional and whatever the order; 0 for none of them.
-fn pair_refusal(packages: &[u64], t: &[u32], op: u8, a: u32, b: u32, words: usize) -> u8
+// Refusal 5, 35 or 8 of a call on the answers a and b, whatever is optional and whatever the order.
+fn admit_pair(
+    packages: &[u64],
+    t: &[u32],
+    op: Operation,
+    a: u32,
+    b: u32,
+    words: usize,
+) -> Result<(), Refusal>
     requires { Labelled (sets_of packages.now) t.now }
-    ensures { (optional : ℕ) (order : List ℕ) → PairTested (problem_of packages.now optional order) t.now op a b words result }
+    ensures { (optional : ℕ) (order : List ℕ) → PairTested (problem_of packages.now optional order) t.now op a b words (refusal_of result) }
 {
     let n = t[0];
     if n + 2 <= a {
-        return 5;
+        return Err(Refusal::UnknownAnswer);
     }
     if n + 2 <= b {
-        return 5;
+        return Err(Refusal::UnknownAnswer);
     }
-    if op > 2 {
-        return join_refusal(packages, t, a, b, words);
+    match op {
+        Operation::Join => admit_join(packages, t, a, b, words),
+        _ if words < 2 => Err(Refusal::ShortWork),
+        _ => Ok(()),
     }
-    if words < 2 {
-        return 8;
-    }
-    0
 }
 
-// Union (op 0), intersection (1), difference (2) or join (3) of the answers a and b.
+// Union, intersection, difference or join of the answers a and b.
 fn answer_pair(
     m: u32,
     packages: &[u64],
     optional: Items,
     order: &[u8],
     t: &mut [u32],
-    op: u8,
+    op: Operation,
     a: u32,
     b: u32,
     work: &mut [u64],
 ) -> Report
-    ensures { AnswerPost (problem_of packages.now (value optional) order.now) m t.old (pair_call op a b) (length work.old) result t.new }
+    ensures { AnswerPost (problem_of packages.now (value optional) order.now) m t.old (pair_call op a b) (length work.old) (report_of result) t.new }
 {
     let mut keys = [0u32; 512];
     let mut index = [0u16; 131072];
-    let r = guard::admit(m, packages, optional, order, t, &mut keys, &mut index);
-    if r != 0 {
-        return statement::declined(r);
+    if let Err(refusal) = guard::admit(m, packages, optional, order, t, &mut keys, &mut index) {
+        return statement::declined(refusal);
     }
-    let own = pair_refusal(packages, t, op, a, b, work.len());
-    if own != 0 {
-        return statement::declined(own);
+    if let Err(refusal) = admit_pair(packages, t, op, a, b, work.len()) {
+        return statement::declined(refusal);
     }
     let n = t[0];
     let last = exact_cover::number(packages);
@@ -521,23 +420,22 @@ fn answer_part(
     p: u32,
     work: &mut [u64],
 ) -> Report
-    ensures { AnswerPost (problem_of packages.now (value optional) order.now) m t.old (part_call holding a p) (length work.old) result t.new }
+    ensures { AnswerPost (problem_of packages.now (value optional) order.now) m t.old (part_call holding a p) (length work.old) (report_of result) t.new }
 {
     let mut keys = [0u32; 512];
     let mut index = [0u16; 131072];
-    let r = guard::admit(m, packages, optional, order, t, &mut keys, &mut index);
-    if r != 0 {
-        return statement::declined(r);
+    if let Err(refusal) = guard::admit(m, packages, optional, order, t, &mut keys, &mut index) {
+        return statement::declined(refusal);
     }
     let n = t[0];
     if n + 2 <= a {
-        return statement::declined(5);
+        return statement::declined(Refusal::UnknownAnswer);
     }
-    if exact_cover::number(packages) <= base::wide(p) {
-        return statement::declined(6);
+    if exact_cover::number(packages) <= p as usize {
+        return statement::declined(Refusal::UnknownPackage);
     }
     if work.len() < 2 {
-        return statement::declined(8);
+        return statement::declined(Refusal::ShortWork);
     }
     let last = exact_cover::number(packages);
     let k = family::restriction(t, &keys[..last], &mut index, p, holding, a);
@@ -555,16 +453,56 @@ pub fn answer(
     c: Call,
     work: &mut [u64],
 ) -> Report
-    ensures { AnswerPost (problem_of packages.now (value optional) order.now) m t.old c (length work.old) result t.new }
+    ensures { AnswerPost (problem_of packages.now (value optional) order.now) m t.old c (length work.old) (report_of result) t.new }
 {
     match c {
         Call::Cover { d, limit } => cover(m, packages, optional, order, t, d, limit, work),
-        Call::Either { a, b } => answer_pair(m, packages, optional, order, t, 0, a, b, work),
-        Call::Both { a, b } => answer_pair(m, packages, optional, order, t, 1, a, b, work),
-        Call::Only { a, b } => answer_pair(m, packages, optional, order, t, 2, a, b, work),
+        Call::Either { a, b } => answer_pair(
+            m,
+            packages,
+            optional,
+            order,
+            t,
+            Operation::Union,
+            a,
+            b,
+            work,
+        ),
+        Call::Both { a, b } => answer_pair(
+            m,
+            packages,
+            optional,
+            order,
+            t,
+            Operation::Intersection,
+            a,
+            b,
+            work,
+        ),
+        Call::Only { a, b } => answer_pair(
+            m,
+            packages,
+            optional,
+            order,
+            t,
+            Operation::Difference,
+            a,
+            b,
+            work,
+        ),
         Call::With { a, p } => answer_part(m, packages, optional, order, t, true, a, p, work),
         Call::Without { a, p } => answer_part(m, packages, optional, order, t, false, a, p, work),
-        Call::Join { a, b } => answer_pair(m, packages, optional, order, t, 3, a, b, work),
+        Call::Join { a, b } => answer_pair(
+            m,
+            packages,
+            optional,
+            order,
+            t,
+            Operation::Join,
+            a,
+            b,
+            work,
+        ),
     }
 }
 
@@ -579,7 +517,7 @@ pub fn either(
     b: u32,
     work: &mut [u64],
 ) -> Report
-    ensures { EitherPost (problem_of packages.now (value optional) order.now) m t.old a b (length work.old) result t.new }
+    ensures { EitherPost (problem_of packages.now (value optional) order.now) m t.old a b (length work.old) (report_of result) t.new }
 {
     answer(m, packages, optional, order, t, Call::Either { a, b }, work)
 }
@@ -595,7 +533,7 @@ pub fn both(
     b: u32,
     work: &mut [u64],
 ) -> Report
-    ensures { BothPost (problem_of packages.now (value optional) order.now) m t.old a b (length work.old) result t.new }
+    ensures { BothPost (problem_of packages.now (value optional) order.now) m t.old a b (length work.old) (report_of result) t.new }
 {
     answer(m, packages, optional, order, t, Call::Both { a, b }, work)
 }
@@ -611,7 +549,7 @@ pub fn only(
     b: u32,
     work: &mut [u64],
 ) -> Report
-    ensures { OnlyPost (problem_of packages.now (value optional) order.now) m t.old a b (length work.old) result t.new }
+    ensures { OnlyPost (problem_of packages.now (value optional) order.now) m t.old a b (length work.old) (report_of result) t.new }
 {
     answer(m, packages, optional, order, t, Call::Only { a, b }, work)
 }
@@ -627,7 +565,7 @@ pub fn with(
     p: u32,
     work: &mut [u64],
 ) -> Report
-    ensures { WithPost (problem_of packages.now (value optional) order.now) m t.old a p (length work.old) result t.new }
+    ensures { WithPost (problem_of packages.now (value optional) order.now) m t.old a p (length work.old) (report_of result) t.new }
 {
     answer(m, packages, optional, order, t, Call::With { a, p }, work)
 }
@@ -643,7 +581,7 @@ pub fn without(
     p: u32,
     work: &mut [u64],
 ) -> Report
-    ensures { WithoutPost (problem_of packages.now (value optional) order.now) m t.old a p (length work.old) result t.new }
+    ensures { WithoutPost (problem_of packages.now (value optional) order.now) m t.old a p (length work.old) (report_of result) t.new }
 {
     answer(
         m,
@@ -667,7 +605,7 @@ pub fn join(
     b: u32,
     work: &mut [u64],
 ) -> Report
-    ensures { JoinPost (problem_of packages.now (value optional) order.now) m t.old a b (length work.old) result t.new }
+    ensures { JoinPost (problem_of packages.now (value optional) order.now) m t.old a b (length work.old) (report_of result) t.new }
 {
     answer(m, packages, optional, order, t, Call::Join { a, b }, work)
 }
@@ -679,13 +617,11 @@ fn any_unknown(t: &[u32], answers: &[u32]) -> bool
     requires { Room t.now }
     ensures { result ≡ any (unknown_answer t.now) answers.now }
 {
-    let n = base::wide(t[0]);
-    let mut j: usize = 0;
-    while j < answers.len() {
-        if n + 2 <= base::wide(answers[j]) {
+    let n = t[0] as usize;
+    for &answer in answers {
+        if n + 2 <= answer as usize {
             return true;
         }
-        j += 1;
     }
     false
 }
@@ -696,9 +632,8 @@ fn not_rising(packages: &[u64], gone: &[u16]) -> bool
 {
     let n = exact_cover::number(packages);
     let mut least: usize = 0;
-    let mut j: usize = 0;
-    while j < gone.len() {
-        let p = gone[j] as usize;
+    for &package in gone {
+        let p = package as usize;
         if p < least {
             return true;
         }
@@ -706,26 +641,31 @@ fn not_rising(packages: &[u64], gone: &[u16]) -> bool
             return true;
         }
         least = p + 1;
-        j += 1;
     }
     false
 }
 
-// Refusal 5, 36 or 8 of a withdrawal, whatever is optional and whatever the order; 0 for none of them.
-fn withdraw_refusal(packages: &[u64], t: &[u32], gone: &[u16], answers: &[u32], words: usize) -> u8
+// Refusal 5, 36 or 8 of a withdrawal, whatever is optional and whatever the order.
+fn admit_withdrawal(
+    packages: &[u64],
+    t: &[u32],
+    gone: &[u16],
+    answers: &[u32],
+    words: usize,
+) -> Result<(), Refusal>
     requires { Room t.now }
-    ensures { (optional : ℕ) (order : List ℕ) → WithdrawTested (problem_of packages.now optional order) t.now gone.now answers.now words result }
+    ensures { (optional : ℕ) (order : List ℕ) → WithdrawTested (problem_of packages.now optional order) t.now gone.now answers.now words (refusal_of result) }
 {
     if any_unknown(t, answers) {
-        return 5;
+        return Err(Refusal::UnknownAnswer);
     }
     if not_rising(packages, gone) {
-        return 36;
+        return Err(Refusal::NotRising);
     }
-    if words < base::wide(t[0]) + 2 {
-        return 8;
+    if words < t[0] as usize + 2 {
+        return Err(Refusal::ShortWork);
     }
-    0
+    Ok(())
 }
 
 // Packages withdrawn from the problem, and the table brought with them: each entry of the list of answers still in use is replaced by the number of those of
@@ -740,20 +680,13 @@ pub fn withdraw(
     gone: &[u16],
     answers: &mut [u32],
     work: &mut [u64],
-) -> Withdrawal
-    ensures { WithdrawPost (problem_of packages.now (value optional) order.now) m t.old gone.now answers.old (length work.old) result t.new answers.new }
+) -> Result<u32, Refusal>
+    ensures { WithdrawPost (problem_of packages.now (value optional) order.now) m t.old gone.now answers.old (length work.old) (reply_of result) t.new answers.new }
 {
     let mut keys = [0u32; 512];
     let mut index = [0u16; 131072];
-    let r = guard::admit(m, packages, optional, order, t, &mut keys, &mut index);
-    if r != 0 {
-        return Withdrawal::Refused(r);
-    }
-    let own = withdraw_refusal(packages, t, gone, answers, work.len());
-    if own != 0 {
-        return Withdrawal::Refused(own);
-    }
-    let last = exact_cover::number(packages);
-    let left = withdraw::withdraw(t, &keys[..last], gone, answers, &mut index, work);
-    Withdrawal::Nodes(left)
+    guard::admit(m, packages, optional, order, t, &mut keys, &mut index)?;
+    admit_withdrawal(packages, t, gone, answers, work.len())?;
+    let n = exact_cover::number(packages);
+    Ok(withdraw::withdraw(t, &keys[..n], gone, answers, &mut index, work))
 }

@@ -15,8 +15,7 @@ use Rattle.zdd.specs.Operations.{combine, including, excluding, join}
 use Rattle.zdd.proofs.Tested.{sound_of}
 use Rattle.exact_cover.specs.Problem.{Problem}
 use Rattle.exact_cover.specs.Cover.{keys_of, covering}
-use Rattle.statement.specs.declared.Report.{Report}
-use Rattle.statement.specs.Replies.{Reply, refused, gives, outcome_reply}
+use Rattle.statement.specs.Replies.{Report, Reply, refused, gives}
 use Rattle.query.specs.Questions.{family_at}
 use Rattle.statement.specs.Refusals.{first_of, unknown_answer, Fit}
 use Rattle.statement.specs.declared.Call.{Call}
@@ -55,15 +54,15 @@ pub gives_one : (o : Reply ℕ) (a b : ℕ) → o ≡ gives a → o ≡ gives b 
 gives_one o a b p q = cc
 
 -- a call that answers is not refused
-pub no_refusal : {K : List ℕ} {n s a : ℕ} {F : Family} {t t' : List ℕ} {r : Report} → Makes K n F s t r t' → outcome_reply r.outcome ≡ gives a → n ≡ 0
+pub no_refusal : {K : List ℕ} {n s a : ℕ} {F : Family} {t t' : List ℕ} {r : Report} → Makes K n F s t r t' → r.outcome ≡ gives a → n ≡ 0
 no_refusal {K} {n} {s} {a} {F} {t} {t'} {r} p e =
-    ⊎_elim (λ (z : n ≡ 0). z) (λ (l : 0 < n). absurd (not-both (outcome_reply r.outcome) n a (p.declined l).outcome e)) (eq-zero-or-pos n)
+    ⊎_elim (λ (z : n ≡ 0). z) (λ (l : 0 < n). absurd (not-both (r.outcome) n a (p.declined l).outcome e)) (eq-zero-or-pos n)
 
 -- a refused call is
-pub refusal : {K : List ℕ} {n s e : ℕ} {F : Family} {t t' : List ℕ} {r : Report} → Makes K n F s t r t' → outcome_reply r.outcome ≡ refused e → t' ≡ t
+pub refusal : {K : List ℕ} {n s e : ℕ} {F : Family} {t t' : List ℕ} {r : Report} → Makes K n F s t r t' → r.outcome ≡ refused e → t' ≡ t
 refusal {K} {n} {s} {e} {F} {t} {t'} {r} p q =
     ⊎_elim
-    (λ (z : n ≡ 0). absurd (not-both (outcome_reply r.outcome) e (p.answered z).number q (p.answered z).outcome))
+    (λ (z : n ≡ 0). absurd (not-both (r.outcome) e (p.answered z).number q (p.answered z).outcome))
     (λ (l : 0 < n). (p.declined l).table)
     (eq-zero-or-pos n)
 
@@ -99,14 +98,14 @@ unfolding call_refusal
 own_tests Q t c e = (passed _ 3 _ (fit_of _ e).1).1
 
 module _ (Q : Problem) (t : List ℕ) (c : Entry) (r : Report) (t' : List ℕ) (contract : Step Q t c r t') where
-  pub operand_known : (a : ℕ) → outcome_reply r.outcome ≡ gives a → (x : ℕ) → x ∈ operands c.call → x < count t + 2
+  pub operand_known : (a : ℕ) → r.outcome ≡ gives a → (x : ℕ) → x ∈ operands c.call → x < count t + 2
   operand_known a e = known-call Q c.m t c.call c.words (own_tests Q t c (no_refusal contract e))
 
   -- an answer's number is below 65536
-  pub answer-below : (a : ℕ) → outcome_reply r.outcome ≡ gives a → a < 65536
+  pub answer-below : (a : ℕ) → r.outcome ≡ gives a → a < 65536
   answer-below a e =
       let A = contract.answered (no_refusal contract e) in
-      let q : A.number ≡ a = gives_one (outcome_reply r.outcome) A.number a A.outcome e in
+      let q : A.number ≡ a = gives_one (r.outcome) A.number a A.outcome e in
       omega (arith, A.known, (sound_of (keys_of Q) t' A.sound).few)
 
   -- the table is as long as before

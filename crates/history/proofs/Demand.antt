@@ -20,10 +20,7 @@ use Rattle.zdd.proofs.Join.{unites-turn, unites-same}
 use Rattle.zdd.proofs.Listing.{filter_same, filter_none, elem-filter}
 use Rattle.exact_cover.specs.Problem.{Problem}
 use Rattle.exact_cover.specs.Cover.{keys_of}
-use Rattle.statement.specs.declared.Report.{Report}
-use Rattle.statement.specs.declared.Picked.{Picked}
-use Rattle.statement.specs.declared.Measured.{Measured}
-use Rattle.statement.specs.Replies.{Reply, refused, gives, reply, outcome_reply, measure_reply}
+use Rattle.statement.specs.Replies.{Report, Reply, refused, gives, reply}
 use Rattle.query.specs.Questions.{family_at, nth}
 use Rattle.statement.specs.Refusals.{first_of, Fit, unsound, unknown_answer, short_work, uncountable, past_end, short_page, pick_refusal}
 use Rattle.statement.specs.Postconditions.{Answered, PickPost, MeasurePost, written}
@@ -104,7 +101,7 @@ given-found Q [] x m =
     find-next _ _ x (⊎_elim (λ e. inl e)
     (λ n. inr (find-next _ _ x (⊎_elim (λ e. inl e) (λ k. absurd (Memᴰ.not-nil k)) (Memᴰ.cases_cons n))))
     (Memᴰ.cases_cons m))
-given-found Q (e ∷ h) x m = posted Q e.0 (outcome_reply e.1.outcome) (given h) (ledger Q h) (given-found Q h) x m
+given-found Q (e ∷ h) x m = posted Q e.0 (e.1.outcome) (given h) (ledger Q h) (given-found Q h) x m
 
 -- ---- the invariant: the nodes are sound, and each posting's number holds its set
 
@@ -141,7 +138,7 @@ agree_start Q n = record {
         second (inr k) = absurd (Memᴰ.not-nil k)
 
 agree_answer : (Q : Problem) (h : Calls) (t : List ℕ) (c : Entry) (r : Report) (t' : List ℕ) (a : ℕ) → Agree Q h t
-    → ((x : ℕ) → x ∈ operands c.call → x ∈ given h) → outcome_reply r.outcome ≡ gives a
+    → ((x : ℕ) → x ∈ operands c.call → x ∈ given h) → r.outcome ≡ gives a
     → Step Q t c r t'
     → ((p : Posting) → p ∈ record { number = a; set = makes Q (latest (ledger Q h)) c.call } ∷ ledger Q h → Posted Q t' p)
     × Nodes (keys_of Q) (nodes_of t')
@@ -156,7 +153,7 @@ agree_answer Q h t c r t' a G o e M = ((λ p m. go p (Memᴰ.cases_cons m)), (so
     A = M.answered zero-refusal
 
     number : A.number ≡ a
-    number = gives_one (outcome_reply r.outcome) A.number a A.outcome e
+    number = gives_one (r.outcome) A.number a A.outcome e
 
     latest-holds : (x : ℕ) → x ∈ operands c.call → family_at t x ≡ listing Q (latest (ledger Q h) x)
     latest-holds x m =
@@ -180,7 +177,7 @@ agree_answer Q h t c r t' a G o e M = ((λ p m. go p (Memᴰ.cases_cons m)), (so
     fits m (inl q) = (subst⁻¹ (λ (n : ℕ). Fit Q n) q (fit_call Q t c zero-refusal), A.sound)
     fits m (inr i) = ((G.fit m i).0, A.sound)
 
-agree_next : (Q : Problem) (h : Calls) (t : List ℕ) (c : Entry) (r : Report) (t' : List ℕ) (q : Reply ℕ) → outcome_reply r.outcome ≡ q → Agree Q h t
+agree_next : (Q : Problem) (h : Calls) (t : List ℕ) (c : Entry) (r : Report) (t' : List ℕ) (q : Reply ℕ) → r.outcome ≡ q → Agree Q h t
     → Allowed h c q → Step Q t c r t'
     → Nodes (keys_of Q) (nodes_of t')
     × ((p : Posting) → p ∈ post Q c q (ledger Q h) → Posted Q t' p)
@@ -196,7 +193,7 @@ agree_next Q h t c r t' (gives a) e G o M = let x = agree_answer Q h t c r t' a 
 agree : (Q : Problem) {h : Calls} {t : List ℕ} → History Q h t → Agree Q h t
 agree Q (start n) = agree_start Q n
 agree Q (next {h} {t} H c r t' o p) =
-    let x = agree_next Q h t c r t' (outcome_reply r.outcome) refl (agree Q H) o p in
+    let x = agree_next Q h t c r t' (r.outcome) refl (agree Q H) o p in
     record { nodes = x.0; each = x.1; fit = x.2 }
 
 pub nodes_sound : (Q : Problem) {h : Calls} {t : List ℕ} → History Q h t → Nodes (keys_of Q) (nodes_of t)
@@ -242,7 +239,7 @@ module _ (Q : Problem) (h : Calls) (t : List ℕ) (G : Agree Q h t) where
 
   picks : (p : Posting) → p ∈ ledger Q h → length (listing Q p.set) ≤ 18446744073709551615
       → (m : ℕ) → m ∈ answered_with h → (words : ℕ) → p.number + 1 ≤ words
-      → (k : ℕ) (page : List ℕ) (r : Picked) (page' : List ℕ) → PickPost Q m t p.number k words page r page'
+      → (k : ℕ) (page : List ℕ) (r : Reply ℕ) (page' : List ℕ) → PickPost Q m t p.number k words page r page'
       → (k < length (listing Q p.set) → length (nth (listing Q p.set) k) ≤ length page → Returns (nth (listing Q p.set) k) page r page')
       × (length (listing Q p.set) ≤ k → Refuses 12 page r page')
   unfolding Posted
@@ -274,12 +271,12 @@ module _ (Q : Problem) (h : Calls) (t : List ℕ) (G : Agree Q h t) where
 
   measures : (p : Posting) → p ∈ ledger Q h → length (listing Q p.set) ≤ 18446744073709551615
       → (m : ℕ) → m ∈ answered_with h → (words : ℕ) → p.number + 1 ≤ words
-      → (k : ℕ) (r : Measured) → MeasurePost Q m t p.number k words r
-      → (k < length (listing Q p.set) → measure_reply r ≡ gives (length (nth (listing Q p.set) k)))
-      × (length (listing Q p.set) ≤ k → measure_reply r ≡ refused 12)
+      → (k : ℕ) (r : Reply ℕ) → MeasurePost Q m t p.number k words r
+      → (k < length (listing Q p.set) → r ≡ gives (length (nth (listing Q p.set) k)))
+      × (length (listing Q p.set) ≤ k → r ≡ refused 12)
   unfolding Posted unsound
   measures p i c m j words w k r M =
-      subst (λ (F : Family). (k < length F → measure_reply r ≡ gives (length (nth F k))) × (length F ≤ k → measure_reply r ≡ refused 12)) (G.each p i).1
+      subst (λ (F : Family). (k < length F → r ≡ gives (length (nth F k))) × (length F ≤ k → r ≡ refused 12)) (G.each p i).1
       (measure_lists (record {
         fit = (G.fit m j).0;
         sound = ap not (G.fit m j).1;

@@ -19,19 +19,15 @@ use Rattle.zdd.specs.Below.{Below, new_below, labels_below}
 use Rattle.zdd.specs.Branches.{starting, others, weight, branches_to, branches, eq_family, amongb, fresh, missing}
 use Rattle.exact_cover.specs.Cover.{keys_from, keys_of, holders, all_inside, takes, once, covers, covering, fits, down, candidates}
 use Rattle.exact_cover.specs.Steps.{each, visit, steps}
-use Rattle.statement.specs.declared.Report.{Report}
-use Rattle.statement.specs.declared.Outcome.TheVariants.{Answer, Refused}
-use Rattle.statement.specs.declared.Picked.TheVariants.{Packages}
-use Rattle.statement.specs.declared.Measured.TheVariants.{Packages as MeasuredPackages}
 use Rattle.statement.specs.Refusals.{first_of, oversize, stray, stray_optional, nothing_compulsory, disordered, unsound, unknown_answer, overlap, unknown_item, short_work}
 use Rattle.statement.specs.Refusals.{spent, full, uncountable, past_end, short_page, pick_refusal, measure_refusal}
+use Rattle.statement.specs.Replies.{Report, refused, gives}
 use Rattle.statement.specs.Calls.{call_refusal, cover_refusal}
 use Rattle.statement.specs.declared.Call.TheVariants.{Cover, Only, With, Without, Join}
 use Rattle.exact_cover.specs.Problem.{count_from, earliest, times, each_once, lead, done}
 use Rattle.query.specs.Questions.{unknown_package}
 use Rattle.statement.specs.Postconditions.{CoverPost, WithPost, WithoutPost, OnlyPost, JoinPost, PickPost, MeasurePost}
 use Rattle.history.specs.Histories.{entry, Calls, given, History, start, next, SameSet, Posting, no_timetable, ledger, Returns, Demanded, Needed}
-use Rattle.statement.specs.Replies.{gives, measure_reply}
 use Rattle.history.proofs.Contract.{gives_one}
 use Rattle.history.proofs.Demand.{demand3}
 use Rattle.history.proofs.Spare.{no_spare_node}
@@ -46,7 +42,7 @@ abbrev final : List ℕ
 final = 5 ∷ 2 ∷ 0 ∷ 1 ∷ 4 ∷ 0 ∷ 2 ∷ 1 ∷ 0 ∷ 3 ∷ 0 ∷ 4 ∷ 2 ∷ 0 ∷ 0 ∷ 2 ∷ 0 ∷ 0 ∷ 0 ∷ []
 
 abbrev report : ℕ → ℕ → ℕ → Report
-report a s c = record { outcome = Answer a; steps = s; made = c }
+report a s c = record { outcome = gives a; steps = s; made = c }
 
 first-cover : CoverPost figure1 6 (empty_table 6) 63 6 256 (report 5 6 4) covered
 unfolding holds insideb without belowb size count_from earliest times each_once lead done nodes_of capacity families family order all_sets sets filter soundb eq_set elem starting
@@ -58,7 +54,7 @@ first-cover = record {
 }
 
 -- B is 5
-second_cover : CoverPost figure1 6 covered 63 5 256 (record { outcome = Refused 9; steps = 0; made = 0 }) covered
+second_cover : CoverPost figure1 6 covered 63 5 256 (record { outcome = refused 9; steps = 0; made = 0 }) covered
 unfolding holds insideb without belowb size count_from earliest times each_once lead done nodes_of capacity order all_sets sets filter soundb eq_set keys_from keys_of fits down
     candidates each visit steps first_of oversize any stray stray_optional nothing_compulsory disordered unsound unknown_item short_work spent call_refusal width value_of
 second_cover = record {
@@ -115,7 +111,7 @@ calls =
     ∷ (entry 6 (Without 5 0) 2, report 4 0 0)
     ∷ (entry 6 (Only 5 6) 2, report 4 0 0)
     ∷ (entry 6 (With 5 0) 2, report 6 0 1)
-    ∷ (entry 6 (Cover d63 5) 256, record { outcome = Refused 9; steps = 0; made = 0 })
+    ∷ (entry 6 (Cover d63 5) 256, record { outcome = refused 9; steps = 0; made = 0 })
     ∷ (entry 6 (Cover d63 6) 256, report 5 6 4)
     ∷ []
 
@@ -124,7 +120,7 @@ unfolding call_refusal value_of
 history =
     next (next (next (next (next (next (start 19)
     (entry 6 (Cover d63 6) 256) (report 5 6 4) covered (λ x m. absurd (Memᴰ.not-nil m)) first-cover)
-    (entry 6 (Cover d63 5) 256) (record { outcome = Refused 9; steps = 0; made = 0 }) covered tt second_cover)
+    (entry 6 (Cover d63 5) 256) (record { outcome = refused 9; steps = 0; made = 0 }) covered tt second_cover)
     (entry 6 (With 5 0) 2) (report 6 0 1) final (λ x m. one x (Memᴰ.cases_cons m)) with_0)
     (entry 6 (Only 5 6) 2) (report 4 0 0) final (λ x m. two x (Memᴰ.cases_cons m)) only_other)
     (entry 6 (Without 5 0) 2) (report 4 0 0) final (λ x m. five x (Memᴰ.cases_cons m)) without_0)
@@ -175,31 +171,31 @@ two_sets : SameSet figure1 (posting 0).set (posting 1).set → ⊥
 two_sets e = let z : ◌≡◌ {A = ℕ} 5 4 = (demanded.numbers (posting 0) (posting 1) (posted 0 (omega arith)) (posted 1 (omega arith))).1 e in omega arith
 
 -- the second timetable of 5, on a page of four
-picked : PickPost figure1 6 final 5 1 6 (7 ∷ 7 ∷ 7 ∷ 7 ∷ []) (Packages 3) (1 ∷ 4 ∷ 2 ∷ 7 ∷ [])
+picked : PickPost figure1 6 final 5 1 6 (7 ∷ 7 ∷ 7 ∷ 7 ∷ []) (gives 3) (1 ∷ 4 ∷ 2 ∷ 7 ∷ [])
 unfolding holds insideb without belowb count_from earliest times each_once lead done nodes_of capacity families family soundb keys_from keys_of first_of oversize
     any stray stray_optional nothing_compulsory disordered unsound
     unknown_answer short_work uncountable past_end short_page pick_refusal width value_of
 picked = record { result = refl; pages = refl }
 
 -- it is what the demand says
-second_of_five : Returns (1 ∷ 4 ∷ 2 ∷ []) (7 ∷ 7 ∷ 7 ∷ 7 ∷ []) (Packages 3) (1 ∷ 4 ∷ 2 ∷ 7 ∷ [])
+second_of_five : Returns (1 ∷ 4 ∷ 2 ∷ []) (7 ∷ 7 ∷ 7 ∷ 7 ∷ []) (gives 3) (1 ∷ 4 ∷ 2 ∷ 7 ∷ [])
 unfolding holds insideb without belowb size count_from earliest times each_once lead done order all_sets sets filter keys_from keys_of holders all_inside takes once covers width value_of
 second_of_five =
     (demanded.picks (posting 0) (posted 0 (omega arith)) (omega arith) 6 (Memᴰ.head refl) 6 (omega arith) 1
-    (7 ∷ 7 ∷ 7 ∷ 7 ∷ []) (Packages 3) (1 ∷ 4 ∷ 2 ∷ 7 ∷ []) picked).0 (omega arith) (omega arith)
+    (7 ∷ 7 ∷ 7 ∷ 7 ∷ []) (gives 3) (1 ∷ 4 ∷ 2 ∷ 7 ∷ []) picked).0 (omega arith) (omega arith)
 
 -- measured, with no page
-measured : MeasurePost figure1 6 final 5 1 6 (MeasuredPackages 3)
+measured : MeasurePost figure1 6 final 5 1 6 (gives 3)
 unfolding holds insideb without belowb count_from earliest times each_once lead done nodes_of capacity families family soundb keys_from keys_of first_of oversize
     any stray stray_optional nothing_compulsory disordered unsound
     unknown_answer short_work uncountable past_end measure_refusal width value_of
 measured = record { result = refl }
 
-three_packages : measure_reply (MeasuredPackages 3) ≡ gives (length {A = ℕ} (1 ∷ 4 ∷ 2 ∷ []))
+three_packages : (gives 3) ≡ gives (length {A = ℕ} (1 ∷ 4 ∷ 2 ∷ []))
 unfolding holds insideb without belowb size count_from earliest times each_once lead done order all_sets sets filter keys_from keys_of holders all_inside takes once covers width value_of
 three_packages =
     (demanded.measures (posting 0) (posted 0 (omega arith)) (omega arith) 6 (Memᴰ.head refl) 6 (omega arith) 1
-    (MeasuredPackages 3) measured).0 (omega arith)
+    (gives 3) measured).0 (omega arith)
 
 -- ---- the nodes of the table: below the answer 5 are 2, 3, 4 and 5, below 6 are 2 and 6
 
@@ -295,16 +291,16 @@ nothing_due : SameSet public_slot (public-posting 0).set (public-posting 3).set
 nothing_due = (public_demanded.numbers (public-posting 0) (public-posting 3) (public_posted 0 (omega arith)) (public_posted 3 (omega arith))).0 refl
 
 -- the second timetable of 5 leaves the optional item to nobody
-public-picked : PickPost public_slot 3 public_table 5 1 6 (7 ∷ 7 ∷ []) (Packages 2) (0 ∷ 3 ∷ [])
+public-picked : PickPost public_slot 3 public_table 5 1 6 (7 ∷ 7 ∷ []) (gives 2) (0 ∷ 3 ∷ [])
 unfolding holds insideb without belowb count_from earliest times each_once lead done nodes_of capacity families family soundb keys_from keys_of first_of oversize any stray stray_optional
     nothing_compulsory disordered unsound unknown_answer short_work uncountable past_end short_page pick_refusal width value_of
 public-picked = record { result = refl; pages = refl }
 
-second_of_public : Returns (0 ∷ 3 ∷ []) (7 ∷ 7 ∷ []) (Packages 2) (0 ∷ 3 ∷ [])
+second_of_public : Returns (0 ∷ 3 ∷ []) (7 ∷ 7 ∷ []) (gives 2) (0 ∷ 3 ∷ [])
 unfolding holds insideb without belowb size count_from earliest times each_once lead done order all_sets sets filter keys_from keys_of holders all_inside takes once covers width value_of
 second_of_public =
     (public_demanded.picks (public-posting 1) (public_posted 1 (omega arith)) (omega arith) 3 (Memᴰ.head refl) 6 (omega arith) 1
-    (7 ∷ 7 ∷ []) (Packages 2) (0 ∷ 3 ∷ []) public-picked).0 (omega arith) (omega arith)
+    (7 ∷ 7 ∷ []) (gives 2) (0 ∷ 3 ∷ []) public-picked).0 (omega arith) (omega arith)
 
 -- each of its nodes is below an answer given
 public_needed : Needed public-calls public_table
@@ -341,17 +337,17 @@ reversed_needed : Needed reversed-calls reversed_table
 reversed_needed = no_spare_node (figure1_in reversed) reversed-calls reversed_table reversed_history
 
 -- the second timetable, written by the order
-reversed-picked : PickPost (figure1_in reversed) 6 reversed_table 5 1 6 (7 ∷ 7 ∷ 7 ∷ []) (Packages 3) (2 ∷ 4 ∷ 1 ∷ [])
+reversed-picked : PickPost (figure1_in reversed) 6 reversed_table 5 1 6 (7 ∷ 7 ∷ 7 ∷ []) (gives 3) (2 ∷ 4 ∷ 1 ∷ [])
 unfolding holds insideb without belowb count_from earliest times each_once lead done nodes_of capacity families family soundb keys_from keys_of first_of oversize any stray
     stray_optional nothing_compulsory disordered unsound unknown_answer short_work uncountable past_end short_page pick_refusal width value_of
 reversed-picked = record { result = refl; pages = refl }
 
-second_of_reversed : Returns (2 ∷ 4 ∷ 1 ∷ []) (7 ∷ 7 ∷ 7 ∷ []) (Packages 3) (2 ∷ 4 ∷ 1 ∷ [])
+second_of_reversed : Returns (2 ∷ 4 ∷ 1 ∷ []) (7 ∷ 7 ∷ 7 ∷ []) (gives 3) (2 ∷ 4 ∷ 1 ∷ [])
 unfolding holds insideb without belowb size count_from earliest times each_once lead done order all_sets sets filter keys_from keys_of holders all_inside takes once covers width value_of
 second_of_reversed =
     (reversed_demanded.picks (get_or (ledger (figure1_in reversed) reversed-calls) 0 (record { number = 0; set = no_timetable }))
     (in_list (ledger (figure1_in reversed) reversed-calls) 0 (record { number = 0; set = no_timetable }) (omega arith)) (omega arith) 6 (Memᴰ.head refl) 6 (omega arith) 1
-    (7 ∷ 7 ∷ 7 ∷ []) (Packages 3) (2 ∷ 4 ∷ 1 ∷ []) reversed-picked).0 (omega arith) (omega arith)
+    (7 ∷ 7 ∷ 7 ∷ []) (gives 3) (2 ∷ 4 ∷ 1 ∷ []) reversed-picked).0 (omega arith) (omega arith)
 
 -- ---- a history with joins [document 02, No. 5]
 
@@ -391,7 +387,7 @@ halves_join = record {
 }
 
 -- a part of it with the whole, and no working words
-overlapping : JoinPost four_slots 4 joined_table 3 8 0 (record { outcome = Refused 35; steps = 0; made = 0 }) joined_table
+overlapping : JoinPost four_slots 4 joined_table 3 8 0 (record { outcome = refused 35; steps = 0; made = 0 }) joined_table
 unfolding holds insideb without apartb belowb size count_from earliest times each_once lead done nodes_of capacity families family order all_sets sets filter soundb eq_set elem has
     new_below labels_below keys_from keys_of first_of oversize any stray stray_optional nothing_compulsory disordered unsound unknown_answer overlap short_work call_refusal width value_of
 overlapping = record {
@@ -416,7 +412,7 @@ low x = record { w0 = x; w1 = 0; w2 = 0 }
 abbrev joined-calls : Calls
 joined-calls =
     (entry 4 (Cover (low 15) 5) 256, report 8 5 0)
-    ∷ (entry 4 (Join 3 8) 0, record { outcome = Refused 35; steps = 0; made = 0 })
+    ∷ (entry 4 (Join 3 8) 0, record { outcome = refused 35; steps = 0; made = 0 })
     ∷ (entry 4 (Join 3 5) 6, report 8 0 3)
     ∷ (entry 4 (Cover (low 10) 3) 256, report 5 3 2)
     ∷ (entry 4 (Cover (low 5) 3) 256, report 3 3 2)
@@ -429,7 +425,7 @@ joined_history =
     (entry 4 (Cover (low 5) 3) 256) (report 3 3 2) half_table (λ x m. absurd (Memᴰ.not-nil m)) half-cover)
     (entry 4 (Cover (low 10) 3) 256) (report 5 3 2) (halves_table 3) (λ x m. absurd (Memᴰ.not-nil m)) other_cover)
     (entry 4 (Join 3 5) 6) (report 8 0 3) joined_table (λ x m. halves x (Memᴰ.cases_cons m)) halves_join)
-    (entry 4 (Join 3 8) 0) (record { outcome = Refused 35; steps = 0; made = 0 }) joined_table tt overlapping)
+    (entry 4 (Join 3 8) 0) (record { outcome = refused 35; steps = 0; made = 0 }) joined_table tt overlapping)
     (entry 4 (Cover (low 15) 5) 256) (report 8 5 0) joined_table (λ x m. absurd (Memᴰ.not-nil m)) whole-cover
   where
     halves : (x : ℕ) → (x ≡ 3) ⊎ (x ∈ 5 ∷ []) → x ∈ 5 ∷ 3 ∷ 0 ∷ 1 ∷ []

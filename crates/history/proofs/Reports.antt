@@ -8,19 +8,18 @@ use native.Mathlib.Omega.{arith}
 use lib.ListN.{length, get_or, set, take, length-set}
 use lib.Seq.{get_or-set_same, get_or-set_other, take-set-le, drop-set-lt, get_or-take}
 use borrow.Author.Tests.{lt-ltb, le-ltb}
-use Rattle.statement.specs.declared.Report.{Report}
-use Rattle.statement.specs.declared.Outcome.TheVariants.{Answer, Refused}
+use Rattle.statement.specs.Replies.{refused, gives, Report}
 use Rattle.history.specs.Histories.{Calls}
 use Rattle.history.specs.Script.{call_at, outcome_of, report_at, calls}
 use Rattle.history.specs.Parts.{Stored}
 
-pub answer_word : (a : ℕ) → a < 4294967296 → outcome_of a ≡ Answer a
-answer_word a h = ap (λ (b : Bool). cond b (Answer a) (Refused (a - 4294967296))) (lt-ltb a 4294967296 h)
+pub answer_word : (a : ℕ) → a < 4294967296 → outcome_of a ≡ gives a
+answer_word a h = ap (λ (b : Bool). cond b (gives a) (refused (a - 4294967296))) (lt-ltb a 4294967296 h)
 
-pub refused-word : (n : ℕ) → outcome_of (n + 4294967296) ≡ Refused n
+pub refused-word : (n : ℕ) → outcome_of (n + 4294967296) ≡ refused n
 refused-word n =
-    ap (λ (b : Bool). cond b (Answer (n + 4294967296)) (Refused (n + 4294967296 - 4294967296))) (le-ltb (n + 4294967296) 4294967296 (omega arith))
-    ∙ ap Refused (omega arith)
+    ap (λ (b : Bool). cond b (gives (n + 4294967296)) (refused (n + 4294967296 - 4294967296))) (le-ltb (n + 4294967296) 4294967296 (omega arith))
+    ∙ ap refused (omega arith)
 
 pub stored : (out : List ℕ) (i w : ℕ) (r : Report) → i < length out / 3 → outcome_of w ≡ r.outcome
     → Stored out i r (set (set (set out (3 * i) w) (3 * i + 1) r.steps) (3 * i + 2) r.made)

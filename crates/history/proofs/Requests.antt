@@ -12,7 +12,7 @@ use borrow.Author.Tests.{ltb-true, leb-true, eqb-true, eq-eqb, ne_eqb}
 use Rattle.base.proofs.Bools.{and_left, and_right, or_left, or_right, or_cases}
 use Rattle.itemset.specs.declared.Items.{Items}
 use Rattle.zdd.specs.Table.{◌∈◌}
-use Rattle.statement.specs.declared.Report.{Report}
+use Rattle.statement.specs.Replies.{Report}
 use Rattle.history.specs.declared.Request.{Request}
 use Rattle.exact_cover.specs.Problem.{Problem}
 use Rattle.statement.specs.declared.Call.{Call}

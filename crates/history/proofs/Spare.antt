@@ -19,8 +19,7 @@ use Rattle.zdd.proofs.Counting.{branch_below, number_in}
 use Rattle.zdd.proofs.Below.{below-known, below_branch, fewest_nodes}
 use Rattle.exact_cover.specs.Problem.{Problem}
 use Rattle.exact_cover.specs.Cover.{keys_of}
-use Rattle.statement.specs.declared.Report.{Report}
-use Rattle.statement.specs.Replies.{Reply, refused, gives, outcome_reply}
+use Rattle.statement.specs.Replies.{Report, Reply, refused, gives}
 use Rattle.statement.proofs.Made.{new_exactly, old_below}
 use Rattle.query.specs.Questions.{family_at}
 use Rattle.statement.specs.Refusals.{full}
@@ -35,7 +34,7 @@ abbrev Serves : List ℕ → List ℕ → ℕ → Type 0
 Serves l t k = (a : ℕ) × (a ∈ l) × Below (nodes_of t) a k
 
 -- a call leaves no node that serves none of the answers, its own included, where there was none
-serves_next : (Q : Problem) (l t : List ℕ) (c : Entry) (r : Report) (t' : List ℕ) (q : Reply ℕ) → outcome_reply r.outcome ≡ q → Step Q t c r t'
+serves_next : (Q : Problem) (l t : List ℕ) (c : Entry) (r : Report) (t' : List ℕ) (q : Reply ℕ) → r.outcome ≡ q → Step Q t c r t'
     → ((k : ℕ) → 2 ≤ k → k < count t + 2 → Serves l t k) → (k : ℕ) → 2 ≤ k → k < count t' + 2 → Serves (give q l) t' k
 serves_next Q l t c r t' (refused n) e M ih k b h = subst⁻¹ (λ (u : List ℕ). k < count u + 2 → Serves l u k) (refusal M e) (ih k b) h
 serves_next Q l t c r t' (gives a) e M ih k b h = go (dec_lt k (count t + 2))
@@ -45,12 +44,12 @@ serves_next Q l t c r t' (gives a) e M ih k b h = go (dec_lt k (count t + 2))
 
     go : Dec (k < count t + 2) → Serves (give (gives a) l) t' k
     go (yes o) = let s = ih k b o in (s.0, Memᴰ.tail s.1, old_below A s.2)
-    go (no o) = (A.number, Memᴰ.head (gives_one (outcome_reply r.outcome) A.number a A.outcome e), (new_exactly A k (omega arith)).0 h)
+    go (no o) = (A.number, Memᴰ.head (gives_one (r.outcome) A.number a A.outcome e), (new_exactly A k (omega arith)).0 h)
 
 serves : (Q : Problem) {h : Calls} {t : List ℕ} → History Q h t → (k : ℕ) → 2 ≤ k → k < count t + 2 → Serves (given h) t k
 serves Q (start zero) = λ k b h. absurd (omega arith)
 serves Q (start (suc n)) = λ k b h. absurd (omega arith)
-serves Q (next {h} {t} H c r t' o p) = serves_next Q (given h) t c r t' (outcome_reply r.outcome) refl p (serves Q H)
+serves Q (next {h} {t} H c r t' o p) = serves_next Q (given h) t c r t' (r.outcome) refl p (serves Q H)
 
 pub no_spare_node : NoSpareNode
 no_spare_node Q h t H k b = (

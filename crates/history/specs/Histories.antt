@@ -9,10 +9,7 @@ use Rattle.exact_cover.specs.Problem.{Problem}
 use Rattle.exact_cover.specs.Cover.{keys_of, covers}
 use Rattle.statement.specs.declared.Call.{Call}
 use Rattle.statement.specs.declared.Call.TheVariants.{Cover, Either, Both, Only, With, Without, Join}
-use Rattle.statement.specs.declared.Report.{Report}
-use Rattle.statement.specs.declared.Picked.{Picked}
-use Rattle.statement.specs.declared.Measured.{Measured}
-use Rattle.statement.specs.Replies.{Reply, refused, gives, outcome_reply, pick_reply, measure_reply}
+use Rattle.statement.specs.Replies.{Report, Reply, refused, gives}
 use Rattle.query.specs.Questions.{nth}
 use Rattle.statement.specs.Calls.{operands}
 use Rattle.statement.specs.Postconditions.{AnswerPost, PickPost, MeasurePost}
@@ -45,7 +42,7 @@ give (gives a) l = a ∷ l
 
 abbrev pub given : Calls → List ℕ
 given [] = 0 ∷ 1 ∷ []
-given (e ∷ h) = give (outcome_reply e.1.outcome) (given h)
+given (e ∷ h) = give e.1.outcome (given h)
 
 -- an operand of a call that answers is 0, 1 or an answer given earlier; a refused call may have any
 abbrev pub Allowed : Calls → Entry → Reply ℕ → Type 0
@@ -56,7 +53,7 @@ Allowed h c (gives a) = (x : ℕ) → x ∈ operands c.call → x ∈ given h
 pub data History (Q : Problem) : Calls → List ℕ → Type 0 where
   start : (n : ℕ) → History Q [] (replicate n 0)
   next : {h : Calls} {t : List ℕ} → History Q h t → (c : Entry) (r : Report) (t' : List ℕ)
-      → Allowed h c (outcome_reply r.outcome) → Step Q t c r t' → History Q ((c, r) ∷ h) t'
+      → Allowed h c r.outcome → Step Q t c r t' → History Q ((c, r) ∷ h) t'
 
 -- ---- the ledger, computed from the calls' arguments and answers alone
 
@@ -109,7 +106,7 @@ post Q c (gives a) ps = record { number = a; set = makes Q (latest ps) c.call } 
 -- the latest posting stands first; the first postings are 0 with none and 1 with only the empty one
 abbrev pub ledger : Problem → Calls → List Posting
 ledger Q [] = record { number = 0; set = no_timetable } ∷ record { number = 1; set = empty_timetable } ∷ []
-ledger Q (e ∷ h) = post Q e.0 (outcome_reply e.1.outcome) (ledger Q h)
+ledger Q (e ∷ h) = post Q e.0 (e.1.outcome) (ledger Q h)
 
 -- ---- the demand
 
@@ -120,15 +117,15 @@ count_in m (gives a) l = m ∷ l
 
 abbrev pub answered_with : Calls → List ℕ
 answered_with [] = []
-answered_with (e ∷ h) = count_in e.0.m (outcome_reply e.1.outcome) (answered_with h)
+answered_with (e ∷ h) = count_in e.0.m (e.1.outcome) (answered_with h)
 
 -- pick returns the timetable s: its packages are at the start of the page, and the rest of the page is unchanged
-abbrev pub Returns : List ℕ → List ℕ → Picked → List ℕ → Type 0
-Returns s page r page' = (pick_reply r ≡ gives (length s)) × (page' ≡ s ++ drop (length s) page)
+abbrev pub Returns : List ℕ → List ℕ → Reply ℕ → List ℕ → Type 0
+Returns s page r page' = (r ≡ gives (length s)) × (page' ≡ s ++ drop (length s) page)
 
 -- pick is refused with n, and the page is unchanged
-abbrev pub Refuses : ℕ → List ℕ → Picked → List ℕ → Type 0
-Refuses n page r page' = (pick_reply r ≡ refused n) × (page' ≡ page)
+abbrev pub Refuses : ℕ → List ℕ → Reply ℕ → List ℕ → Type 0
+Refuses n page r page' = (r ≡ refused n) × (page' ≡ page)
 
 pub record Demanded (Q : Problem) (h : Calls) (t : List ℕ) : Type 0 where
   -- any two postings have equal numbers exactly when they have equal sets
@@ -137,15 +134,15 @@ pub record Demanded (Q : Problem) (h : Calls) (t : List ℕ) : Type 0 where
   -- It gets the packages of the history, the M of a call that answered, and the room that 8 and 15 ask
   pub picks : (p : Posting) → p ∈ ledger Q h → length (listing Q p.set) ≤ 18446744073709551615
       → (m : ℕ) → m ∈ answered_with h → (words : ℕ) → p.number + 1 ≤ words
-      → (k : ℕ) (page : List ℕ) (r : Picked) (page' : List ℕ) → PickPost Q m t p.number k words page r page'
+      → (k : ℕ) (page : List ℕ) (r : Reply ℕ) (page' : List ℕ) → PickPost Q m t p.number k words page r page'
       → (k < length (listing Q p.set) → length (nth (listing Q p.set) k) ≤ length page → Returns (nth (listing Q p.set) k) page r page')
       × (length (listing Q p.set) ≤ k → Refuses 12 page r page')
   -- and measure gives how many packages the k-th has for each k below their count, and 12 for each other k
   pub measures : (p : Posting) → p ∈ ledger Q h → length (listing Q p.set) ≤ 18446744073709551615
       → (m : ℕ) → m ∈ answered_with h → (words : ℕ) → p.number + 1 ≤ words
-      → (k : ℕ) (r : Measured) → MeasurePost Q m t p.number k words r
-      → (k < length (listing Q p.set) → measure_reply r ≡ gives (length (nth (listing Q p.set) k)))
-      × (length (listing Q p.set) ≤ k → measure_reply r ≡ refused 12)
+      → (k : ℕ) (r : Reply ℕ) → MeasurePost Q m t p.number k words r
+      → (k < length (listing Q p.set) → r ≡ gives (length (nth (listing Q p.set) k)))
+      × (length (listing Q p.set) ≤ k → r ≡ refused 12)
 
 abbrev pub Demand3 : Type 0
 Demand3 = (Q : Problem) (h : Calls) (t : List ℕ) → History Q h t → Demanded Q h t

@@ -1,7 +1,6 @@
 -- What the contracts of the runner's own functions cite. Assumes nothing.
 use Rattle.std.specs.Prelude.{◌≡◌, Bool, ◌&&◌, ◌||◌, List, ℕ, ◌+◌, ◌*◌, eqb, ltb, length, get_or, set, take, drop}
-use Rattle.statement.specs.declared.Report.{Report}
-use Rattle.statement.specs.Replies.{Reply, refused, gives}
+use Rattle.statement.specs.Replies.{Report, Reply, refused, gives}
 use Rattle.history.specs.Script.{report_at, beyond}
 
 -- ---- the numbers given, as marks: a word for each number, 1 where it was given

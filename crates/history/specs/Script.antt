@@ -7,9 +7,7 @@ use Rattle.exact_cover.specs.Problem.{Problem}
 use Rattle.statement.specs.declared.Call.{Call}
 use Rattle.statement.specs.declared.Call.TheVariants.{Cover, Either, Both, Only, With, Without, Join}
 use Rattle.statement.specs.Calls.{operands}
-use Rattle.statement.specs.declared.Report.{Report}
-use Rattle.statement.specs.declared.Outcome.{Outcome}
-use Rattle.statement.specs.declared.Outcome.TheVariants.{Answer, Refused}
+use Rattle.statement.specs.Replies.{Reply, refused, gives, Report}
 use Rattle.history.specs.declared.Request.{Request}
 use Rattle.history.specs.Histories.{Entry, entry, Calls, given, History, Demanded, Needed}
 
@@ -48,8 +46,8 @@ call_at script i = request_entry (request_at script i)
 -- ---- the reports: three words a call
 
 -- the word of an outcome: the answer's number, or 4294967296 more than the refusal's
-abbrev pub outcome_of : ℕ → Outcome
-outcome_of w = cond (ltb w 4294967296) (Answer w) (Refused (w - 4294967296))
+abbrev pub outcome_of : ℕ → Reply ℕ
+outcome_of w = cond (ltb w 4294967296) (gives w) (refused (w - 4294967296))
 
 -- the report of call i: the outcome's word, the steps, the nodes made
 abbrev pub report_at : List ℕ → ℕ → Report

@@ -5,7 +5,7 @@
 ghost use Rattle.std.specs.Prelude.{◌≡◌, true, ℕ, ◌/◌, ◌<◌, length, set, replicate};
 ghost use Rattle.itemset.specs.Words.{value};
 ghost use Rattle.zdd.specs.Table.{count};
-ghost use Rattle.statement.specs.Replies.{gives, outcome_reply};
+ghost use Rattle.statement.specs.Replies.{gives, reply_of, report_of};
 ghost use Rattle.exact_cover.specs.Problem.{problem_of};
 ghost use Rattle.statement.specs.Calls.{operands};
 ghost use Rattle.history.specs.Histories.{Step};
@@ -13,7 +13,7 @@ ghost use Rattle.history.specs.Script.{call_of, request_entry, request_at, call_
 ghost use Rattle.history.specs.Parts.{marked, noted, Stored};
 
 use itemset::Items;
-use statement::{Call, Outcome, Report};
+use statement::{Call, Refusal, Report};
 
 // The words of one call in a script: see `call_of`.
 #[derive(Clone, Copy)]
@@ -29,11 +29,7 @@ pub struct Request {
 fn clear(t: &mut [u32])
     ensures { t.new ≡ replicate (length t.old) 0 }
 {
-    let mut i: usize = 0;
-    while i < t.len() {
-        t[i] = 0;
-        i += 1;
-    }
+    t.fill(0);
 }
 
 // The number of branch nodes; 0 where there is no word 0.
@@ -150,22 +146,14 @@ fn call_of(kind: u64, x: Items, y: u32) -> Call
         return Call::Cover { d: x, limit: y };
     }
     let a = x.w0 as u32;
-    if kind == 1 {
-        return Call::Either { a: a, b: y };
+    match kind {
+        1 => Call::Either { a, b: y },
+        2 => Call::Both { a, b: y },
+        3 => Call::Only { a, b: y },
+        4 => Call::With { a, p: y },
+        5 => Call::Without { a, p: y },
+        _ => Call::Join { a, b: y },
     }
-    if kind == 2 {
-        return Call::Both { a: a, b: y };
-    }
-    if kind == 3 {
-        return Call::Only { a: a, b: y };
-    }
-    if kind == 4 {
-        return Call::With { a: a, p: y };
-    }
-    if kind == 5 {
-        return Call::Without { a: a, p: y };
-    }
-    Call::Join { a: a, b: y }
 }
 
 // Call i of the script, on as many working words as it asks.
@@ -180,7 +168,7 @@ fn call(
 ) -> Report
     requires i_in_bounds { i < length script.now / 7 }
     requires i_value { possible (length work.old) (request_at script.now i) ≡ true }
-    ensures { Step (problem_of packages.now (value optional) order.now) t.old (call_at script.now i) result t.new }
+    ensures { Step (problem_of packages.now (value optional) order.now) t.old (call_at script.now i) (report_of result) t.new }
 {
     let q = asked(script, i);
     let words = q.words as usize;
@@ -197,37 +185,33 @@ fn call(
 }
 
 // The word of an outcome.
-fn outcome_word(o: Outcome) -> u64
-    ensures { outcome_of result ≡ o }
+fn outcome_word(outcome: Result<u32, Refusal>) -> u64
+    ensures { outcome_of result ≡ reply_of outcome }
 {
-    match o {
-        Outcome::Answer(a) => a as u64,
-        Outcome::Refused(n) => n as u64 + 4294967296,
+    match outcome {
+        Ok(answer) => answer as u64,
+        Err(refusal) => refusal.number() as u64 + 4294967296,
     }
 }
 
 // The report of call i is written to its three words.
 fn store(out: &mut [u64], i: usize, r: Report)
     requires { i < length out.old / 3 }
-    ensures { Stored out.old i r out.new }
+    ensures { Stored out.old i (report_of r) out.new }
 {
     let at = 3 * i;
-    let o = r.outcome;
-    out[at] = outcome_word(o);
+    out[at] = outcome_word(r.outcome);
     out[at + 1] = r.steps as u64;
     out[at + 2] = r.made as u64;
 }
 
 // An answer is marked as given.
-fn mark(given: &mut [u8; 65536], o: Outcome)
-    requires { (a : ℕ) → outcome_reply o ≡ gives a → a < 65536 }
-    ensures { given.new ≡ noted (outcome_reply o) given.old }
+fn mark(given: &mut [u8; 65536], outcome: Result<u32, Refusal>)
+    requires { (a : ℕ) → reply_of outcome ≡ gives a → a < 65536 }
+    ensures { given.new ≡ noted (reply_of outcome) given.old }
 {
-    match o {
-        Outcome::Answer(a) => {
-            given[base::wide(a)] = 1;
-        }
-        Outcome::Refused(_) => {}
+    if let Ok(answer) = outcome {
+        given[answer as usize] = 1;
     }
 }
 
@@ -261,9 +245,8 @@ pub fn run(
     let mut i: usize = 0;
     while ready(script, places, room, i, &given, t) {
         let r = call(packages, optional, order, t, work, script, i);
-        let o = r.outcome;
         store(out, i, r);
-        mark(&mut given, o);
+        mark(&mut given, r.outcome);
         i += 1;
     }
     i

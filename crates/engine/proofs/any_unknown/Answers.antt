@@ -4,11 +4,11 @@ use mathlib.Core.Path.{refl, sym}
 use native.Mathlib.Omega.{arith}
 use Rattle.engine.proofs.any_unknown.Goals as goal
 
-pub returns-then-n-wide : goal.returns-then-n-wide
-returns-then-n-wide c = sym (passed_found c.loop-j.j c.loop-j.invariant c.loop-j-test.true refl (answer-unknown _ _ (omega (arith, c.wide-n.ensures, c.wide.ensures, c.if-n-wide.true))))
+pub returns-then-n-answer : goal.returns-then-n-answer
+returns-then-n-answer c = sym (passed_found c.loop-answer.answer-index c.loop-answer.invariant c.loop-answer-test.true refl (answer-unknown _ _ (omega (arith, c.if-n-answer.true))))
 
-pub loop-j-preserved : goal.loop-j-preserved
-loop-j-preserved c = passed_more c.loop-j.j c.loop-j.invariant c.loop-j-test.true refl (answer-known _ _ (omega (arith, c.wide-n.ensures, c.wide.ensures, c.if-n-wide.false)))
+pub loop-answer-preserved : goal.loop-answer-preserved
+loop-answer-preserved c = passed_more c.loop-answer.answer-index c.loop-answer.invariant c.loop-answer-test.true refl (answer-known _ _ (omega (arith, c.if-n-answer.false)))
 
 pub returns : goal.returns
-returns c = sym (passed_all c.loop-j.j c.loop-j.invariant c.loop-j-test.false)
+returns c = sym (passed_all c.loop-answer.answer-index c.loop-answer.invariant c.loop-answer-test.false)

@@ -1,7 +1,5 @@
-use Rattle.statement.specs.Replies.{outcome_reply}
-use native.Mathlib.Omega.{arith}
-use mathlib.Core.Path.{ap}
+use mathlib.Core.Path.{refl}
 use Rattle.history.proofs.mark.Goals as goal
 
-pub bounds-given-wide : goal.bounds-given-wide
-bounds-given-wide c = omega (arith, c.wide.ensures, c.requires _ (ap outcome_reply c.in-Answer.is))
+pub bounds-given-answer : goal.bounds-given-answer
+bounds-given-answer c = let low = rw c.in-Ok.is at c.requires in low _ refl

@@ -1,3 +1,4 @@
+use Rattle.statement.specs.Replies.{report_of}
 use Rattle.history.specs.Script.{call_at}
 use Rattle.history.proofs.Contract.{answer-below}
 use Rattle.history.proofs.Requests.{may_run}
@@ -27,13 +28,17 @@ store-requires c = let k = may_run _ _ _ _ _ (sym c.ready.ensures ∙
     c.loop-optional-test.true) in rw c.loop-optional.invariant.0.wide k.placed
 
 pub mark-requires : goal.mark-requires
-mark-requires c = answer-below (problem_of c.args.packages.now (value c.args.optional) c.args.order.now) c.loop-optional.t (call_at c.args.script.now c.loop-optional.i) c.call-r.result c.call-r.new.t c.call-r.ensures
+mark-requires c = answer-below (problem_of c.args.packages.now (value c.args.optional) c.args.order.now) c.loop-optional.t
+    (call_at c.args.script.now c.loop-optional.i) (report_of c.call-r.result) c.call-r.new.t c.call-r.ensures
 
 pub loop-optional-smaller : goal.loop-optional-smaller
 loop-optional-smaller c = let k = may_run _ _ _ _ _ (sym c.ready.ensures ∙ c.loop-optional-test.true) in omega (arith, k.placed)
 
 pub loop-optional-preserved : goal.loop-optional-preserved
-loop-optional-preserved c = (running_next c.loop-optional.invariant.0 (sym c.ready.ensures ∙ c.loop-optional-test.true) c.call-r.ensures c.store.ensures c.mark.ensures, c.call-r.auto.work ∙ c.loop-optional.invariant.1)
+loop-optional-preserved c = (
+  running_next c.loop-optional.invariant.0 (sym c.ready.ensures ∙ c.loop-optional-test.true) c.call-r.ensures c.store.ensures c.mark.ensures,
+  c.call-r.auto.work ∙ c.loop-optional.invariant.1,
+)
 
 pub returns : goal.returns
 returns c = ran c.loop-optional.invariant.0 _ (ap length c.clear.ensures ∙ length-replicate _ _)
