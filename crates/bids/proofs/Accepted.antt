@@ -3,6 +3,7 @@ use mathlib.Core.Path.{◌≡◌, refl, sym, ◌∙◌}
 use mathlib.Core.Bool.{true, false, not}
 use mathlib.Core.List.{List}
 use Prim.Native.Nat.{ℕ, ◌+◌, ◌-◌, ◌≤◌}
+use native.Mathlib.Omega.{arith}
 use borrow.Author.Tests.{le-ltb, eq-eqb, ne_eqb, ltb-false, eqb-true, not-false}
 use lib.Dec.{eqb}
 use lib.ListN.{length, take}
@@ -14,6 +15,7 @@ use Rattle.bids.specs.Format.{markb, file_length, contents, cut, unmarked, other
 use Rattle.bids.specs.Format as F
 use Rattle.bids.specs.Contract.{Legible, Sized}
 use Rattle.bids.specs.declared.Layout.{Layout}
+use Rattle.bids.proofs.Places.{header_before, school_before}
 use Rattle.bids.proofs.Refused.{header_passed, small_size, whole_length}
 
 pub record Accepted (L : Layout) (b : List ℕ) : Type 0 where
@@ -88,6 +90,16 @@ module _ (L : Layout) (b : List ℕ) (z : refusal L b ≡ 0) where
   accepted_sized l e f g =
       let a = accepted z in
       rw (e, f, g) (record { legible = l; long = a.long; items = a.items; few = a.few; counts = (refl, (refl, refl)) })
+
+  -- it has its header, and at most 64 schools
+  pub header_inside : Legible L → L.header ≤ length b
+  header_inside l =
+      let s = F.schools b in
+      let n = F.packages b in
+      omega (arith, (accepted_sized l refl refl refl).long, header_before L s, school_before L s n)
+
+  pub schools_few : {s : ℕ} → s ≡ F.schools b → s ≤ 64
+  schools_few e = omega (arith, (accepted z).items)
 
   pub accepted_optional : stray_optional (contents L b) ≡ false
   accepted_optional = optional-inside (contents L b) (accepted z).sensible

@@ -14,7 +14,7 @@ use Rattle.itemset.specs.Words.{value, sets_of}
 use Rattle.exact_cover.specs.Problem.{problem_of, up_to}
 use Rattle.statement.specs.declared.Call.{Call}
 use Rattle.statement.specs.declared.Call.TheVariants.{Cover, Either, Both, Only, With, Without, Join}
-use Rattle.statement.specs.Replies.{Reply, says, says_only, soundness_reply, count_reply, measure_reply, pick_reply, place_reply, cheapest_reply, closest_reply, outcome_reply, withdraw_reply}
+use Rattle.statement.specs.Replies.{Reply, says, says_only, reply_of, cheapest_reply, closest_reply}
 use Rattle.statement.proofs.Sayable.{Sayable, call_numbers, never_said, fit_sayable, reordered_sayable}
 use Rattle.engine.proofs.check.Kinds as check
 use Rattle.engine.proofs.check.Reads as check-reads
@@ -119,27 +119,27 @@ call-apart (Join a b) = (refl, refl)
 
 module _ {L : Layout} {b : List ℕ} where
   pub check_spares : (κs : Lfts 3) (a : Dens κs check.ps) (r : (res_t check.r κs).Denot) (e : AtExit (ended_of 3 check.ps check.r) κs) → check-reads.Learnt κs a r e
-      → LentOf L b a.0 a.1.0.now (value a.1.1.0) → Spares (4 ∷ []) a.0 a.1.1.1.0.now (soundness_reply r)
+      → LentOf L b a.0 a.1.0.now (value a.1.1.0) → Spares (4 ∷ []) a.0 a.1.1.1.0.now (reply_of r)
   unfolding any
   check_spares κs a r e p l = spares l _ _ (λ front s. s.check _ _ p) refl refl
 
   pub count_spares : (κs : Lfts 4) (a : Dens κs count.ps) (r : (res_t count.r κs).Denot) (e : AtExit (ended_of 4 count.ps count.r) κs) → count-reads.Learnt κs a r e
-      → LentOf L b a.0 a.1.0.now (value a.1.1.0) → Spares (4 ∷ 5 ∷ 8 ∷ 11 ∷ []) a.0 a.1.1.1.0.now (count_reply r)
+      → LentOf L b a.0 a.1.0.now (value a.1.1.0) → Spares (4 ∷ 5 ∷ 8 ∷ 11 ∷ []) a.0 a.1.1.1.0.now (reply_of r)
   unfolding any
   count_spares κs a r e p l = spares l _ _ (λ front s. s.count _ _ _ _ p) refl refl
 
   pub measure_spares : (κs : Lfts 4) (a : Dens κs measure.ps) (r : (res_t measure.r κs).Denot) (e : AtExit (ended_of 4 measure.ps measure.r) κs) → measure-reads.Learnt κs a r e
-      → LentOf L b a.0 a.1.0.now (value a.1.1.0) → Spares (4 ∷ 5 ∷ 8 ∷ 11 ∷ 12 ∷ []) a.0 a.1.1.1.0.now (measure_reply r)
+      → LentOf L b a.0 a.1.0.now (value a.1.1.0) → Spares (4 ∷ 5 ∷ 8 ∷ 11 ∷ 12 ∷ []) a.0 a.1.1.1.0.now (reply_of r)
   unfolding any
   measure_spares κs a r e p l = spares l _ _ (λ front s. s.measure _ _ _ _ _ p) refl refl
 
   pub pick_spares : (κs : Lfts 5) (a : Dens κs pick.ps) (r : (res_t pick.r κs).Denot) (e : AtExit (ended_of 5 pick.ps pick.r) κs) → pick-reads.Learnt κs a r e
-      → LentOf L b a.0 a.1.0.now (value a.1.1.0) → Spares (4 ∷ 5 ∷ 8 ∷ 11 ∷ 12 ∷ 15 ∷ []) a.0 a.1.1.1.0.now (pick_reply r)
+      → LentOf L b a.0 a.1.0.now (value a.1.1.0) → Spares (4 ∷ 5 ∷ 8 ∷ 11 ∷ 12 ∷ 15 ∷ []) a.0 a.1.1.1.0.now (reply_of r)
   unfolding any
   pick_spares κs a r e p l = spares l _ _ (λ front s. s.pick _ _ _ _ _ _ _ p) refl refl
 
   pub place_spares : (κs : Lfts 5) (a : Dens κs place.ps) (r : (res_t place.r κs).Denot) (e : AtExit (ended_of 5 place.ps place.r) κs) → place-reads.Learnt κs a r e
-      → LentOf L b a.0 a.1.0.now (value a.1.1.0) → Spares (4 ∷ 5 ∷ 6 ∷ 8 ∷ 11 ∷ 14 ∷ []) a.0 a.1.1.1.0.now (place_reply r)
+      → LentOf L b a.0 a.1.0.now (value a.1.1.0) → Spares (4 ∷ 5 ∷ 6 ∷ 8 ∷ 11 ∷ 14 ∷ []) a.0 a.1.1.1.0.now (reply_of r)
   unfolding any
   place_spares κs a r e p l = spares l _ _ (λ front s. s.place _ _ _ _ _ p) refl refl
 
@@ -154,46 +154,46 @@ module _ {L : Layout} {b : List ℕ} where
   closest_spares κs a r e p l = spares l _ _ (λ front s. s.closest _ _ _ _ _ _ _ p) refl refl
 
   pub cover_spares : (κs : Lfts 4) (a : Dens κs cover.ps) (r : (res_t cover.r κs).Denot) (e : AtExit (ended_of 4 cover.ps cover.r) κs) → cover-reads.Learnt κs a r e
-      → LentOf L b a.0 a.1.0.now (value a.1.1.0) → Spares (4 ∷ 7 ∷ 8 ∷ 9 ∷ 10 ∷ []) a.0 a.1.1.1.0.now (outcome_reply r.outcome)
+      → LentOf L b a.0 a.1.0.now (value a.1.1.0) → Spares (4 ∷ 7 ∷ 8 ∷ 9 ∷ 10 ∷ []) a.0 a.1.1.1.0.now (reply_of r.outcome)
   unfolding any
   cover_spares κs a r e p l = spares l _ _ (λ front s. s.cover _ _ _ _ _ _ p) refl refl
 
   pub either_spares : (κs : Lfts 4) (a : Dens κs either.ps) (r : (res_t either.r κs).Denot) (e : AtExit (ended_of 4 either.ps either.r) κs) → either-reads.Learnt κs a r e
-      → LentOf L b a.0 a.1.0.now (value a.1.1.0) → Spares (4 ∷ 5 ∷ 8 ∷ 10 ∷ []) a.0 a.1.1.1.0.now (outcome_reply r.outcome)
+      → LentOf L b a.0 a.1.0.now (value a.1.1.0) → Spares (4 ∷ 5 ∷ 8 ∷ 10 ∷ []) a.0 a.1.1.1.0.now (reply_of r.outcome)
   unfolding any
   either_spares κs a r e p l = spares l _ _ (λ front s. s.answer _ _ _ _ _ p) refl refl
 
   pub both_spares : (κs : Lfts 4) (a : Dens κs both.ps) (r : (res_t both.r κs).Denot) (e : AtExit (ended_of 4 both.ps both.r) κs) → both-reads.Learnt κs a r e
-      → LentOf L b a.0 a.1.0.now (value a.1.1.0) → Spares (4 ∷ 5 ∷ 8 ∷ 10 ∷ []) a.0 a.1.1.1.0.now (outcome_reply r.outcome)
+      → LentOf L b a.0 a.1.0.now (value a.1.1.0) → Spares (4 ∷ 5 ∷ 8 ∷ 10 ∷ []) a.0 a.1.1.1.0.now (reply_of r.outcome)
   unfolding any
   both_spares κs a r e p l = spares l _ _ (λ front s. s.answer _ _ _ _ _ p) refl refl
 
   pub only_spares : (κs : Lfts 4) (a : Dens κs only.ps) (r : (res_t only.r κs).Denot) (e : AtExit (ended_of 4 only.ps only.r) κs) → only-reads.Learnt κs a r e
-      → LentOf L b a.0 a.1.0.now (value a.1.1.0) → Spares (4 ∷ 5 ∷ 8 ∷ 10 ∷ []) a.0 a.1.1.1.0.now (outcome_reply r.outcome)
+      → LentOf L b a.0 a.1.0.now (value a.1.1.0) → Spares (4 ∷ 5 ∷ 8 ∷ 10 ∷ []) a.0 a.1.1.1.0.now (reply_of r.outcome)
   unfolding any
   only_spares κs a r e p l = spares l _ _ (λ front s. s.answer _ _ _ _ _ p) refl refl
 
   pub with_spares : (κs : Lfts 4) (a : Dens κs with.ps) (r : (res_t with.r κs).Denot) (e : AtExit (ended_of 4 with.ps with.r) κs) → with-reads.Learnt κs a r e
-      → LentOf L b a.0 a.1.0.now (value a.1.1.0) → Spares (4 ∷ 5 ∷ 6 ∷ 8 ∷ 10 ∷ []) a.0 a.1.1.1.0.now (outcome_reply r.outcome)
+      → LentOf L b a.0 a.1.0.now (value a.1.1.0) → Spares (4 ∷ 5 ∷ 6 ∷ 8 ∷ 10 ∷ []) a.0 a.1.1.1.0.now (reply_of r.outcome)
   unfolding any
   with_spares κs a r e p l = spares l _ _ (λ front s. s.answer _ _ _ _ _ p) refl refl
 
   pub without_spares : (κs : Lfts 4) (a : Dens κs without.ps) (r : (res_t without.r κs).Denot) (e : AtExit (ended_of 4 without.ps without.r) κs) → without-reads.Learnt κs a r e
-      → LentOf L b a.0 a.1.0.now (value a.1.1.0) → Spares (4 ∷ 5 ∷ 6 ∷ 8 ∷ 10 ∷ []) a.0 a.1.1.1.0.now (outcome_reply r.outcome)
+      → LentOf L b a.0 a.1.0.now (value a.1.1.0) → Spares (4 ∷ 5 ∷ 6 ∷ 8 ∷ 10 ∷ []) a.0 a.1.1.1.0.now (reply_of r.outcome)
   unfolding any
   without_spares κs a r e p l = spares l _ _ (λ front s. s.answer _ _ _ _ _ p) refl refl
 
   pub join_spares : (κs : Lfts 4) (a : Dens κs join.ps) (r : (res_t join.r κs).Denot) (e : AtExit (ended_of 4 join.ps join.r) κs) → join-reads.Learnt κs a r e
-      → LentOf L b a.0 a.1.0.now (value a.1.1.0) → Spares (4 ∷ 5 ∷ 35 ∷ 8 ∷ 10 ∷ []) a.0 a.1.1.1.0.now (outcome_reply r.outcome)
+      → LentOf L b a.0 a.1.0.now (value a.1.1.0) → Spares (4 ∷ 5 ∷ 35 ∷ 8 ∷ 10 ∷ []) a.0 a.1.1.1.0.now (reply_of r.outcome)
   unfolding any
   join_spares κs a r e p l = spares l _ _ (λ front s. s.answer _ _ _ _ _ p) refl refl
 
   -- the calls that make an answer as one, where the call is lent as data
   pub answer_spares : (κs : Lfts 4) (a : Dens κs answer.ps) (r : (res_t answer.r κs).Denot) (e : AtExit (ended_of 4 answer.ps answer.r) κs) → answer-reads.Learnt κs a r e
-      → LentOf L b a.0 a.1.0.now (value a.1.1.0) → Spares (call_numbers a.1.1.1.1.1.0) a.0 a.1.1.1.0.now (outcome_reply r.outcome)
+      → LentOf L b a.0 a.1.0.now (value a.1.1.0) → Spares (call_numbers a.1.1.1.1.1.0) a.0 a.1.1.1.0.now (reply_of r.outcome)
   answer_spares κs a r e p l = let d = call-apart a.1.1.1.1.1.0 in spares l _ _ (λ front s. s.answer _ _ _ _ _ p) d.0 d.1
 
   pub withdraw_spares : (κs : Lfts 6) (a : Dens κs withdraw.ps) (r : (res_t withdraw.r κs).Denot) (e : AtExit (ended_of 6 withdraw.ps withdraw.r) κs) → withdraw-reads.Learnt κs a r e
-      → LentOf L b a.0 a.1.0.now (value a.1.1.0) → Spares (4 ∷ 5 ∷ 36 ∷ 8 ∷ []) a.0 a.1.1.1.0.now (withdraw_reply r)
+      → LentOf L b a.0 a.1.0.now (value a.1.1.0) → Spares (4 ∷ 5 ∷ 36 ∷ 8 ∷ []) a.0 a.1.1.1.0.now (reply_of r)
   unfolding any
   withdraw_spares κs a r e p l = spares l _ _ (λ front s. s.withdraw _ _ _ _ _ _ _ p) refl refl

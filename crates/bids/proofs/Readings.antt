@@ -9,17 +9,14 @@ use native.Mathlib.Omega.{arith}
 use lib.Dec.{ltb}
 use lib.ListN.{length, take}
 use Rattle.base.specs.Lists.{any}
-use Rattle.itemset.specs.Words.{value, spread}
-use Rattle.itemset.specs.declared.Items.{Items}
-use Rattle.statement.specs.Replies.{reply, says_only}
+use Rattle.itemset.specs.Words.{spread}
+use Rattle.statement.specs.Replies.{Reply, gives, reply, says_only}
 use Rattle.statement.proofs.Sayable.{among_said, first_said, behind-said, one_fewer}
 use Rattle.statement.proofs.TestLaws.{was_given, page_holds}
 use Rattle.bids.specs.Contents.{packages_of, costs_of, optional_of}
 use Rattle.bids.specs.Format.{version1, schools, slots, packages, contents, cut, header_tests, record_tests, refusal}
-use Rattle.bids.specs.Contract.{ReadPost, read_refusal, read_gives, read_reply}
+use Rattle.bids.specs.Contract.{ReadPost, read_refusal, read_gives}
 use Rattle.bids.specs.declared.Layout.{Layout}
-use Rattle.bids.specs.declared.Reading.{Reading}
-use Rattle.bids.specs.declared.Reading.TheVariants.{Accepted}
 use Rattle.bids.proofs.Answers.{by_file}
 use Rattle.bids.proofs.Packed.{packed_long, count-costs, never_31}
 
@@ -39,9 +36,9 @@ file_accepted L b p c z =
     ⊎_elim (λ (y : refusal L b ≡ 0). y) (λ (l : 0 < refusal L b). absurd (omega (arith, l, z, by_file L b p c refl (λ y. omega (arith, l, y)))))
     (eq-zero-or-pos (refusal L b))
 
-pub delivered : {L : Layout} {b : List ℕ} {s t n : ℕ} {o : Items} {p p' c c' : List ℕ} → ReadPost L b (Accepted s t n o) p p' c c' → Delivered L b s t n (value o) p' c'
+pub delivered : {L : Layout} {b : List ℕ} {s t n o : ℕ} {p p' c c' : List ℕ} → ReadPost L b (gives (s, (t, (n, o)))) p p' c c' → Delivered L b s t n o p' c'
 delivered {L} {b} {s} {t} {n} {o} {p} {p'} {c} R =
-    let q = was_given (s, (t, (n, value o))) (read_refusal L b (length p) (length c)) (read_gives L b) R.answer in
+    let q = was_given (s, (t, (n, o))) (read_refusal L b (length p) (length c)) (read_gives L b) R.answer in
     let en : n ≡ packages b = ap (λ (v : ℕ × (ℕ × (ℕ × ℕ))). v.1.1.0) q.1 in
     record {
       accepted = file_accepted L b (length p) (length c) q.0;
@@ -62,8 +59,8 @@ unfolding any read_refusal
 read-says L b p c ns e =
     first_said (refusal L b) (15 ∷ ns) ((ltb p (3 * packages b) || ltb c (packages b), 15) ∷ []) (read_gives L b) (behind-said (15 ∷ []) ns _ e) refl
 
-pub read-numbers : {L : Layout} {b : List ℕ} {r : Reading} {p p' c c' : List ℕ} → ReadPost L b r p p' c c'
-    → says_only (15 ∷ 20 ∷ 21 ∷ 22 ∷ 24 ∷ 23 ∷ 31 ∷ 25 ∷ 26 ∷ 27 ∷ []) (read_reply r) ≡ true
+pub read-numbers : {L : Layout} {b : List ℕ} {r : Reply (ℕ × (ℕ × (ℕ × ℕ)))} {p p' c c' : List ℕ} → ReadPost L b r p p' c c'
+    → says_only (15 ∷ 20 ∷ 21 ∷ 22 ∷ 24 ∷ 23 ∷ 31 ∷ 25 ∷ 26 ∷ 27 ∷ []) r ≡ true
 unfolding any refusal
 read-numbers {L} {b} {p = p} {c = c} R =
     ap (says_only _) R.answer
@@ -76,6 +73,6 @@ version1-says b v =
     one_fewer 31 _ (refusal version1 b) v (never_31 b)
     (among_said (31 ∷ 20 ∷ 21 ∷ 22 ∷ 24 ∷ 23 ∷ 25 ∷ 26 ∷ 27 ∷ []) ((cut b, 20) ∷ (header_tests version1 b ++ record_tests version1 b)) v refl)
 
-pub read1_numbers : {b : List ℕ} {r : Reading} {p p' c c' : List ℕ} → ReadPost version1 b r p p' c c'
-    → says_only (15 ∷ 20 ∷ 21 ∷ 22 ∷ 24 ∷ 23 ∷ 25 ∷ 26 ∷ 27 ∷ []) (read_reply r) ≡ true
+pub read1_numbers : {b : List ℕ} {r : Reply (ℕ × (ℕ × (ℕ × ℕ)))} {p p' c c' : List ℕ} → ReadPost version1 b r p p' c c'
+    → says_only (15 ∷ 20 ∷ 21 ∷ 22 ∷ 24 ∷ 23 ∷ 25 ∷ 26 ∷ 27 ∷ []) r ≡ true
 read1_numbers {b} {p = p} {c = c} R = ap (says_only _) R.answer ∙ read-says version1 b (length p) (length c) _ (version1-says b (read_gives version1 b))

@@ -1,7 +1,7 @@
 -- How the refusal is read off the list of tests, in the code's order. Assumes nothing.
-use mathlib.Core.Path.{◌≡◌, refl, sym, ◌∙◌}
+use mathlib.Core.Path.{◌≡◌, refl, sym, ap, ◌∙◌}
 use mathlib.Core.Bool.{Bool, true, false, not}
-use mathlib.Core.List.{List, [], ◌++◌}
+use mathlib.Core.List.{List, [], ◌∷◌, ◌++◌}
 use Prim.Native.Nat.{ℕ, ◌+◌, ◌-◌, ◌<◌, ◌≤◌}
 use native.Mathlib.Omega.{arith}
 use borrow.Author.Tests.{lt-ltb, le-ltb, eq-eqb, ne_eqb, ltb-false, eqb-true, not-false}
@@ -12,9 +12,9 @@ use Rattle.itemset.specs.Items.{belowb}
 use Rattle.statement.specs.Refusals.{first_of}
 use Rattle.statement.proofs.FirstOf.{pass, hit, passed, front}
 use Rattle.bids.specs.Bytes.{number_at, fnv}
-use Rattle.bids.specs.Contents.{stray_optional}
+use Rattle.bids.specs.Contents.{stray_optional, school_twice, stray, package_twice}
 use Rattle.bids.specs.Format.{unmarked, other_version, version, schools, slots, packages, file_length, optional_slots, contents, cut, oversize, wrong_length, wrong_check}
-use Rattle.bids.specs.Format.{header_tests, record_tests, refusal}
+use Rattle.bids.specs.Format.{header_tests, content_tests, record_tests, refusal, schools_in, packages_in}
 use Rattle.bids.specs.Contract.{Legible, HeaderPost, Sized}
 use Rattle.bids.specs.declared.Layout.{Layout}
 use Rattle.bids.specs.declared.Header.{Header}
@@ -113,12 +113,49 @@ module _ {b : List ℕ} {h : Header} (p : HeaderPost b h) where
     unfolding wrong_length
     same_length e f = rw (eq-eqb (length b) (file_length L (schools b) (packages b)) (f ∙ asked e))
 
+    -- what is left to test, one test passed after the other
+    pub after_mark : not h.marked ≡ false → first_of (header_tests L b) ≡ first_of ((other_version L b, 22) ∷ (oversize b, 24) ∷ (wrong_length L b, 20) ∷ [])
+    after_mark e = pass 21 _ (mark_test ∙ e)
+
+    pub after_version : not h.marked ≡ false → h.version ≡ L.version → first_of (header_tests L b) ≡ first_of ((oversize b, 24) ∷ (wrong_length L b, 20) ∷ [])
+    after_version e f = after_mark e ∙ pass 22 _ (same_version f)
+
+    pub after_size : not h.marked ≡ false → h.version ≡ L.version → h.schools + h.slots ≤ 64 → h.packages ≤ 512
+        → first_of (header_tests L b) ≡ first_of ((wrong_length L b, 20) ∷ [])
+    after_size e f q r = after_version e f ∙ pass 24 _ (few q r)
+
 -- ---- the tests of the check and the records
 
-pub check-of : (b : List ℕ) {x y n : ℕ} → n ≡ length b - 4 → x ≡ fnv (take n b) → y ≡ number_at b n 4 → wrong_check b ≡ not (eqb x y)
-unfolding wrong_check
-check-of b e f g = rw (f, g, e)
+module _ (L : Layout) (b : List ℕ) where
+  -- the stored check is y, that of the bytes x
+  module _ {x y n : ℕ} (e : n ≡ length b - 4) (f : x ≡ fnv (take n b)) (g : y ≡ number_at b n 4) where
+    check-of : wrong_check b ≡ not (eqb x y)
+    unfolding wrong_check
+    check-of = rw (f, g, e)
 
-pub optional-of : (L : Layout) (b : List ℕ) {o t : ℕ} {r : Bool} → o ≡ optional_slots L b → t ≡ slots b → r ≡ belowb o t → stray_optional (contents L b) ≡ not r
-unfolding stray_optional
-optional-of L b e f g = rw (← e, ← f, ← g)
+    pub check_wrong : (x ≡ y → ⊥) → wrong_check b ≡ true
+    check_wrong h = check-of ∙ ap not (ne_eqb x y h)
+
+    pub check_right : x ≡ y → wrong_check b ≡ false
+    check_right h = check-of ∙ ap not (eq-eqb x y h)
+
+  pub optional-of : {o t : ℕ} {r k : Bool} → o ≡ optional_slots L b → t ≡ slots b → r ≡ belowb o t → not r ≡ k → stray_optional (contents L b) ≡ k
+  unfolding stray_optional
+  optional-of e f g h = rw (← e, ← f, ← g) h
+
+  -- what is left to test, one test passed after the other
+  module _ (e1 : wrong_check b ≡ false) where
+    pub after_check : first_of (record_tests L b) ≡ first_of (content_tests (contents L b))
+    after_check = pass 23 _ e1
+
+    module _ (e2 : stray_optional (contents L b) ≡ false) where
+      pub after_optional : first_of (record_tests L b)
+          ≡ first_of ((school_twice (schools_in L b), 25) ∷ (stray (contents L b), 26) ∷ (package_twice (packages_in L b), 27) ∷ [])
+      after_optional = after_check ∙ pass 31 _ e2
+
+      module _ {r : Bool} (f : r ≡ school_twice (schools_in L b)) (e3 : r ≡ false) where
+        pub after_schools : first_of (record_tests L b) ≡ first_of ((stray (contents L b), 26) ∷ (package_twice (packages_in L b), 27) ∷ [])
+        after_schools = after_optional ∙ pass 25 _ (sym f ∙ e3)
+
+        pub after_stray : {s : Bool} → s ≡ stray (contents L b) → s ≡ false → first_of (record_tests L b) ≡ first_of ((package_twice (packages_in L b), 27) ∷ [])
+        after_stray g e4 = after_schools ∙ pass 26 _ (sym g ∙ e4)

@@ -1,18 +1,18 @@
 -- What the functions of bids promise. Assumes nothing.
-use Rattle.std.specs.Prelude.{◌≡◌, not, ◌||◌, List, [], ◌∷◌, ℕ, ◌+◌, ◌*◌, ◌^◌, ◌<◌, ◌≤◌, eqb, ltb, length}
+use Rattle.std.specs.Prelude.{◌≡◌, not, ◌||◌, List, [], ◌∷◌, ℕ, ◌+◌, ◌*◌, ◌^◌, ◌<◌, ◌≤◌, eqb, ltb, length, Result, Ok, Err}
 use Rattle.itemset.specs.Words.{value, spread}
 use Rattle.statement.specs.Refusals.{first_of}
-use Rattle.statement.specs.Replies.{Reply, refused, gives, reply}
+use Rattle.statement.specs.declared.Refusal.{Refusal}
+use Rattle.statement.specs.Replies.{Reply, refused, gives, reply, number_of}
 use Rattle.statement.specs.Postconditions.{written}
 use Rattle.bids.specs.Contents.{packages_of, costs_of, optional_of, items_of, school_in, nth_package}
 use Rattle.bids.specs.Format.{markb, file_length, school_at, package_at, contents, refusal, schools_in, packages_in}
 use Rattle.bids.specs.Format as F
 use Rattle.bids.specs.declared.Layout.{Layout}
 use Rattle.bids.specs.declared.Header.{Header}
-use Rattle.bids.specs.declared.SchoolRecord.{SchoolRecord}
-use Rattle.bids.specs.declared.PackageRecord.{PackageRecord}
-use Rattle.bids.specs.declared.Reading.{Reading}
-use Rattle.bids.specs.declared.Reading.TheVariants.{Accepted, Refused}
+use Rattle.bids.specs.declared.School.{School}
+use Rattle.bids.specs.declared.Package.{Package}
+use Rattle.bids.specs.declared.Bids.{Bids}
 
 -- ---- the layout and the cursor
 
@@ -36,15 +36,15 @@ pub record HeaderPost (b : List ℕ) (h : Header) : Type 0 where
   pub packages : h.packages ≡ F.packages b
   pub small : (h.schools < 256) × ((h.slots < 256) × (h.packages < 65536))
 
--- the school record at the place `at`, and the package record
-pub record SchoolPost (L : Layout) (b : List ℕ) (at : ℕ) (r : SchoolRecord) : Type 0 where
-  pub school : r.school ≡ school_at L b at
-  pub next : r.next.at ≡ at + (L.site + 1)
+-- the school record at the place `at`, and the package record: its school u, its package p, and n is the place past it
+pub record SchoolPost (L : Layout) (b : List ℕ) (at : ℕ) (u : School) (n : ℕ) : Type 0 where
+  pub school : u ≡ school_at L b at
+  pub next : n ≡ at + (L.site + 1)
 
-pub record PackagePost (L : Layout) (b : List ℕ) (at : ℕ) (r : PackageRecord) : Type 0 where
-  pub bid : r.bid ≡ package_at L b at
-  pub small : r.bid.cost < 65536
-  pub next : r.next.at ≡ at + (L.site + 11)
+pub record PackagePost (L : Layout) (b : List ℕ) (at : ℕ) (p : Package) (n : ℕ) : Type 0 where
+  pub bid : p ≡ package_at L b at
+  pub small : p.cost < 65536
+  pub next : n ≡ at + (L.site + 11)
 
 -- ---- the steps of the reader
 
@@ -65,9 +65,9 @@ pub record Fillable (L : Layout) (b : List ℕ) (s t n : ℕ) : Type 0 where
 -- ---- the reader
 
 -- what it returns: S, T, N and the optional items, or the number of the refusal
-abbrev pub read_reply : Reading → Reply (ℕ × (ℕ × (ℕ × ℕ)))
-read_reply (Accepted s t n o) = gives (s, (t, (n, value o)))
-read_reply (Refused n) = refused n
+abbrev pub read_reply : Result Bids Refusal → Reply (ℕ × (ℕ × (ℕ × ℕ)))
+read_reply (Ok r) = gives (r.schools, (r.slots, (r.packages, value r.optional)))
+read_reply (Err e) = refused (number_of e)
 
 -- its refusal of the file b with p words for the packages, three each, and c places for the costs: the file's own, and last 15 [document 01: short page]
 -- where there is no room for N packages or for N costs
@@ -84,7 +84,7 @@ read_gives L b = (F.schools b, (F.slots b, (F.packages b, optional_of (contents 
 
 -- its answer r to the file b; p and c are the buffers before, p' and c' after: the words of the item sets and the costs stand at their start and the
 -- rest is unchanged, as all is after a refusal. The sets of these words are the item sets again (proofs/Packed)
-pub record ReadPost (L : Layout) (b : List ℕ) (r : Reading) (p p' c c' : List ℕ) : Type 0 where
-  pub answer : read_reply r ≡ reply (read_refusal L b (length p) (length c)) (read_gives L b)
+pub record ReadPost (L : Layout) (b : List ℕ) (r : Reply (ℕ × (ℕ × (ℕ × ℕ)))) (p p' c c' : List ℕ) : Type 0 where
+  pub answer : r ≡ reply (read_refusal L b (length p) (length c)) (read_gives L b)
   pub items : p' ≡ written (read_refusal L b (length p) (length c)) (spread 3 (packages_of (contents L b))) p
   pub costs : c' ≡ written (read_refusal L b (length p) (length c)) (costs_of (contents L b)) c

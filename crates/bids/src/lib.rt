@@ -1,20 +1,22 @@
 // The reader of bids files of both versions. It stands above the engine and knows its contracts only. A cursor is a place in the file; its methods return
-// what stands there and the place past it. The tests for doubles compare each record with those before it: at most 64 schools and 512 packages.
+// what stands there and move past it. The tests for doubles compare each record with those before it: at most 64 schools and 512 packages.
 // Users call `read` and `read2`; the other public functions are for the crate `conversion`, which reads files as these do.
 #![tactic(auto)]
 
-ghost use Rattle.std.specs.Prelude.{◌≡◌, ◌&&◌, ◌+◌, ◌*◌, ◌%◌, ◌^◌, ◌<◌, ◌≤◌, eqb, length, take};
+ghost use Rattle.std.specs.Prelude.{◌≡◌, ◌+◌, ◌*◌, ◌^◌, ◌<◌, ◌≤◌, length, take, IfOk};
 ghost use Rattle.itemset.specs.Words.{spread};
 ghost use Rattle.statement.specs.Refusals.{first_of};
+ghost use Rattle.statement.specs.Replies.{refusal_of};
 ghost use Rattle.statement.specs.Postconditions.{written};
 ghost use Rattle.bids.specs.Bytes.{byte_at, number_at, fnv};
-ghost use Rattle.bids.specs.Contents.{same_school, same_package, school_in, package_in, school_twice, package_twice, packages_of, costs_of};
+ghost use Rattle.bids.specs.Contents.{same_package, school_in, package_in, school_twice, package_twice, packages_of, costs_of};
 ghost use Rattle.bids.specs.Contents as C;
 ghost use Rattle.bids.specs.Format.{header_tests, record_tests, school_place, package_place, optional_slots, schools_in, packages_in, contents};
 ghost use Rattle.bids.specs.Format as F;
-ghost use Rattle.bids.specs.Contract.{Legible, FieldPost, SchoolPost, PackagePost, HeaderPost, Sized, Fillable, ReadPost};
+ghost use Rattle.bids.specs.Contract.{Legible, FieldPost, SchoolPost, PackagePost, HeaderPost, Sized, Fillable, ReadPost, read_reply};
 
 use itemset::Items;
+use statement::Refusal;
 
 // What the versions differ in: the version's number, the bytes before the first school's record, and the bytes of a site.
 #[derive(Clone, Copy)]
@@ -30,13 +32,6 @@ pub struct Cursor {
     pub at: usize,
 }
 
-// A number and the place past it.
-#[derive(Clone, Copy)]
-pub struct Field {
-    pub value: u64,
-    pub next: Cursor,
-}
-
 #[derive(Clone, Copy)]
 pub struct Header {
     pub marked: bool,
@@ -47,7 +42,7 @@ pub struct Header {
 }
 
 // A school is known by its site and its number together.
-#[derive(Clone, Copy)]
+#[derive(Clone, Copy, PartialEq, Eq)]
 pub struct School {
     pub site: u64,
     pub number: u64,
@@ -60,28 +55,13 @@ pub struct Package {
     pub cost: u64,
 }
 
+// What the reader gives of an accepted file: S, T, N and the optional items.
 #[derive(Clone, Copy)]
-pub struct SchoolRecord {
-    pub school: School,
-    pub next: Cursor,
-}
-
-#[derive(Clone, Copy)]
-pub struct PackageRecord {
-    pub bid: Package,
-    pub next: Cursor,
-}
-
-// What the reader returns: S, T, N and the optional items, or the number of the refusal.
-#[derive(Clone, Copy)]
-pub enum Reading {
-    Accepted {
-        schools: u32,
-        slots: u32,
-        packages: usize,
-        optional: Items,
-    },
-    Refused(u8),
+pub struct Bids {
+    pub schools: u32,
+    pub slots: u32,
+    pub packages: usize,
+    pub optional: Items,
 }
 
 // The layout of version 1, and that of version 2, which has a set of optional slots behind N and wider sites.
@@ -105,54 +85,35 @@ pub fn version2() -> Layout
     }
 }
 
-fn wide(x: u8) -> u64
-    ensures { (result ≡ x) × (result < 256) }
-{
-    x as u64
-}
-
-fn wide32(x: u8) -> u32
-    ensures { result ≡ x }
-{
-    x as u32
-}
-
 impl Cursor {
-    fn byte(self, file: &[u8]) -> Field
-        requires { self.at < length file.now }
-        ensures { FieldPost (byte_at file.now self.at) self.at 1 result.value result.next.at }
+    fn byte(&mut self, file: &[u8]) -> u64
+        requires { self.old.at < length file.now }
+        ensures { FieldPost (byte_at file.now self.old.at) self.old.at 1 result self.new.at }
     {
-        let at = self.at;
-        Field {
-            value: wide(file[at]),
-            next: Cursor { at: at + 1 },
-        }
+        let byte = file[self.at];
+        self.at += 1;
+        byte as u64
     }
 
     // A number of `width` bytes, the lowest first.
-    pub fn number(self, file: &[u8], width: usize) -> Field
-        requires width_in_bounds { self.at + width ≤ length file.now }
+    pub fn number(&mut self, file: &[u8], width: usize) -> u64
+        requires width_in_bounds { self.old.at + width ≤ length file.now }
         requires width_bound { width ≤ 8 }
-        ensures { FieldPost (number_at file.now self.at width) self.at width result.value result.next.at }
+        ensures { FieldPost (number_at file.now self.old.at width) self.old.at width result self.new.at }
     {
-        let at = self.at;
         let mut value: u64 = 0;
-        let mut i = width;
-        while 0 < i {
-            i -= 1;
-            value = 256 * value + wide(file[at + i]);
+        for i in (0..width).rev() {
+            value = 256 * value + file[self.at + i] as u64;
         }
-        Field {
-            value,
-            next: Cursor { at: at + width },
-        }
+        self.at += width;
+        value
     }
 
     // A site. Where the width is known in the code the compiler makes no loop of it: the tests for doubles read each site again and again.
-    fn site(self, file: &[u8], width: usize) -> Field
-        requires width_in_bounds { self.at + width ≤ length file.now }
+    fn site(&mut self, file: &[u8], width: usize) -> u64
+        requires width_in_bounds { self.old.at + width ≤ length file.now }
         requires le_width { (1 ≤ width) × (width ≤ 2) }
-        ensures { FieldPost (number_at file.now self.at width) self.at width result.value result.next.at }
+        ensures { FieldPost (number_at file.now self.old.at width) self.old.at width result self.new.at }
     {
         if width == 1 {
             return self.number(file, 1);
@@ -160,52 +121,30 @@ impl Cursor {
         self.number(file, 2)
     }
 
-    pub fn school_record(self, file: &[u8], layout: Layout) -> SchoolRecord
-        requires site_in_bounds { self.at + (layout.site + 1) ≤ length file.now }
+    pub fn school_record(&mut self, file: &[u8], layout: Layout) -> School
+        requires site_in_bounds { self.old.at + (layout.site + 1) ≤ length file.now }
         requires legible { Legible layout }
-        ensures { SchoolPost layout file.now self.at result }
+        ensures { SchoolPost layout file.now self.old.at result self.new.at }
     {
         let site = self.site(file, layout.site);
-        let second = site.next;
-        let number = second.byte(file);
-        let next = number.next;
-        SchoolRecord {
-            school: School {
-                site: site.value,
-                number: number.value,
-            },
-            next,
-        }
+        let number = self.byte(file);
+        School { site, number }
     }
 
-    pub fn package_record(self, file: &[u8], layout: Layout) -> PackageRecord
-        requires site_in_bounds { self.at + (layout.site + 11) ≤ length file.now }
+    pub fn package_record(&mut self, file: &[u8], layout: Layout) -> Package
+        requires site_in_bounds { self.old.at + (layout.site + 11) ≤ length file.now }
         requires legible { Legible layout }
-        ensures { PackagePost layout file.now self.at result }
+        ensures { PackagePost layout file.now self.old.at result self.new.at }
     {
-        let record = self.school_record(file, layout);
-        let school = record.school;
-        let third = record.next;
-        let slots = third.number(file, 8);
-        let fourth = slots.next;
-        let cost = fourth.number(file, 2);
-        let next = cost.next;
-        PackageRecord {
-            bid: Package {
-                school,
-                slots: slots.value,
-                cost: cost.value,
-            },
-            next,
+        let school = self.school_record(file, layout);
+        let slots = self.number(file, 8);
+        let cost = self.number(file, 2);
+        Package {
+            school,
+            slots,
+            cost,
         }
     }
-}
-
-// The product, with the carry out of 32 bits dropped.
-fn wrapping_mul(a: u32, b: u32) -> u32
-    ensures { result ≡ a * b % 2 ^ 32 }
-{
-    ((a as u64) * (b as u64) % 4294967296) as u32
 }
 
 // The check of the first n bytes.
@@ -214,50 +153,28 @@ pub fn check(file: &[u8], n: usize) -> u32
     ensures { result ≡ fnv (take n file.now) }
 {
     let mut h: u32 = 2166136261;
-    let mut i: usize = 0;
-    while i < n {
-        h = wrapping_mul(h ^ wide32(file[i]), 16777619);
-        i += 1;
+    for &byte in &file[..n] {
+        h = (h ^ byte as u32).wrapping_mul(16777619);
     }
     h
-}
-
-fn is_mark(a: u64, b: u64, c: u64) -> bool
-    ensures { result ≡ (eqb a 80 && (eqb b 83 && eqb c 66)) }
-{
-    if a != 80 {
-        return false;
-    }
-    if b != 83 {
-        return false;
-    }
-    c == 66
 }
 
 pub fn read_header(file: &[u8]) -> Header
     requires { 13 ≤ length file.now }
     ensures { HeaderPost file.now result }
 {
-    let start = Cursor { at: 0 };
-    let p = start.byte(file);
-    let after_p = p.next;
-    let s = after_p.byte(file);
-    let after_s = s.next;
-    let b = after_s.byte(file);
-    let after_mark = b.next;
-    let version = after_mark.number(file, 2);
-    let after_version = version.next;
-    let schools = after_version.byte(file);
-    let after_schools = schools.next;
-    let slots = after_schools.byte(file);
-    let after_slots = slots.next;
-    let packages = after_slots.number(file, 2);
+    let marked = file.starts_with(b"PSB");
+    let mut cursor = Cursor { at: 3 };
+    let version = cursor.number(file, 2);
+    let schools = cursor.byte(file);
+    let slots = cursor.byte(file);
+    let packages = cursor.number(file, 2);
     Header {
-        marked: is_mark(p.value, s.value, b.value),
-        version: version.value,
-        schools: schools.value,
-        slots: slots.value,
-        packages: packages.value,
+        marked,
+        version,
+        schools,
+        slots,
+        packages,
     }
 }
 
@@ -267,30 +184,15 @@ pub fn optional_slots(file: &[u8], layout: Layout) -> u64
     requires legible { Legible layout }
     ensures { result ≡ optional_slots layout file.now }
 {
-    let after_packages = Cursor { at: 9 };
-    let slots = after_packages.number(file, layout.header - 9);
-    slots.value
+    let mut after_packages = Cursor { at: 9 };
+    after_packages.number(file, layout.header - 9)
 }
 
-fn same_school(a: School, b: School) -> bool
-    ensures { result ≡ same_school a b }
-{
-    if a.site != b.site {
-        return false;
-    }
-    a.number == b.number
-}
-
-// The slots first: they are one word, whatever the width of a site.
+// The slots first: they are one word, whatever the width of a site. The costs are not compared.
 fn same_package(a: Package, b: Package) -> bool
     ensures { result ≡ same_package a b }
 {
-    if a.slots != b.slots {
-        return false;
-    }
-    let x = a.school;
-    let y = b.school;
-    same_school(x, y)
+    a.slots == b.slots && a.school == b.school
 }
 
 // Which of the first n schools it is, n where none of them is.
@@ -299,16 +201,12 @@ fn school_index(file: &[u8], layout: Layout, n: usize, wanted: School) -> usize
     requires legible { Legible layout }
     ensures { result ≡ school_in (schools_in layout file.now) n wanted }
 {
-    let mut c = Cursor { at: layout.header };
-    let mut j: usize = 0;
-    while j < n {
-        let record = c.school_record(file, layout);
-        let school = record.school;
-        if same_school(school, wanted) {
+    let mut cursor = Cursor { at: layout.header };
+    for j in 0..n {
+        let school = cursor.school_record(file, layout);
+        if school == wanted {
             return j;
         }
-        c = record.next;
-        j += 1;
     }
     n
 }
@@ -329,16 +227,12 @@ fn package_index(file: &[u8], layout: Layout, s: usize, n: usize, wanted: Packag
     requires s_value { (s ≡ F.schools file.now) × ((s ≤ 64) × Legible layout) }
     ensures { result ≡ package_in (packages_in layout file.now) n wanted }
 {
-    let mut c = first_package(layout, s);
-    let mut k: usize = 0;
-    while k < n {
-        let record = c.package_record(file, layout);
-        let bid = record.bid;
+    let mut cursor = first_package(layout, s);
+    for k in 0..n {
+        let bid = cursor.package_record(file, layout);
         if same_package(bid, wanted) {
             return k;
         }
-        c = record.next;
-        k += 1;
     }
     n
 }
@@ -349,17 +243,13 @@ fn school_twice(file: &[u8], layout: Layout, s: usize) -> bool
     requires s_value { (s ≡ F.schools file.now) × Legible layout }
     ensures { result ≡ school_twice (schools_in layout file.now) }
 {
-    let mut c = Cursor { at: layout.header };
-    let mut j: usize = 0;
-    while j < s {
-        let record = c.school_record(file, layout);
-        let school = record.school;
+    let mut cursor = Cursor { at: layout.header };
+    for j in 0..s {
+        let school = cursor.school_record(file, layout);
         let before = school_index(file, layout, j, school);
         if before < j {
             return true;
         }
-        c = record.next;
-        j += 1;
     }
     false
 }
@@ -369,21 +259,16 @@ fn stray(file: &[u8], layout: Layout, s: usize, t: u32, n: usize) -> bool
     requires { Sized layout file.now s t n }
     ensures { result ≡ C.stray (contents layout file.now) }
 {
-    let mut c = first_package(layout, s);
-    let mut k: usize = 0;
-    while k < n {
-        let record = c.package_record(file, layout);
-        let bid = record.bid;
-        let school = bid.school;
-        let j = school_index(file, layout, s, school);
+    let mut cursor = first_package(layout, s);
+    for _ in 0..n {
+        let bid = cursor.package_record(file, layout);
+        let j = school_index(file, layout, s, bid.school);
         if j >= s {
             return true;
         }
         if !itemset::below_word(bid.slots, t) {
             return true;
         }
-        c = record.next;
-        k += 1;
     }
     false
 }
@@ -395,17 +280,13 @@ fn package_twice(file: &[u8], layout: Layout, s: usize, n: usize) -> bool
     requires s_bound { (s ≤ 64) × Legible layout }
     ensures { result ≡ package_twice (packages_in layout file.now) }
 {
-    let mut c = first_package(layout, s);
-    let mut k: usize = 0;
-    while k < n {
-        let record = c.package_record(file, layout);
-        let bid = record.bid;
+    let mut cursor = first_package(layout, s);
+    for k in 0..n {
+        let bid = cursor.package_record(file, layout);
         let before = package_index(file, layout, s, k, bid);
         if before < k {
             return true;
         }
-        c = record.next;
-        k += 1;
     }
     false
 }
@@ -420,75 +301,74 @@ pub fn file_length(layout: Layout, s: u64, n: u64) -> u64
     header + (site + 1) * s + (site + 11) * n + 4
 }
 
-// The first refusal of a header, 0 where it has none.
-fn header_refusal(file: &[u8], layout: Layout, h: Header) -> u8
+// The first refusal of a header, if it has one.
+fn admit_header(file: &[u8], layout: Layout, h: Header) -> Result<(), Refusal>
     requires { HeaderPost file.now h × Legible layout }
-    ensures { result ≡ first_of (header_tests layout file.now) }
+    ensures { refusal_of result ≡ first_of (header_tests layout file.now) }
 {
     if !h.marked {
-        return 21;
+        return Err(Refusal::Mark);
     }
     if h.version != layout.version {
-        return 22;
+        return Err(Refusal::Version);
     }
     if h.schools + h.slots > 64 {
-        return 24;
+        return Err(Refusal::Size);
     }
     if h.packages > 512 {
-        return 24;
+        return Err(Refusal::Size);
     }
     if file.len() as u64 != file_length(layout, h.schools, h.packages) {
-        return 20;
+        return Err(Refusal::Cut);
     }
-    0
+    Ok(())
 }
 
-// The first refusal of the check and the records of s schools and n packages with t slots, 0 where they have none.
-fn record_refusal(file: &[u8], layout: Layout, s: usize, t: u32, n: usize) -> u8
+// The first refusal of the check and the records of s schools and n packages with t slots, if they have one.
+fn admit_records(file: &[u8], layout: Layout, s: usize, t: u32, n: usize) -> Result<(), Refusal>
     requires { Sized layout file.now s t n }
-    ensures { result ≡ first_of (record_tests layout file.now) }
+    ensures { refusal_of result ≡ first_of (record_tests layout file.now) }
 {
     let end = file.len() - 4;
-    let tail = Cursor { at: end };
+    let mut tail = Cursor { at: end };
     let stored = tail.number(file, 4);
-    if check(file, end) as u64 != stored.value {
-        return 23;
+    if check(file, end) as u64 != stored {
+        return Err(Refusal::Check);
     }
     if !itemset::below_word(optional_slots(file, layout), t) {
-        return 31;
+        return Err(Refusal::StraySlot);
     }
     if school_twice(file, layout, s) {
-        return 25;
+        return Err(Refusal::SchoolTwice);
     }
     if stray(file, layout, s, t, n) {
-        return 26;
+        return Err(Refusal::StrayPackage);
     }
     if package_twice(file, layout, s, n) {
-        return 27;
+        return Err(Refusal::PackageTwice);
     }
-    0
+    Ok(())
 }
 
-// The number of the file's refusal as one of this version, 0 where it is accepted.
-pub fn refusal(file: &[u8], layout: Layout) -> u8
+// The header of the file, where it is accepted as one of this version.
+pub fn admit(file: &[u8], layout: Layout) -> Result<Header, Refusal>
     requires { Legible layout }
-    ensures { result ≡ F.refusal layout file.now }
+    ensures refusal { refusal_of result ≡ F.refusal layout file.now }
+    ensures header { IfOk result (λ h. HeaderPost file.now h) }
 {
     if file.len() < 13 {
-        return 20;
+        return Err(Refusal::Cut);
     }
     let h = read_header(file);
-    let r = header_refusal(file, layout, h);
-    if r != 0 {
-        return r;
-    }
-    record_refusal(
+    admit_header(file, layout, h)?;
+    admit_records(
         file,
         layout,
         h.schools as usize,
         h.slots as u32,
         h.packages as usize,
-    )
+    )?;
+    Ok(h)
 }
 
 // A set of slots, above s schools: one word, since S + T is at most 64. With 64 schools there are no slots, and no shift by 64.
@@ -527,13 +407,10 @@ fn fill(
     ensures packages_after { packages.new ≡ written 0 (spread 3 (packages_of (contents layout file.now))) packages.old }
     ensures costs_after { costs.new ≡ written 0 (costs_of (contents layout file.now)) costs.old }
 {
-    let mut c = first_package(layout, s);
-    let mut k: usize = 0;
-    while k < n {
-        let record = c.package_record(file, layout);
-        let bid = record.bid;
-        let school = bid.school;
-        let j = school_index(file, layout, s, school);
+    let mut cursor = first_package(layout, s);
+    for k in 0..n {
+        let bid = cursor.package_record(file, layout);
+        let j = school_index(file, layout, s, bid.school);
         itemset::write(
             packages,
             3 * k,
@@ -544,55 +421,54 @@ fn fill(
             },
         );
         costs[k] = bid.cost as u16;
-        c = record.next;
-        k += 1;
     }
 }
 
 // Reads a file of the version whose layout this is.
-fn read_as(layout: Layout, file: &[u8], packages: &mut [u64], costs: &mut [u16]) -> Reading
+fn read_as(
+    layout: Layout,
+    file: &[u8],
+    packages: &mut [u64],
+    costs: &mut [u16],
+) -> Result<Bids, Refusal>
     requires { Legible layout }
-    ensures { ReadPost layout file.now result packages.old packages.new costs.old costs.new }
+    ensures { ReadPost layout file.now (read_reply result) packages.old packages.new costs.old costs.new }
 {
-    let why = refusal(file, layout);
-    if why != 0 {
-        return Reading::Refused(why);
-    }
-    let h = read_header(file);
-    let s = h.schools as u32;
+    let h = admit(file, layout)?;
+    let s = h.schools as usize;
     let t = h.slots as u32;
     let n = h.packages as usize;
     if packages.len() < 3 * n {
-        return Reading::Refused(15);
+        return Err(Refusal::ShortPage);
     }
     if costs.len() < n {
-        return Reading::Refused(15);
+        return Err(Refusal::ShortPage);
     }
-    fill(file, layout, base::wide(s), t, n, packages, costs);
+    fill(file, layout, s, t, n, packages, costs);
     let slots = optional_slots(file, layout);
-    Reading::Accepted {
-        schools: s,
+    Ok(Bids {
+        schools: h.schools as u32,
         slots: t,
         packages: n,
         optional: Items {
-            w0: shifted(slots, base::wide(s)),
+            w0: shifted(slots, s),
             w1: 0,
             w2: 0,
         },
-    }
+    })
 }
 
 // Reads a file of version 1, which has no optional items. Of an accepted one the packages' item sets, three words a package, and costs stand at the start of
 // the buffers. A refusal changes nothing; a buffer without room for N is refused as a short page is, after all that the file itself is refused for.
-pub fn read(file: &[u8], packages: &mut [u64], costs: &mut [u16]) -> Reading
-    ensures { ReadPost F.version1 file.now result packages.old packages.new costs.old costs.new }
+pub fn read(file: &[u8], packages: &mut [u64], costs: &mut [u16]) -> Result<Bids, Refusal>
+    ensures { ReadPost F.version1 file.now (read_reply result) packages.old packages.new costs.old costs.new }
 {
     read_as(version1(), file, packages, costs)
 }
 
 // The same of a file of version 2.
-pub fn read2(file: &[u8], packages: &mut [u64], costs: &mut [u16]) -> Reading
-    ensures { ReadPost F.version2 file.now result packages.old packages.new costs.old costs.new }
+pub fn read2(file: &[u8], packages: &mut [u64], costs: &mut [u16]) -> Result<Bids, Refusal>
+    ensures { ReadPost F.version2 file.now (read_reply result) packages.old packages.new costs.old costs.new }
 {
     read_as(version2(), file, packages, costs)
 }

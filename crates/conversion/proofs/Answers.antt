@@ -8,16 +8,16 @@ use lib.Dec.{ltb}
 use lib.ListN.{length}
 use Rattle.base.specs.Lists.{any}
 use Rattle.statement.specs.Refusals.{first_of}
-use Rattle.statement.specs.Replies.{says_only}
+use Rattle.statement.specs.Replies.{Reply, says_only, number_of, refusal_of, reply_of}
 use Rattle.statement.proofs.FirstOf.{pass, hit, none, front, behind}
 use Rattle.statement.proofs.Sayable.{among_said, first_said}
 use Rattle.statement.proofs.TestLaws.{reply-refused, page_left}
 use Rattle.bids.specs.Format.{contents, cut, header_tests, record_tests, refusal}
 use Rattle.bids.specs.declared.Layout.{Layout}
 use Rattle.conversion.specs.Writing.{file_of}
-use Rattle.conversion.specs.Contract.{lost_tests, convert_refusal, convert_reply, ConvertPost}
-use Rattle.conversion.specs.declared.Conversion.{Conversion}
-use Rattle.conversion.specs.declared.Conversion.TheVariants.{Refused}
+use Rattle.conversion.specs.Contract.{lost_tests, convert_refusal, ConvertPost}
+use Rattle.std.specs.Prelude.{Result, Ok, Err}
+use Rattle.statement.specs.declared.Refusal.{Refusal}
 
 module _ (from to : Layout) (b : List ℕ) (room : ℕ) where
   pub by_file : {r : ℕ} → r ≡ refusal from b → (r ≡ 0 → ⊥) → convert_refusal from to b room ≡ r
@@ -41,16 +41,17 @@ module _ (from to : Layout) (b : List ℕ) (room : ℕ) where
           behind-file ∙ behind (lost_tests to (contents from b)) _ tt y ∙ pass 15 [] (le-ltb room (length (file_of to (contents from b))) h) ∙ none
 
 -- a refusal leaves the buffer alone
-pub convert-refused : {from to : Layout} {b out : List ℕ} {r : ℕ} → convert_refusal from to b (length out) ≡ r → (r ≡ 0 → ⊥)
-    → ConvertPost from to b (Refused r) out out
-convert-refused {from} {to} {b} {out} {r} e f = record {
-  answer = reply-refused r (length (file_of to (contents from b))) e f;
-  file = page_left r (file_of to (contents from b)) out e f;
+pub convert-refused : {from to : Layout} {b out : List ℕ} (r : Result ℕ Refusal) → convert_refusal from to b (length out) ≡ refusal_of r → (refusal_of r ≡ 0 → ⊥)
+    → ConvertPost from to b (reply_of r) out out
+convert-refused (Ok n) e f = absurd (f refl)
+convert-refused {from} {to} {b} {out} (Err r) e f = record {
+  answer = reply-refused (number_of r) (length (file_of to (contents from b))) e f;
+  file = page_left (number_of r) (file_of to (contents from b)) out e f;
 }
 
 -- THEOREM: the numbers that a converter can say. Going up it says neither 32 nor 33 (`up_never`), nor, since it then says what the reader of version 1 says, 31
-pub convert-numbers : {from to : Layout} {b : List ℕ} {r : Conversion} {out out' : List ℕ} → ConvertPost from to b r out out'
-    → says_only (20 ∷ 21 ∷ 22 ∷ 24 ∷ 23 ∷ 31 ∷ 25 ∷ 26 ∷ 27 ∷ 32 ∷ 33 ∷ 15 ∷ []) (convert_reply r) ≡ true
+pub convert-numbers : {from to : Layout} {b : List ℕ} {r : Reply ℕ} {out out' : List ℕ} → ConvertPost from to b r out out'
+    → says_only (20 ∷ 21 ∷ 22 ∷ 24 ∷ 23 ∷ 31 ∷ 25 ∷ 26 ∷ 27 ∷ 32 ∷ 33 ∷ 15 ∷ []) r ≡ true
 unfolding any refusal convert_refusal
 convert-numbers {from} {to} {b} {out = out} R =
     let n = length (file_of to (contents from b)) in

@@ -12,7 +12,7 @@ use Rattle.base.proofs.Bools.{by_test, and_left}
 use Rattle.itemset.specs.Items.{belowb}
 use Rattle.itemset.proofs.Laws.{below_lt, lt_below}
 use Rattle.statement.specs.Refusals.{first_of}
-use Rattle.statement.specs.Replies.{refused, gives, reply}
+use Rattle.statement.specs.Replies.{Reply, refused, gives, reply}
 use Rattle.statement.specs.Postconditions.{written}
 use Rattle.statement.proofs.FirstOf.{pass, hit, none, passed}
 use Rattle.statement.proofs.TestLaws.{was_given}
@@ -28,8 +28,7 @@ use Rattle.bids.proofs.Laws.{first_holds, none-some, all_none}
 use Rattle.bids.proofs.Numbers.{Bytes, pow_bytes}
 use Rattle.bids.proofs.Records.{school_count, package_count}
 use Rattle.conversion.specs.Writing.{file_of}
-use Rattle.conversion.specs.Contract.{wide_site, optional_present, convert_refusal, says2, convert_reply, ConvertPost}
-use Rattle.conversion.specs.declared.Conversion.{Conversion}
+use Rattle.conversion.specs.Contract.{wide_site, optional_present, convert_refusal, says2, ConvertPost}
 use Rattle.conversion.proofs.Written.{length-file, file-small}
 use Rattle.conversion.proofs.Restored.{Fits, fits, contents-written, written_accepted, restored}
 
@@ -188,28 +187,28 @@ says_own {L} {b} a = rw (le-ltb (length b) 13 a.uncut, a.version)
 -- ---- a call
 
 -- r says that n bytes were written: they are the file of the layout L that says x, which is accepted, and the rest of the buffer is unchanged
-pub record Converted (L : Layout) (x : Contents) (n : ℕ) (r : Conversion) (out out' : List ℕ) : Type 0 where
-  pub answer : convert_reply r ≡ gives n
+pub record Converted (L : Layout) (x : Contents) (n : ℕ) (r : Reply ℕ) (out out' : List ℕ) : Type 0 where
+  pub answer : r ≡ gives n
   pub file : take n out' ≡ file_of L x
   pub accepted : refusal L (take n out') ≡ 0
   pub says : contents L (take n out') ≡ x
   pub rest : drop n out' ≡ drop n out
 
 -- THEOREM: a refusal leaves the buffer as it was
-pub refusal_leaves : {from to : Layout} {b : List ℕ} {r : Conversion} {out out' : List ℕ} {n : ℕ} → ConvertPost from to b r out out'
-    → convert_reply r ≡ refused n → out' ≡ out
+pub refusal_leaves : {from to : Layout} {b : List ℕ} {r : Reply ℕ} {out out' : List ℕ} {n : ℕ} → ConvertPost from to b r out out'
+    → r ≡ refused n → out' ≡ out
 refusal_leaves {from} {to} {b} {r} {out} {out'} post e = go (convert_refusal from to b (length out)) post.answer post.file
   where
-    go : (k : ℕ) → convert_reply r ≡ reply k (length (file_of to (contents from b))) → out' ≡ written k (file_of to (contents from b)) out → out' ≡ out
+    go : (k : ℕ) → r ≡ reply k (length (file_of to (contents from b))) → out' ≡ written k (file_of to (contents from b)) out → out' ≡ out
     go zero p q = let z : ◌≡◌ {A = ℕ} 0 1 = cc in absurd (omega arith)
     go (suc k) p q = q
 
 -- a call that answers converts, and the answer is the length of the file
-pub call_answers : {from to : Layout} {b : List ℕ} {r : Conversion} {out out' : List ℕ} {n : ℕ} → ConvertPost from to b r out out'
-    → convert_reply r ≡ gives n → (convert_refusal from to b (length out) ≡ 0) × (n ≡ length (file_of to (contents from b)))
+pub call_answers : {from to : Layout} {b : List ℕ} {r : Reply ℕ} {out out' : List ℕ} {n : ℕ} → ConvertPost from to b r out out'
+    → r ≡ gives n → (convert_refusal from to b (length out) ≡ 0) × (n ≡ length (file_of to (contents from b)))
 call_answers {from} {to} {b} {out} {n} post e = was_given n (convert_refusal from to b (length out)) _ (sym e ∙ post.answer)
 
-module _ {from to : Layout} {b : List ℕ} (g : Given from to b) {r : Conversion} {out out' : List ℕ} (post : ConvertPost from to b r out out')
+module _ {from to : Layout} {b : List ℕ} (g : Given from to b) {r : Reply ℕ} {out out' : List ℕ} (post : ConvertPost from to b r out out')
     (e : convert_refusal from to b (length out) ≡ 0) where
   pub call_converts : Converted to (contents from b) (file_length to (F.schools b) (F.packages b)) r out out'
   call_converts =
@@ -227,10 +226,10 @@ module _ {from to : Layout} {b : List ℕ} (g : Given from to b) {r : Conversion
       }
 
 -- a second call that converts what the first wrote returns the file itself
-pub call_returns : {from to : Layout} {b : List ℕ} → Given from to b → {r r₂ : Conversion} {out out' out₂ out₂' : List ℕ}
+pub call_returns : {from to : Layout} {b : List ℕ} → Given from to b → {r r₂ : Reply ℕ} {out out' out₂ out₂' : List ℕ}
     → ConvertPost from to b r out out' → convert_refusal from to b (length out) ≡ 0
     → ConvertPost to from (take (file_length to (F.schools b) (F.packages b)) out') r₂ out₂ out₂' → length b ≤ length out₂
-    → (convert_reply r₂ ≡ gives (length b)) × (take (length b) out₂' ≡ b)
+    → (r₂ ≡ gives (length b)) × (take (length b) out₂' ≡ b)
 call_returns {from} {to} {b} g {out'} {out₂} post e post₂ room =
     let c = take (file_length to (F.schools b) (F.packages b)) out' in
     let first = call_converts g post e in

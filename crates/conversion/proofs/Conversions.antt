@@ -11,7 +11,7 @@ use lib.Dec.{eqb, ltb}
 use lib.ListN.{length, take}
 use Rattle.base.proofs.Bools.{by_test}
 use Rattle.statement.specs.Refusals.{first_of}
-use Rattle.statement.specs.Replies.{gives}
+use Rattle.statement.specs.Replies.{Reply, gives}
 use Rattle.statement.proofs.FirstOf.{pass, exchanged, Avoids, avoided, neither}
 use Rattle.bids.specs.Bytes.{number_at}
 use Rattle.bids.specs.Contents.{Contents, nth_school}
@@ -24,8 +24,7 @@ use Rattle.bids.proofs.Numbers.{Bytes}
 use Rattle.bids.proofs.Places.{legible1, legible2}
 use Rattle.bids.proofs.Records.{school_count}
 use Rattle.conversion.specs.Writing.{file_of}
-use Rattle.conversion.specs.Contract.{convert_refusal, says2, own_layout, other_layout, convert_reply, ConvertPost}
-use Rattle.conversion.specs.declared.Conversion.{Conversion}
+use Rattle.conversion.specs.Contract.{convert_refusal, says2, own_layout, other_layout, ConvertPost}
 use Rattle.conversion.proofs.Restored.{fits}
 use Rattle.conversion.proofs.Between.{Narrow, wide, present, narrow-says, Given, same-contents, still_accepted, back, converts}
 use Rattle.conversion.proofs.Between.{short, only-narrow, length-written, was_accepted, says_own}
@@ -48,7 +47,7 @@ unfolding package_place school_place
 is_length2 b = omega arith
 
 -- what a call of `turn` leaves, from the version that the file says it has to the other
-abbrev pub TurnPost : List ℕ → Conversion → List ℕ → List ℕ → Type 0
+abbrev pub TurnPost : List ℕ → Reply ℕ → List ℕ → List ℕ → Type 0
 TurnPost b r out out' = ConvertPost (own_layout b) (other_layout b) b r out out'
 
 -- ---- an accepted file is of one version
@@ -68,7 +67,7 @@ module _ (b : List ℕ) (z : refusal version1 b ≡ 0) where
   pub layouts_version1 : (own_layout b ≡ version1) × (other_layout b ≡ version2)
   layouts_version1 = rw says-version1 (refl, refl)
 
-  pub turn_is_up : {r : Conversion} {out out' : List ℕ} → TurnPost b r out out' → ConvertPost version1 version2 b r out out'
+  pub turn_is_up : {r : Reply ℕ} {out out' : List ℕ} → TurnPost b r out out' → ConvertPost version1 version2 b r out out'
   turn_is_up post = rw says-version1 at post
 
 module _ (b : List ℕ) (z : refusal version2 b ≡ 0) where
@@ -86,7 +85,7 @@ module _ (b : List ℕ) (z : refusal version2 b ≡ 0) where
   pub layouts_version2 : (own_layout b ≡ version2) × (other_layout b ≡ version1)
   layouts_version2 = rw says-version2 (refl, refl)
 
-  pub turn_is_down : {r : Conversion} {out out' : List ℕ} → TurnPost b r out out' → ConvertPost version2 version1 b r out out'
+  pub turn_is_down : {r : Reply ℕ} {out out' : List ℕ} → TurnPost b r out out' → ConvertPost version2 version1 b r out out'
   turn_is_down post = rw says-version2 at post
 
 -- ---- up
@@ -134,23 +133,23 @@ module _ (b : List ℕ) (h : Bytes b) (z : refusal version1 b ≡ 0) where
   up-down = back up up-narrow
 
   -- THEOREM: what a call leaves that has the room
-  pub up-call : {r : Conversion} {out out' : List ℕ} → ConvertPost version1 version2 b r out out' → length2 b ≤ length out
+  pub up-call : {r : Reply ℕ} {out out' : List ℕ} → ConvertPost version1 version2 b r out out' → length2 b ≤ length out
       → Converted version2 (contents version1 b) (length2 b) r out out'
   up-call {r} {out} {out'} post l = rw (← is_length2 b) (call_converts up post (up_converts (length out) l))
 
   -- THEOREM: and the file that it writes has no optional slot
-  pub up-call-optional : {r : Conversion} {out out' : List ℕ} → ConvertPost version1 version2 b r out out' → length2 b ≤ length out
+  pub up-call-optional : {r : Reply ℕ} {out out' : List ℕ} → ConvertPost version1 version2 b r out out' → length2 b ≤ length out
       → optional_slots version2 (take (length2 b) out') ≡ 0
   up-call-optional post l = none-optional b _ (up-call post l).says
 
   -- THEOREM: and a call back from what it wrote returns the file itself
-  pub up-down-calls : {r r₂ : Conversion} {out out' out₂ out₂' : List ℕ} → ConvertPost version1 version2 b r out out' → length2 b ≤ length out
+  pub up-down-calls : {r r₂ : Reply ℕ} {out out' out₂ out₂' : List ℕ} → ConvertPost version1 version2 b r out out' → length2 b ≤ length out
       → ConvertPost version2 version1 (take (length2 b) out') r₂ out₂ out₂' → length b ≤ length out₂
-      → (convert_reply r₂ ≡ gives (length b)) × (take (length b) out₂' ≡ b)
+      → (r₂ ≡ gives (length b)) × (take (length b) out₂' ≡ b)
   up-down-calls {out} {out'} post l post₂ l₂ = call_returns up post (up_converts (length out) l) (rw (← is_length2 b) at post₂) l₂
 
   -- THEOREM: a call of `turn` that has the room leaves what one of the converter up leaves
-  pub turn_up : {r : Conversion} {out out' : List ℕ} → TurnPost b r out out' → length2 b ≤ length out
+  pub turn_up : {r : Reply ℕ} {out out' : List ℕ} → TurnPost b r out out' → length2 b ≤ length out
       → Converted version2 (contents version1 b) (length2 b) r out out'
   turn_up post l = up-call (turn_is_up b z post) l
 
@@ -199,7 +198,7 @@ module _ (b : List ℕ) (h : Bytes b) (z : refusal version2 b ≡ 0) where
   )
 
   -- THEOREM: so a call that answers had a plain file and the room, and the answer is the length of the other file
-  pub down-only : {r : Conversion} {out out' : List ℕ} {n : ℕ} → ConvertPost version2 version1 b r out out' → convert_reply r ≡ gives n
+  pub down-only : {r : Reply ℕ} {out out' : List ℕ} {n : ℕ} → ConvertPost version2 version1 b r out out' → r ≡ gives n
       → Plain b × ((n ≡ length1 b) × (length1 b ≤ length out))
   down-only {out} post e =
       let w = call_answers post e in
@@ -231,33 +230,33 @@ module _ (b : List ℕ) (h : Bytes b) (z : refusal version2 b ≡ 0) where
     down-short room l = short down room (plain-narrow p) (rw is_length1 l)
 
     -- THEOREM: what a call leaves that has the room
-    pub down-call : {r : Conversion} {out out' : List ℕ} → ConvertPost version2 version1 b r out out' → length1 b ≤ length out
+    pub down-call : {r : Reply ℕ} {out out' : List ℕ} → ConvertPost version2 version1 b r out out' → length1 b ≤ length out
         → Converted version1 (contents version2 b) (length1 b) r out out'
     down-call {r} {out} {out'} post l = rw (← is_length1 b) (call_converts down post ((down_exactly (length out)).1 (p, l)))
 
     -- THEOREM: and a call back from what it wrote returns the file itself
-    pub down-up-calls : {r r₂ : Conversion} {out out' out₂ out₂' : List ℕ} → ConvertPost version2 version1 b r out out' → length1 b ≤ length out
+    pub down-up-calls : {r r₂ : Reply ℕ} {out out' out₂ out₂' : List ℕ} → ConvertPost version2 version1 b r out out' → length1 b ≤ length out
         → ConvertPost version1 version2 (take (length1 b) out') r₂ out₂ out₂' → length b ≤ length out₂
-        → (convert_reply r₂ ≡ gives (length b)) × (take (length b) out₂' ≡ b)
+        → (r₂ ≡ gives (length b)) × (take (length b) out₂' ≡ b)
     down-up-calls {out} {out'} post l post₂ l₂ = call_returns down post ((down_exactly (length out)).1 (p, l)) (rw (← is_length1 b) at post₂) l₂
 
     -- THEOREM: a call of `turn` that has the room leaves what one of the converter down leaves
-    pub turn-down : {r : Conversion} {out out' : List ℕ} → TurnPost b r out out' → length1 b ≤ length out
+    pub turn-down : {r : Reply ℕ} {out out' : List ℕ} → TurnPost b r out out' → length1 b ≤ length out
         → Converted version1 (contents version2 b) (length1 b) r out out'
     turn-down post l = down-call (turn_is_down b z post) l
 
 -- ---- turn, and turn again
 
 -- THEOREM: where a call of `turn` answers, as in `turn_up` and `turn-down`, whatever the file b, a second call on what the first wrote returns b itself
-pub turn_twice : (b : List ℕ) → Bytes b → {r r₂ : Conversion} {out out' out₂ out₂' : List ℕ} {n : ℕ} → TurnPost b r out out' → convert_reply r ≡ gives n
-    → TurnPost (take n out') r₂ out₂ out₂' → length b ≤ length out₂ → (convert_reply r₂ ≡ gives (length b)) × (take (length b) out₂' ≡ b)
+pub turn_twice : (b : List ℕ) → Bytes b → {r r₂ : Reply ℕ} {out out' out₂ out₂' : List ℕ} {n : ℕ} → TurnPost b r out out' → r ≡ gives n
+    → TurnPost (take n out') r₂ out₂ out₂' → length b ≤ length out₂ → (r₂ ≡ gives (length b)) × (take (length b) out₂' ≡ b)
 turn_twice b h {r} {r₂} {out} {out'} {out₂} {out₂'} {n} post e post₂ l₂ =
     by_test (says2 b)
     (λ s. twice legible2 legible1 (omega arith) (rw s at post) (λ z. turn_is_up (take n out') z post₂))
     (λ s. twice legible1 legible2 (omega arith) (rw s at post) (λ z. turn_is_down (take n out') z post₂))
   where
     twice : {from to : Layout} → Legible from → Legible to → to.version < 65536 → ConvertPost from to b r out out'
-        → (refusal to (take n out') ≡ 0 → ConvertPost to from (take n out') r₂ out₂ out₂') → (convert_reply r₂ ≡ gives (length b)) × (take (length b) out₂' ≡ b)
+        → (refusal to (take n out') ≡ 0 → ConvertPost to from (take n out') r₂ out₂ out₂') → (r₂ ≡ gives (length b)) × (take (length b) out₂' ≡ b)
     twice {from} {to} p q v first second =
         let w = call_answers first e in
         let g : Given from to b = record { readable = p; writable = q; version = v; bytes = h; accepted = was_accepted from to b (length out) w.0 } in

@@ -19,7 +19,7 @@ use Rattle.bids.proofs.Places.{school_before}
 use Rattle.bids.proofs.Records.{school_count, package_count}
 use Rattle.conversion.specs.Writing.{header_bytes, school_bytes, package_bytes, joined, body_of, file_of}
 use Rattle.conversion.specs.Contract.{PutPost}
-use Rattle.conversion.proofs.Written.{length-joined, length_school, length_body, length-file}
+use Rattle.conversion.proofs.Written.{length_header, length-joined, length_school, length_body, length-file}
 
 -- ---- the bytes of a number
 
@@ -53,8 +53,8 @@ module _ {out : List ℕ} {at : ℕ} {vs out' : List ℕ} {n : ℕ} (p : PutPost
       }
 
 -- PSB
-pub mark-put : (out : List ℕ) → PutPost out 0 (80 ∷ 83 ∷ 66 ∷ []) (set (set (set out 0 80) 1 83) 2 66) 3
-mark-put out = record { stored = refl; next = refl }
+pub mark-put : (out : List ℕ) {vs : List ℕ} → 3 ≤ length out → vs ≡ 80 ∷ 83 ∷ 66 ∷ [] → PutPost out 0 (80 ∷ 83 ∷ 66 ∷ []) (vs ++ drop 3 out) 3
+mark-put out h e = record { stored = rw e (sym (sets-eq (80 ∷ 83 ∷ 66 ∷ []) out 0 (omega arith))); next = refl }
 
 -- at the start of the buffer
 module _ {out vs out' : List ℕ} {n : ℕ} (p : PutPost out 0 vs out' n) (room : length vs ≤ length out) where
@@ -100,6 +100,11 @@ schools-inside L {s = s} {n = n} z = rw (← z.counts.0) (omega (arith, z.long, 
 module _ (from to : Layout) {b : List ℕ} {h : Header} (p : HeaderPost b h) where
   counted : (f : ℕ → ℕ → ℕ) → f (length (schools_in from b)) (length (packages_in from b)) ≡ f h.schools h.packages
   counted f = rw (school_count from b, package_count from b, p.schools, p.packages)
+
+  -- the place past a header
+  pub header_placed : Legible to → (s t m o : ℕ) {n : ℕ} {out out' : List ℕ} → PutPost out 0 (header_bytes to s t m o) out' n
+      → (n ≡ 0 + to.header) × (length out' ≡ length out)
+  header_placed l s t m o q = placed q (length_header to s t m o l.header.0)
 
   pub schools-long : length (joined (school_bytes to) (schools_in from b)) ≡ (to.site + 1) * h.schools
   schools-long = length-joined (school_bytes to) (length_school to) (schools_in from b) ∙ rw (school_count from b, p.schools)

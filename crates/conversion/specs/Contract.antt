@@ -3,7 +3,7 @@ use Rattle.std.specs.Prelude.{◌≡◌, Bool, true, false, not, ◌&&◌, List,
 use Rattle.std.proofs.lemmas.List.Edits.{sets}
 use Rattle.itemset.specs.Items.{belowb}
 use Rattle.statement.specs.Refusals.{first_of}
-use Rattle.statement.specs.Replies.{Reply, refused, gives, reply}
+use Rattle.statement.specs.Replies.{Reply, reply}
 use Rattle.statement.specs.Postconditions.{written}
 use Rattle.bids.specs.Ranges.{some}
 use Rattle.bids.specs.Contents.{Contents, nth_school}
@@ -11,8 +11,6 @@ use Rattle.bids.specs.Format.{version1, version2, version, contents, cut, refusa
 use Rattle.bids.specs.declared.Layout.{Layout}
 use Rattle.bids.specs.declared.School.{School}
 use Rattle.conversion.specs.Writing.{file_of}
-use Rattle.conversion.specs.declared.Conversion.{Conversion}
-use Rattle.conversion.specs.declared.Conversion.TheVariants.{Written, Refused}
 
 -- ---- refusals
 
@@ -57,15 +55,10 @@ own_layout b = choose (says2 b) version2 version1
 abbrev pub other_layout : List ℕ → Layout
 other_layout b = choose (says2 b) version1 version2
 
--- the length written, or the number of the refusal
-abbrev pub convert_reply : Conversion → Reply ℕ
-convert_reply (Written n) = gives n
-convert_reply (Refused n) = refused n
-
--- the answer r to the file b; out is the buffer before, out' after: the file of the other layout that says the same stands at its start, and the rest is
+-- the answer r to the file b, the length written or the refusal; out is the buffer before, out' after: the file of the other layout that says the same stands at its start, and the rest is
 -- unchanged, as all is after a refusal
-pub record ConvertPost (from to : Layout) (b : List ℕ) (r : Conversion) (out out' : List ℕ) : Type 0 where
-  pub answer : convert_reply r ≡ reply (convert_refusal from to b (length out)) (length (file_of to (contents from b)))
+pub record ConvertPost (from to : Layout) (b : List ℕ) (r : Reply ℕ) (out out' : List ℕ) : Type 0 where
+  pub answer : r ≡ reply (convert_refusal from to b (length out)) (length (file_of to (contents from b)))
   pub file : out' ≡ written (convert_refusal from to b (length out)) (file_of to (contents from b)) out
 
 -- ---- its steps

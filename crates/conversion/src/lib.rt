@@ -4,6 +4,7 @@
 
 ghost use Rattle.std.specs.Prelude.{◌≡◌, ◌+◌, ◌*◌, ◌≤◌, length};
 ghost use Rattle.statement.specs.Refusals.{first_of};
+ghost use Rattle.statement.specs.Replies.{refusal_of, reply_of};
 ghost use Rattle.statement.specs.Postconditions.{written};
 ghost use Rattle.bids.specs.Bytes.{bytes_of};
 ghost use Rattle.bids.specs.Format.{schools, packages, school_place, package_place, file_length, schools_in, packages_in, contents, version1, version2};
@@ -12,13 +13,7 @@ ghost use Rattle.conversion.specs.Writing.{header_bytes, school_bytes, package_b
 ghost use Rattle.conversion.specs.Contract.{wide_site, lost_tests, says2, own_layout, other_layout, ConvertPost, PutPost};
 
 use bids::{Cursor, Header, Layout, Package, School};
-
-// What a converter returns: the length written, or the number of the refusal.
-#[derive(Clone, Copy)]
-pub enum Conversion {
-    Written(usize),
-    Refused(u8),
-}
+use statement::Refusal;
 
 // Puts the lowest `width` bytes of a number, the lowest first, and returns the place past them.
 fn put(out: &mut [u8], at: usize, v: u64, width: usize) -> usize
@@ -26,11 +21,9 @@ fn put(out: &mut [u8], at: usize, v: u64, width: usize) -> usize
     ensures { PutPost out.old at (bytes_of width v) out.new result }
 {
     let mut rest = v;
-    let mut i: usize = 0;
-    while i < width {
+    for i in 0..width {
         out[at + i] = (rest % 256) as u8;
-        rest = rest / 256;
-        i += 1;
+        rest /= 256;
     }
     at + width
 }
@@ -39,9 +32,7 @@ fn put_header(out: &mut [u8], layout: Layout, s: u64, t: u64, n: u64, optional: 
     requires { (layout.header ≤ length out.old) × Legible layout }
     ensures { PutPost out.old 0 (header_bytes layout s t n optional) out.new result }
 {
-    out[0] = b'P';
-    out[1] = b'S';
-    out[2] = b'B';
+    out[..3].copy_from_slice(b"PSB");
     let after_version = put(out, 3, layout.version, 2);
     let after_schools = put(out, after_version, s, 1);
     let after_slots = put(out, after_schools, t, 1);
@@ -61,8 +52,7 @@ fn put_package(out: &mut [u8], at: usize, layout: Layout, bid: Package) -> usize
     requires { at + (layout.site + 11) ≤ length out.old }
     ensures { PutPost out.old at (package_bytes layout bid) out.new result }
 {
-    let school = bid.school;
-    let after_school = put_school(out, at, layout, school);
+    let after_school = put_school(out, at, layout, bid.school);
     let after_slots = put(out, after_school, bid.slots, 8);
     put(out, after_slots, bid.cost, 2)
 }
@@ -74,15 +64,11 @@ fn put_schools(file: &[u8], from: Layout, to: Layout, s: usize, out: &mut [u8], 
     requires legible { Legible from }
     ensures { PutPost out.old at (joined (school_bytes to) (schools_in from file.now)) out.new result }
 {
-    let mut c = Cursor { at: from.header };
+    let mut cursor = Cursor { at: from.header };
     let mut next = at;
-    let mut j: usize = 0;
-    while j < s {
-        let record = c.school_record(file, from);
-        let school = record.school;
+    for _ in 0..s {
+        let school = cursor.school_record(file, from);
         next = put_school(out, next, to, school);
-        c = record.next;
-        j += 1;
     }
     next
 }
@@ -102,15 +88,11 @@ fn put_packages(
     requires s_bound { (s ≤ 64) × Legible from }
     ensures { PutPost out.old at (joined (package_bytes to) (packages_in from file.now)) out.new result }
 {
-    let mut c = bids::first_package(from, s);
+    let mut cursor = bids::first_package(from, s);
     let mut next = at;
-    let mut k: usize = 0;
-    while k < n {
-        let record = c.package_record(file, from);
-        let bid = record.bid;
+    for _ in 0..n {
+        let bid = cursor.package_record(file, from);
         next = put_package(out, next, to, bid);
-        c = record.next;
-        k += 1;
     }
     next
 }
@@ -147,68 +129,57 @@ fn wide_site(file: &[u8], from: Layout, to: Layout, s: usize) -> bool
     ensures { result ≡ wide_site to (schools_in from file.now) }
 {
     let bits = 8 * to.site as u32;
-    let mut c = Cursor { at: from.header };
-    let mut j: usize = 0;
-    while j < s {
-        let record = c.school_record(file, from);
-        let school = record.school;
+    let mut cursor = Cursor { at: from.header };
+    for _ in 0..s {
+        let school = cursor.school_record(file, from);
         if !itemset::below_word(school.site, bits) {
             return true;
         }
-        c = record.next;
-        j += 1;
     }
     false
 }
 
-// The refusal of a file for which the other layout has no room, 32 or 33; 0 where it has.
-fn narrow_refusal(file: &[u8], from: Layout, to: Layout, s: usize) -> u8
+// The refusal of a file for which the other layout has no room: a wide site, or optional slots.
+fn admit_narrow(file: &[u8], from: Layout, to: Layout, s: usize) -> Result<(), Refusal>
     requires file_in_bounds { (school_place from (schools file.now) ≤ length file.now) × (s ≡ schools file.now) }
     requires legible { Legible from × Legible to }
-    ensures { result ≡ first_of (lost_tests to (contents from file.now)) }
+    ensures { refusal_of result ≡ first_of (lost_tests to (contents from file.now)) }
 {
     if wide_site(file, from, to, s) {
-        return 32;
+        return Err(Refusal::WideSite);
     }
     let bits = 8 * (to.header - 9) as u32;
     if !itemset::below_word(bids::optional_slots(file, from), bits) {
-        return 33;
+        return Err(Refusal::OptionalSlots);
     }
-    0
+    Ok(())
 }
 
-// Converts a file of one layout to the other.
-fn convert(file: &[u8], from: Layout, to: Layout, out: &mut [u8]) -> Conversion
+// Converts a file of one layout to the other, and returns the length written.
+fn convert(file: &[u8], from: Layout, to: Layout, out: &mut [u8]) -> Result<usize, Refusal>
     requires { Legible from × Legible to }
-    ensures { ConvertPost from to file.now result out.old out.new }
+    ensures { ConvertPost from to file.now (reply_of result) out.old out.new }
 {
-    let why = bids::refusal(file, from);
-    if why != 0 {
-        return Conversion::Refused(why);
-    }
-    let h = bids::read_header(file);
-    let narrow = narrow_refusal(file, from, to, h.schools as usize);
-    if narrow != 0 {
-        return Conversion::Refused(narrow);
-    }
+    let h = bids::admit(file, from)?;
+    admit_narrow(file, from, to, h.schools as usize)?;
     let length = bids::file_length(to, h.schools, h.packages);
     if (out.len() as u64) < length {
-        return Conversion::Refused(15);
+        return Err(Refusal::ShortPage);
     }
     write(file, from, to, h, out);
-    Conversion::Written(length as usize)
+    Ok(length as usize)
 }
 
 // From version 1 to version 2.
-pub fn up(file: &[u8], out: &mut [u8]) -> Conversion
-    ensures { ConvertPost version1 version2 file.now result out.old out.new }
+pub fn up(file: &[u8], out: &mut [u8]) -> Result<usize, Refusal>
+    ensures { ConvertPost version1 version2 file.now (reply_of result) out.old out.new }
 {
     convert(file, bids::version1(), bids::version2(), out)
 }
 
 // From version 2 to version 1, where each site fits it and no slot is optional.
-pub fn down(file: &[u8], out: &mut [u8]) -> Conversion
-    ensures { ConvertPost version2 version1 file.now result out.old out.new }
+pub fn down(file: &[u8], out: &mut [u8]) -> Result<usize, Refusal>
+    ensures { ConvertPost version2 version1 file.now (reply_of result) out.old out.new }
 {
     convert(file, bids::version2(), bids::version1(), out)
 }
@@ -225,8 +196,8 @@ fn says_2(file: &[u8]) -> bool
 }
 
 // From the version that the file says it has to the other one.
-pub fn turn(file: &[u8], out: &mut [u8]) -> Conversion
-    ensures { ConvertPost (own_layout file.now) (other_layout file.now) file.now result out.old out.new }
+pub fn turn(file: &[u8], out: &mut [u8]) -> Result<usize, Refusal>
+    ensures { ConvertPost (own_layout file.now) (other_layout file.now) file.now (reply_of result) out.old out.new }
 {
     if says_2(file) {
         return down(file, out);

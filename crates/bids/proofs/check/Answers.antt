@@ -1,14 +1,16 @@
 use Rattle.bids.proofs.Laws.{fnv-none, fnv-more}
-use mathlib.Core.Path.{sym, ◌∙◌}
+use Prim.Native.Nat.{◌<◌}
+use lib.Seq.{get_or-take, length-take-le}
+use mathlib.Core.Path.{sym}
 use native.Mathlib.Omega.{arith}
 use Rattle.bids.proofs.check.Goals as goal
 
-pub loop-i-init : goal.loop-i-init
-loop-i-init c = (omega arith, fnv-none c.args.file.now)
+pub loop-byte-init : goal.loop-byte-init
+loop-byte-init c = fnv-none c.args.file.now
 
-pub loop-i-preserved : goal.loop-i-preserved
-loop-i-preserved c = (
-  omega arith,
-  (rw (c.wide32.ensures, c.loop-i.invariant.1) at c.wrapping_mul-h.ensures) ∙ sym
-      (fnv-more c.args.file.now c.loop-i.i (omega arith)),
-)
+pub loop-byte-preserved : goal.loop-byte-preserved
+loop-byte-preserved c =
+    let b = c.args.file.now in
+    let i = c.loop-byte.byte-index in
+    let l : i < c.args.n = omega (arith, length-take-le c.args.n b c.requires) in
+    rw (c.loop-byte.invariant, get_or-take c.args.n b i 0 l) (sym (fnv-more b i (omega arith)))

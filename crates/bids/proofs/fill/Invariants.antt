@@ -3,13 +3,9 @@ use Rattle.bids.proofs.Answers.{items_there, cost_there}
 use Rattle.bids.specs.Format.{package_place}
 use Rattle.bids.specs.Ranges.{listed}
 use Rattle.itemset.specs.Words.{spread}
-use Prim.Native.Nat.{◌≤◌, ◌-◌}
 use mathlib.Core.Path.{◌≡◌}
 use Rattle.bids.proofs.fill.Given as goal
 
 abbrev pub invariant-loop-k : goal.invariant-loop-k
-invariant-loop-k l = (l.k ≤ l.n) × (l.c.at ≡ package_place l.layout l.s l.k) × (l.packages ≡ over (spread 3 (listed (items_there l.layout l.file) l.k)) l.initial.packages) ×
+invariant-loop-k l = (l.cursor.at ≡ package_place l.layout l.s l.k) × (l.packages ≡ over (spread 3 (listed (items_there l.layout l.file) l.k)) l.initial.packages) ×
     (l.costs ≡ over (listed (cost_there l.layout l.file) l.k) l.initial.costs)
-
-abbrev pub decreases-loop-k : goal.decreases-loop-k
-decreases-loop-k l = l.n - l.k

@@ -1,11 +1,7 @@
 use Rattle.bids.specs.Format.{school_place, schools_in}
 use Rattle.bids.specs.Contents.{school_in}
-use Prim.Native.Nat.{◌≤◌, ◌-◌}
 use mathlib.Core.Path.{◌≡◌}
 use Rattle.bids.proofs.school_index.Given as goal
 
 abbrev pub invariant-loop-j : goal.invariant-loop-j
-invariant-loop-j l = (l.j ≤ l.n) × (l.c.at ≡ school_place l.layout l.j) × (school_in (schools_in l.layout l.file) l.j l.wanted ≡ l.j)
-
-abbrev pub decreases-loop-j : goal.decreases-loop-j
-decreases-loop-j l = l.n - l.j
+invariant-loop-j l = (l.cursor.at ≡ school_place l.layout l.j) × (school_in (schools_in l.layout l.file) l.j l.wanted ≡ l.j)

@@ -8,13 +8,12 @@ use Rattle.conversion.proofs.put.Goals as goal
 
 pub loop-i-preserved : goal.loop-i-preserved
 loop-i-preserved c = (
-  omega arith,
-  simp length-set c.loop-i.invariant.1,
-  byte_put c.loop-i.out c.loop-i.rest (omega arith) (omega arith) ∙ c.loop-i.invariant.2,
+  simp length-set c.loop-i.invariant.0,
+  byte_put c.loop-i.out c.loop-i.rest (omega arith) (omega arith) ∙ c.loop-i.invariant.1,
 )
 
 pub returns : goal.returns
 returns c = record {
-  stored = sym (bytes_put c.loop-i.out (c.args.at + c.loop-i.i) c.loop-i.rest (omega arith)) ∙ c.loop-i.invariant.2;
+  stored = sym (bytes_put c.loop-i.out (c.args.at + c.loop-i.i) c.loop-i.rest (omega arith)) ∙ c.loop-i.invariant.1;
   next = rw length_bytes;
 }

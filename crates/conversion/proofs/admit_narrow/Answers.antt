@@ -8,7 +8,7 @@ use Rattle.bids.specs.Format.{schools}
 use Rattle.bids.proofs.Records.{told}
 use Rattle.bids.proofs.Places.{header_before}
 use Rattle.conversion.specs.Contract.{optional_present}
-use Rattle.conversion.proofs.narrow_refusal.Goals as goal
+use Rattle.conversion.proofs.admit_narrow.Goals as goal
 
 pub returns-then-wide_site : goal.returns-then-wide_site
 returns-then-wide_site c = sym (hit 32 _ (sym c.wide_site.ensures ∙ c.if-wide_site.true))
