@@ -11,7 +11,7 @@ use borrow.Author.Tests.{le-ltb}
 use lib.ListN.{length, take, drop, length-append}
 use lib.Seq.{take_all, take_at, length-take-le}
 use Rattle.statement.specs.Refusals.{first_of}
-use Rattle.statement.specs.Replies.{refused, gives}
+use Rattle.statement.specs.Replies.{Reply, refused, gives}
 use Rattle.statement.proofs.FirstOf.{avoided}
 use Rattle.statement.proofs.TestLaws.{was_given, was_refused}
 use Rattle.bids.specs.Format.{version1, version2, contents, cut, header_tests, record_tests, refusal}
@@ -22,8 +22,7 @@ use Rattle.bids.proofs.Places.{legible1, legible2}
 use Rattle.bids.proofs.Prefix.{longest, longest1, longest2, word_same, enough, all_of_it, short_enough}
 use Rattle.bids.proofs.Records.{school_count, package_count}
 use Rattle.conversion.specs.Writing.{file_of}
-use Rattle.conversion.specs.Contract.{choose, says2, own_layout, other_layout, lost_tests, convert_refusal, convert_reply, ConvertPost}
-use Rattle.conversion.specs.declared.Conversion.{Conversion}
+use Rattle.conversion.specs.Contract.{choose, says2, own_layout, other_layout, lost_tests, convert_refusal, ConvertPost}
 use Rattle.conversion.proofs.Answers.{by_file, by_lost, converted}
 use Rattle.conversion.proofs.Written.{length-file}
 use Rattle.printout.specs.Text.{refused_line}
@@ -111,14 +110,14 @@ turned_for buffer n h w = λ b e. w.text ∙ ap turned (sym e) ∙ same-turned b
 
 -- ---- in the buffer
 
-module _ {b out out' : List ℕ} {r : Conversion} (room : length out ≡ 16384) (p : ConvertPost (own_layout b) (other_layout b) b r out out') where
+module _ {b out out' : List ℕ} {r : Reply ℕ} (room : length out ≡ 16384) (p : ConvertPost (own_layout b) (other_layout b) b r out out') where
   abbrev file : List ℕ
   file = file_of (other_layout b) (contents (own_layout b) b)
 
   said_as : convert_refusal (own_layout b) (other_layout b) b (length out) ≡ convert_refusal (own_layout b) (other_layout b) b 16384
   said_as = rw room
 
-  pub turned-said : {n : ℕ} {out'' : List ℕ} {k : ℕ} → convert_reply r ≡ refused n → length out'' ≡ 16384 → Holds out'' k (refused_line n)
+  pub turned-said : {n : ℕ} {out'' : List ℕ} {k : ℕ} → r ≡ refused n → length out'' ≡ 16384 → Holds out'' k (refused_line n)
       → Whole 16384 out'' k (turned b)
   unfolding turned
   turned-said {n} e l h =
@@ -126,7 +125,7 @@ module _ {b out out' : List ℕ} {r : Conversion} (room : length out ≡ 16384) 
       let t : refused_line n ≡ turned b = said n _ (sym said_as ∙ q.0) q.1 in
       record { long = l; inside = h.inside; text = (h.text (omega (arith, refused-short n))).1 ∙ t }
 
-  pub turned_gave : {n : ℕ} → convert_reply r ≡ gives n → length out' ≡ 16384 → Whole 16384 out' n (turned b)
+  pub turned_gave : {n : ℕ} → r ≡ gives n → length out' ≡ 16384 → Whole 16384 out' n (turned b)
   unfolding turned
   turned_gave {n} e l =
       let q = was_given n (convert_refusal (own_layout b) (other_layout b) b (length out)) (length file) (sym e ∙ p.answer) in

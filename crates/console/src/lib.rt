@@ -1,13 +1,12 @@
 // The programs' input and output: from a reader to a writer. A read or a write that fails ends the program with its error.
 #![tactic(auto)]
 
-ghost use Rattle.std.specs.Prelude.{◌≡◌, ◌≤◌, length, take, IfOk, IfSome, OnOk};
+ghost use Rattle.std.specs.Prelude.{◌≡◌, ◌≤◌, ℕ, List, length, take, IfOk, IfSome, OnOk};
 ghost use Rattle.std.specs.Io.KnownBytes.{Appends};
-ghost use Rattle.printout.specs.Program.{printed, PrintedFor};
+ghost use Rattle.printout.specs.Program.{printed, WrittenFor};
 ghost use Rattle.printout.specs.Written.{Whole};
-ghost use Rattle.console.specs.Turned.{turned, TurnedFor};
+ghost use Rattle.console.specs.Turned.{turned};
 
-use conversion::Conversion;
 use std::io;
 
 // Reads until the buffer is full or the file ends; how many bytes it has put at the start of the buffer, which are the file's first.
@@ -26,7 +25,7 @@ pub fn read_full<R: io::Read>(file: &mut R, buffer: &mut [u8]) -> io::Result<usi
     Ok(done)
 }
 
-// Writes the first k bytes of the text: all that is printed for any file of which the buffer holds the first n bytes. (These are for the contract alone.)
+// Writes the first k bytes of the text: all that `made` gives for any file of which the buffer holds the first n bytes. (The buffer is for the contract alone.)
 fn write<W: io::Write>(
     out: &mut W,
     buffer: &[u8],
@@ -34,8 +33,9 @@ fn write<W: io::Write>(
     text: &[u8],
     k: usize,
 ) -> io::Result<()>
+    ghost made: { List ℕ → List ℕ }
     requires k_in_bounds { k ≤ length text.now }
-    requires printed_for { PrintedFor buffer.now n (take k text.now) }
+    requires written_for { WrittenFor made buffer.now n (take k text.now) }
     ensures { OnOk result (Appends (W.contents out.old) (W.contents out.new) (take k text.now)) }
 {
     out.write_all(&text[..k])
@@ -57,26 +57,11 @@ pub fn answer<R: io::Read, W: io::Write>(input: &mut R, out: &mut W) -> io::Resu
 fn turn(file: &[u8], out: &mut [u8; 16384]) -> usize
     ensures { Whole 16384 out.new result (turned file.now) }
 {
-    let conversion = conversion::turn(file, out);
-    match conversion {
-        Conversion::Written(n) => n,
-        Conversion::Refused(number) => printout::put_refused(out, 0, number),
+    let turned = conversion::turn(file, out);
+    match turned {
+        Ok(n) => n,
+        Err(refusal) => printout::put_refused(out, 0, refusal.number()),
     }
-}
-
-// Writes the first k bytes of what was made of any file of which the buffer holds the first n bytes.
-fn write_turned<W: io::Write>(
-    out: &mut W,
-    buffer: &[u8],
-    n: usize,
-    text: &[u8],
-    k: usize,
-) -> io::Result<()>
-    requires k_in_bounds { k ≤ length text.now }
-    requires turned_for { TurnedFor buffer.now n (take k text.now) }
-    ensures { OnOk result (Appends (W.contents out.old) (W.contents out.new) (take k text.now)) }
-{
-    out.write_all(&text[..k])
 }
 
 // Converts a bids file to the other version. No accepted file of either has more than 6869 bytes. Where the reader's bytes are known, the writer gets what they
@@ -88,5 +73,5 @@ pub fn convert<R: io::Read, W: io::Write>(input: &mut R, out: &mut W) -> io::Res
     let n = read_full(input, &mut file)?;
     let mut text = [0u8; 16384];
     let k = turn(&file[..n], &mut text);
-    write_turned(out, &file, n, &text, k)
+    write(out, &file, n, &text, k)
 }

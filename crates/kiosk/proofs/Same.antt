@@ -15,8 +15,6 @@ use Rattle.base.proofs.Bools.{is_false, by_test, same_test, never}
 use Rattle.zdd.specs.Table.{Node as TableNode, node, blank, count, triples, nodes_of, family, soundb, Nodes, Sound}
 use Rattle.zdd.proofs.Tested.{sound_of, sound_test}
 use Rattle.exact_cover.specs.Cover.{keys_of}
-use Rattle.statement.specs.declared.Soundness.{Soundness}
-use Rattle.statement.specs.declared.Counted.{Counted}
 use Rattle.statement.specs.Replies.{Reply, reply}
 use Rattle.statement.specs.Refusals.{first_of, package_tests, unsound, unknown_answer, short_work, uncountable, check_refusal, count_refusal}
 use Rattle.statement.specs.Postconditions.{CheckPost, CountPost}
@@ -66,7 +64,7 @@ no_room_lem K u e = is_false (soundb K u) (λ h. let s = sound_of K u h in omega
 
 -- ---- the calls on such tables
 
-check_alike : {Q : Problem} {m : ℕ} {u v : List ℕ} {r : Soundness} → Alike (keys_of Q) u v → CheckPost Q m u r → CheckPost Q m v r
+check_alike : {Q : Problem} {m : ℕ} {u v : List ℕ} {r : Reply (Unit {0})} → Alike (keys_of Q) u v → CheckPost Q m u r → CheckPost Q m v r
 unfolding check_refusal unsound
 check_alike {Q} {m} {u} {v} {r} a p = record {
   result = p.result ∙ ap (λ (b : Bool). reply (first_of (package_tests Q m ((not b, 4) ∷ []))) tt) a.sound;
@@ -81,7 +79,7 @@ shut Q m ts ts' x x' =
     sym (reply-refused k x (front (package_tests Q m ((true, 4) ∷ [])) ts some) some)
     ∙ reply-refused k x' (front (package_tests Q m ((true, 4) ∷ [])) ts' some) some
 
-count_alike : {Q : Problem} {m : ℕ} {u v : List ℕ} {a words : ℕ} {r : Counted} → Alike (keys_of Q) u v → CountPost Q m u a words r → CountPost Q m v a words r
+count_alike : {Q : Problem} {m : ℕ} {u v : List ℕ} {a words : ℕ} {r : Reply ℕ} → Alike (keys_of Q) u v → CountPost Q m u a words r → CountPost Q m v a words r
 unfolding count_refusal unsound unknown_answer
 count_alike {Q} {m} {u} {v} {a} {words} {r} k p = record { result = p.result ∙ by_test (soundb (keys_of Q) u) good bad }
   where
@@ -174,8 +172,8 @@ module _ (Q : Problem) (m n : ℕ) (ns : List Node) where
   made : (k : ℕ) → k ≡ 196603 → Alike (keys_of Q) (headed (filled (replicate k 0) ns (length ns)) n (length ns)) (table_of n (nodes_in ns))
   made k e = alike (replicate k 0) (length-replicate k 0 ∙ e) (zeros k) (keys_of Q) n ns
 
-  pub check-same : (r : Soundness) → CheckPost Q m (headed (filled (replicate 196603 0) ns (length ns)) n (length ns)) r → KioskCheckPost Q m n (nodes_in ns) r
+  pub check-same : (r : Reply (Unit {0})) → CheckPost Q m (headed (filled (replicate 196603 0) ns (length ns)) n (length ns)) r → KioskCheckPost Q m n (nodes_in ns) r
   check-same r p = check_alike (made 196603 refl) p
 
-  pub count_same : (a words : ℕ) (r : Counted) → CountPost Q m (headed (filled (replicate 196603 0) ns (length ns)) n (length ns)) a words r → KioskCountPost Q m n (nodes_in ns) a words r
+  pub count_same : (a words : ℕ) (r : Reply ℕ) → CountPost Q m (headed (filled (replicate 196603 0) ns (length ns)) n (length ns)) a words r → KioskCountPost Q m n (nodes_in ns) a words r
   count_same a words r p = count_alike (made 196603 refl) p

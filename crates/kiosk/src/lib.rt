@@ -5,34 +5,21 @@
 ghost use Rattle.std.specs.Prelude.{◌≡◌, length};
 ghost use Rattle.itemset.specs.Words.{value};
 ghost use Rattle.exact_cover.specs.Problem.{problem_of};
-ghost use Rattle.statement.specs.Postconditions.{CheckPost, CountPost};
+ghost use Rattle.statement.specs.Replies.{reply_of};
 ghost use Rattle.statement.specs.Kiosk.{KioskCheckPost, KioskCountPost};
 ghost use Rattle.kiosk.specs.Triples.{nodes_in};
-ghost use Rattle.kiosk.specs.Flat.{blankb, put3, filled, numbered, headed};
+ghost use Rattle.kiosk.specs.Flat.{put3, filled, numbered, headed};
 
 use itemset::Items;
-use statement::{Counted, Soundness};
+use statement::Refusal;
 
 // A triple of the list: a branch node, or all 0.
 #[repr(C)]
-#[derive(Clone, Copy)]
+#[derive(Clone, Copy, Default, PartialEq, Eq)]
 pub struct Node {
     pub label: u32,
     pub lo: u32,
     pub hi: u32,
-}
-
-// Whether a triple is all 0.
-fn blank(x: Node) -> bool
-    ensures { result ≡ blankb x }
-{
-    if x.label != 0 {
-        return false;
-    }
-    if x.lo != 0 {
-        return false;
-    }
-    x.hi == 0
 }
 
 // Triple i goes into its three words. A table has room for 65534, in 1 + 3 * 65534 words: of a triple past them only whether it is all 0 matters,
@@ -47,19 +34,8 @@ fn put(words: &mut [u32; 196603], i: usize, x: Node)
         words[at + 2] = x.hi;
         return;
     }
-    if !blank(x) {
+    if x != Node::default() {
         words[0] = 4294967295;
-    }
-}
-
-// Every triple.
-fn flatten(nodes: &[Node], words: &mut [u32; 196603])
-    ensures { words.new ≡ filled words.old nodes.now (length nodes.now) }
-{
-    let mut i: usize = 0;
-    while i < nodes.len() {
-        put(&mut *words, i, nodes[i]);
-        i += 1;
     }
 }
 
@@ -67,53 +43,19 @@ fn flatten(nodes: &[Node], words: &mut [u32; 196603])
 fn number(n: u32, len: usize) -> u32
     ensures { result ≡ numbered n len }
 {
-    if len < base::wide(n) {
-        return 4294967295;
-    }
-    n
+    if len < n as usize { 4294967295 } else { n }
 }
 
-// It goes into word 0, which the triples may have spoilt.
-fn head(words: &mut [u32; 196603], n: u32, len: usize)
-    ensures { words.new ≡ headed words.old n len }
+// Every triple, and then the number of nodes in word 0, which the triples may have spoilt.
+fn flatten(n: u32, nodes: &[Node], words: &mut [u32; 196603])
+    ensures { words.new ≡ headed (filled words.old nodes.now (length nodes.now)) n (length nodes.now) }
 {
+    for (i, x) in nodes.iter().enumerate() {
+        put(words, i, *x);
+    }
     if words[0] == 0 {
-        words[0] = number(n, len);
+        words[0] = number(n, nodes.len());
     }
-}
-
-// The soundness check of the words.
-fn check_words(
-    m: u32,
-    packages: &[u64],
-    optional: Items,
-    order: &[u8],
-    n: u32,
-    len: usize,
-    words: &mut [u32; 196603],
-) -> Soundness
-    ensures { CheckPost (problem_of packages.now (value optional) order.now) m (headed words.old n len) result }
-{
-    head(&mut *words, n, len);
-    engine::check(m, packages, optional, order, &words[..])
-}
-
-// Count on the words.
-fn count_words(
-    m: u32,
-    packages: &[u64],
-    optional: Items,
-    order: &[u8],
-    n: u32,
-    len: usize,
-    words: &mut [u32; 196603],
-    answer: u32,
-    work: &mut [u64],
-) -> Counted
-    ensures { CountPost (problem_of packages.now (value optional) order.now) m (headed words.old n len) answer (length work.old) result }
-{
-    head(&mut *words, n, len);
-    engine::count(m, packages, optional, order, &words[..], answer, work)
 }
 
 // The soundness check: 1, 2, 29, 30, 34, 4 or sound.
@@ -124,12 +66,12 @@ pub fn check(
     order: &[u8],
     n: u32,
     nodes: &[Node],
-) -> Soundness
-    ensures { KioskCheckPost (problem_of packages.now (value optional) order.now) m n (nodes_in nodes.now) result }
+) -> Result<(), Refusal>
+    ensures { KioskCheckPost (problem_of packages.now (value optional) order.now) m n (nodes_in nodes.now) (reply_of result) }
 {
     let mut words = [0u32; 196603];
-    flatten(nodes, &mut words);
-    check_words(m, packages, optional, order, n, nodes.len(), &mut words)
+    flatten(n, nodes, &mut words);
+    engine::check(m, packages, optional, order, &words)
 }
 
 // How many timetables the answer holds.
@@ -142,20 +84,10 @@ pub fn count(
     nodes: &[Node],
     answer: u32,
     work: &mut [u64],
-) -> Counted
-    ensures { KioskCountPost (problem_of packages.now (value optional) order.now) m n (nodes_in nodes.now) answer (length work.old) result }
+) -> Result<u64, Refusal>
+    ensures { KioskCountPost (problem_of packages.now (value optional) order.now) m n (nodes_in nodes.now) answer (length work.old) (reply_of result) }
 {
     let mut words = [0u32; 196603];
-    flatten(nodes, &mut words);
-    count_words(
-        m,
-        packages,
-        optional,
-        order,
-        n,
-        nodes.len(),
-        &mut words,
-        answer,
-        work,
-    )
+    flatten(n, nodes, &mut words);
+    engine::count(m, packages, optional, order, &words, answer, work)
 }

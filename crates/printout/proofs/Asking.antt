@@ -24,12 +24,11 @@ use Rattle.exact_cover.specs.Recursion.{Ascends, rank}
 use Rattle.exact_cover.proofs.Covers.{covers-cons}
 use Rattle.exact_cover.proofs.Sets.{sets_member}
 use Rattle.query.specs.Questions.{family_at, nth, position, cost, cheapest}
-use Rattle.statement.specs.declared.Picked.{Picked}
-use Rattle.statement.specs.declared.Priced.{Priced}
-use Rattle.statement.specs.declared.Placed.{Placed}
-use Rattle.statement.specs.declared.Report.{Report}
+use Rattle.std.specs.Prelude.{Result, Ok, Err}
+use Rattle.std.specs.Result.{result_unwrap_or}
+use Rattle.statement.specs.declared.Refusal.{Refusal}
+use Rattle.statement.specs.Replies.{Report, Reply, gives, refused, reply, reply_of}
 use Rattle.statement.specs.Examples.{all_items}
-use Rattle.statement.specs.Replies.{Reply, gives, refused, reply, outcome_reply, pick_reply, place_reply, cheapest_reply}
 use Rattle.exact_cover.specs.Problem.{Problem, row, Rows}
 use Rattle.statement.specs.Calls.{cover_refusal}
 use Rattle.statement.specs.Refusals.{Fit, first_of, unsound, uncountable, count_refusal, cheapest_refusal}
@@ -78,6 +77,11 @@ gives_pair {x} {y} {u} {v} e = let q : ◌≡◌ {A = ℕ × ℕ} (x, y) (u, v) 
 pub no_refusal : {A : Type 0} {P : Type 0} {n : ℕ} {x : A} → refused n ≡ gives x → P
 no_refusal e = absurd (let z : ◌≡◌ {A = ℕ} 0 1 = cc in omega arith)
 
+-- what is read off a result that is no refusal
+pub unwrapped : (r : Result ℕ Refusal) {x : ℕ} → reply_of r ≡ gives x → result_unwrap_or r 0 ≡ x
+unwrapped (Ok v) e = gives_same e
+unwrapped (Err q) e = no_refusal e
+
 -- ---- the questions
 
 -- the page after a call that was not refused: the list s at its start
@@ -101,12 +105,12 @@ module _ {Q : Problem} {m : ℕ} {t : List ℕ} {a words : ℕ} (L : Listable Q 
   ready = record { fit = A.fit; sound = A.sound; known = A.known; counted = countable F L.few }
 
   -- what pick leaves; n is what was read off its answer
-  pub picked_page : {k n : ℕ} {page page' : List ℕ} {r : Picked} → k < length F → 64 ≤ length page → PickPost Q m t a k words page r page'
-      → ((x : ℕ) → pick_reply r ≡ gives x → n ≡ x) → (n ≤ 64) × (take n page' ≡ nth F k)
-  picked_page {k} {n} {page} {page'} l h P f =
+  pub picked_page : {k n : ℕ} {page page' : List ℕ} (r : Result ℕ Refusal) → k < length F → 64 ≤ length page → PickPost Q m t a k words page (reply_of r) page'
+      → n ≡ result_unwrap_or r 0 → (n ≤ 64) × (take n page' ≡ nth F k)
+  picked_page {k} {n} {page} {page'} r l h P f =
       let b = A.short (nth F k) (nth-elem F k l) in
       let z = pick-ready ready k words page A.room l (omega (arith, h, b)) in
-      let e : n ≡ length (nth F k) = f (length (nth F k)) (P.result ∙ sym (reply_gives (length (nth F k)) z)) in
+      let e : n ≡ length (nth F k) = f ∙ unwrapped r (P.result ∙ sym (reply_gives (length (nth F k)) z)) in
       (omega (arith, e, b), page_left (nth F k) page e z P.pages)
 
   module _ (C : List ℕ) (p : length C ≡ length Q.packages) (some : 0 < length F) where
@@ -127,15 +131,15 @@ module _ {Q : Problem} {m : ℕ} {t : List ℕ} {a words : ℕ} (L : Listable Q 
         ∙ pass 15 _ (page_fits page s (omega (arith, h, A.short s in_F))) ∙ none
 
     -- what cheapest leaves; n is what was read off its answer
-    pub priced_page : {n : ℕ} {page page' : List ℕ} {r : Priced} → 64 ≤ length page → CheapestPost Q m C t a words page r page'
-        → ((x y : ℕ) → cheapest_reply r ≡ gives (x, y) → n ≡ x) → (n ≤ 64) × (take n page' ≡ s)
+    pub priced_page : {n : ℕ} {page page' : List ℕ} {r : Reply (ℕ × ℕ)} → 64 ≤ length page → CheapestPost Q m C t a words page r page'
+        → ((x y : ℕ) → r ≡ gives (x, y) → n ≡ x) → (n ≤ 64) × (take n page' ≡ s)
     priced_page {n} {page} {page'} h P f =
         let z = cheapest-given page h in
         let e : n ≡ length s = f (length s) (cost C s) (P.result ∙ sym (reply_gives (length s, cost C s) z)) in
         (omega (arith, e, A.short s in_F), page_left s page e z P.pages)
 
     -- its place
-    pub place_gives : {l : List ℕ} {words' : ℕ} {r : Placed} → l ≡ s → words' ≡ words → PlacePost Q m t a l words' r → place_reply r ≡ gives (position s F)
+    pub place_gives : {l : List ℕ} {words' : ℕ} {r : Reply ℕ} → l ≡ s → words' ≡ words → PlacePost Q m t a l words' r → r ≡ gives (position s F)
     place_gives {l} {words'} e d P =
         P.result
         ∙ ap₂ reply (place-ready ready l words' (omega (arith, d, A.room)) (subst⁻¹ (λ (u : List ℕ). elem u F ≡ true) e in_F)) (ap (λ (u : List ℕ). position u F) e)
@@ -143,18 +147,18 @@ module _ {Q : Problem} {m : ℕ} {t : List ℕ} {a words : ℕ} (L : Listable Q 
 -- ---- cover's answer
 
 -- the refusal that cover said
-pub cover-refused : {K : List ℕ} {F : Family} {st : ℕ} {b : List ℕ} {r : Report} {t : List ℕ} (n x : ℕ) → Makes K n F st b r t → outcome_reply r.outcome ≡ refused x
+pub cover-refused : {K : List ℕ} {F : Family} {st : ℕ} {b : List ℕ} {r : Report} {t : List ℕ} (n x : ℕ) → Makes K n F st b r t → r.outcome ≡ refused x
     → (n ≡ x) × (x ≡ 0 → ⊥)
 cover-refused zero x M e = no_refusal (sym e ∙ (M.answered refl).outcome)
 cover-refused (suc n) x M e = let q : refused (suc n) ≡ refused x = sym (M.declined (omega arith)).outcome ∙ e in let z : suc n ≡ x = cc in (z, λ y. omega arith)
 
-pub cover_answered : {K : List ℕ} {F : Family} {st : ℕ} {b : List ℕ} {r : Report} {t : List ℕ} (n a : ℕ) → Makes K n F st b r t → outcome_reply r.outcome ≡ gives a
+pub cover_answered : {K : List ℕ} {F : Family} {st : ℕ} {b : List ℕ} {r : Report} {t : List ℕ} (n a : ℕ) → Makes K n F st b r t → r.outcome ≡ gives a
     → (n ≡ 0) × Answered K F st b r t
 cover_answered zero a M e = (refl, M.answered refl)
 cover_answered (suc n) a M e = no_refusal (sym (M.declined (omega arith)).outcome ∙ e)
 
 pub askable : (Q : Problem) (m limit words : ℕ) {b : List ℕ} {st : ℕ} {r : Report} {t : List ℕ} (a : ℕ) → length b ≡ 5401 → words ≡ 3604 → m ≤ 64
-    → cover_refusal Q m b (all_items m) limit words ≡ 0 → Answered (keys_of Q) (covering Q (all_items m)) st b r t → outcome_reply r.outcome ≡ gives a
+    → cover_refusal Q m b (all_items m) limit words ≡ 0 → Answered (keys_of Q) (covering Q (all_items m)) st b r t → r.outcome ≡ gives a
     → Askable Q m t a words × (family_at t a ≡ covering Q (all_items m))
 unfolding unsound
 askable Q m limit words {t = t} a l v h z A o =

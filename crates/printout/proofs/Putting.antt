@@ -6,11 +6,12 @@ use native.Mathlib.Nat.{div-lt_iff_lt-mul, pow-suc}
 use native.Mathlib.Numerals.{add-one}
 use native.Mathlib.Omega.{arith}
 use borrow.Author.Tests.{lt-ltb, le-ltb}
-use lib.ListN.{length, take, set, get_or, length-append, length-set}
-use lib.Seq.{take-suc, take-suc-set}
+use lib.ListN.{length, take, get_or}
+use lib.Seq.{take-suc}
 use Rattle.query.specs.Questions.{cost}
 use Rattle.printout.specs.Text.{decimal_in, decimal, field, packages_text}
-use Rattle.printout.specs.Written.{Puts}
+use Rattle.printout.specs.Written.{Puts, Adds}
+use Rattle.printout.specs.declared.Writer.{Writer}
 
 -- ---- one part and the next
 
@@ -20,32 +21,16 @@ puts_none out at ts h = rw append-nil h
 pub puts_then : {out out₁ out₂ : List ℕ} {at at₁ at₂ : ℕ} (xs : List ℕ) {ys : List ℕ} → Puts out at out₁ at₁ xs → Puts out₁ at₁ out₂ at₂ ys → Puts out at out₂ at₂ (xs ++ ys)
 puts_then xs {ys} p q ts h = rw (← append_assoc ts xs ys) (q (ts ++ xs) (p ts h))
 
-pub puts_same : {out out' : List ℕ} {at at' : ℕ} {xs ys : List ℕ} → xs ≡ ys → Puts out at out' at' xs → Puts out at out' at' ys
-puts_same {out} {out'} {at} {at'} e p = subst (λ (l : List ℕ). Puts out at out' at' l) e p
+-- ---- by a writer
 
-pub text-more : (xs : List ℕ) (i : ℕ) → i < length xs → take i xs ++ (get_or xs i 0 ∷ []) ≡ take (i + 1) xs
-text-more xs i h = sym (ap (λ (k : ℕ). take k xs) (add-one i) ∙ take-suc xs i 0 h)
+pub adds_none : (w : Writer) → Adds w w []
+adds_none w = record { same_buffer = refl; long = refl; puts = puts_none w.buffer.now w.len }
 
--- ---- a byte
+pub adds_then : {w w₁ w₂ : Writer} (xs : List ℕ) {ys : List ℕ} → Adds w w₁ xs → Adds w₁ w₂ ys → Adds w w₂ (xs ++ ys)
+adds_then xs p q = record { same_buffer = q.same_buffer ∙ p.same_buffer; long = q.long ∙ p.long; puts = puts_then xs p.puts q.puts }
 
-module _ (out : List ℕ) (at x : ℕ) where
-  pub byte_put : at < length out → Puts out at (set out at x) (at + 1) (x ∷ [])
-  byte_put l ts h = record {
-    inside = omega (arith, length-set out at x);
-    text = λ f.
-        let e : length (ts ++ (x ∷ [])) ≡ length ts + 1 = length-append ts (x ∷ []) in
-        let g = h.text (omega (arith, length-set out at x)) in
-        (omega arith, ap (λ (i : ℕ). take i (set out at x)) (add-one at) ∙ take-suc-set out at x l ∙ ap (λ (l : List ℕ). l ++ (x ∷ [])) g.1);
-  }
-
-  pub no_room_lem : length out ≤ at → Puts out at out at (x ∷ [])
-  no_room_lem l ts h = record {
-    inside = h.inside;
-    text = λ f.
-        let e : length (ts ++ (x ∷ [])) ≡ length ts + 1 = length-append ts (x ∷ []) in
-        let g = h.text (omega arith) in
-        absurd (omega arith);
-  }
+pub adds_same : {w w' : Writer} {xs ys : List ℕ} → xs ≡ ys → Adds w w' xs → Adds w w' ys
+adds_same {w} {w'} e p = subst (λ (l : List ℕ). Adds w w' l) e p
 
 -- ---- a number
 
@@ -61,14 +46,14 @@ more_digits d x h = rw (le-ltb x 10 h, decimal_in)
 tenth : (x d : ℕ) → x < 10 ^ suc d → x / 10 < 10 ^ d
 tenth x d h = (div-lt_iff_lt-mul {k = 10} {x = x} {y = 10 ^ d} (omega arith)).1 (rw (pow-suc 10 d) at h)
 
-pub digits_put : {out out₁ out₂ : List ℕ} {at at₁ at₂ : ℕ} (x : ℕ) → 10 ≤ x
-    → ((d : ℕ) → x / 10 < 10 ^ suc d → Puts out at out₁ at₁ (decimal_in (suc d) (x / 10))) → Puts out₁ at₁ out₂ at₂ ((48 + x % 10) ∷ [])
-    → (d : ℕ) → x < 10 ^ suc d → Puts out at out₂ at₂ (decimal_in (suc d) x)
+pub digits_put : {w w₁ w₂ : Writer} (x : ℕ) → 10 ≤ x
+    → ((d : ℕ) → x / 10 < 10 ^ suc d → Adds w w₁ (decimal_in (suc d) (x / 10))) → Adds w₁ w₂ ((48 + x % 10) ∷ [])
+    → (d : ℕ) → x < 10 ^ suc d → Adds w w₂ (decimal_in (suc d) x)
 digits_put x h p q zero l = absurd (omega arith)
-digits_put x h p q (suc d) l = puts_same (more_digits (suc d) x h) (puts_then (decimal_in (suc d) (x / 10)) (p d (tenth x (suc d) l)) q)
+digits_put x h p q (suc d) l = adds_same (more_digits (suc d) x h) (adds_then (decimal_in (suc d) (x / 10)) (p d (tenth x (suc d) l)) q)
 
-pub decimal-put : {out out' : List ℕ} {at at' : ℕ} (x : ℕ) → x < 2 ^ 64
-    → ((d : ℕ) → x < 10 ^ suc d → Puts out at out' at' (decimal_in (suc d) x)) → Puts out at out' at' (decimal x)
+pub decimal-put : {w w' : Writer} (x : ℕ) → x < 2 ^ 64
+    → ((d : ℕ) → x < 10 ^ suc d → Adds w w' (decimal_in (suc d) x)) → Adds w w' (decimal x)
 unfolding decimal
 decimal-put x h p = p 19 (omega arith)
 

@@ -8,27 +8,23 @@ use native.Mathlib.Numerals.{add-one}
 use native.Mathlib.Omega.{arith}
 use borrow.Author.Tests.{eq-eqb, ne_eqb, ltb-false}
 use lib.ListN.{length, take, replicate, length-replicate}
-use Rattle.itemset.specs.Words.{width, value}
-use Rattle.itemset.specs.declared.Items.{Items}
+use Rattle.itemset.specs.Words.{width}
 use Rattle.itemset.proofs.Lists.{width_is}
 use Rattle.zdd.specs.Table.{Family}
 use Rattle.query.specs.Questions.{family_at, nth, position, cheapest}
 use Rattle.exact_cover.proofs.Orders.{take-plain}
 use Rattle.exact_cover.specs.Problem.{Problem, problem_of, up_to}
 use Rattle.statement.specs.Calls.{cover_refusal}
-use Rattle.statement.specs.Refusals.{first_of, uncountable}
-use Rattle.statement.specs.Postconditions.{CoverPost}
+use Rattle.statement.specs.Refusals.{first_of, uncountable, count_refusal}
+use Rattle.statement.specs.Postconditions.{CoverPost, CountPost}
 use Rattle.statement.specs.Examples.{all_items}
-use Rattle.statement.specs.Replies.{refused, gives, outcome_reply}
-use Rattle.statement.specs.declared.Report.{Report}
+use Rattle.statement.specs.Replies.{Reply, refused, gives, Report}
 use Rattle.statement.proofs.FirstOf.{passed}
 use Rattle.statement.proofs.Made.{made-missing}
-use Rattle.statement.proofs.TestLaws.{was_refused}
+use Rattle.statement.proofs.TestLaws.{was_given, was_refused}
 use Rattle.bids.specs.Contents.{packages_of, costs_of, problem_in}
 use Rattle.bids.specs.Format.{version1, contents, refusal}
-use Rattle.bids.specs.Contract.{read_refusal, ReadPost, read_reply}
-use Rattle.bids.specs.declared.Reading.{Reading}
-use Rattle.bids.specs.declared.Reading.TheVariants.{Accepted, Refused}
+use Rattle.bids.specs.Contract.{read_refusal, ReadPost}
 use Rattle.bids.proofs.Answers.{by_file, roomy}
 use Rattle.bids.proofs.Places.{legible1}
 use Rattle.bids.proofs.Accepted.{accepted_sized}
@@ -37,7 +33,7 @@ use Rattle.bids.proofs.Readings.{delivered}
 use Rattle.printout.specs.Text.{head, timetable_line, cheapest_line, none_line, refused_line}
 use Rattle.printout.specs.Written.{Holds, Puts}
 use Rattle.printout.specs.Program.{unless, timetable_lines, last_line, sheet, answer_text, blank, solved, printed, Askable}
-use Rattle.printout.proofs.Asking.{cover-refused, cover_answered, askable}
+use Rattle.printout.proofs.Asking.{count_left, cover-refused, cover_answered, askable}
 
 -- ---- a text from the start of the buffer
 
@@ -95,22 +91,43 @@ is_blank = refl
 pub all-items : (m : ℕ) {d : ℕ} → m ≤ 64 → d ≡ 2 ^ min m width - 1 → d ≡ all_items m
 all-items m h e = e ∙ ap (λ (k : ℕ). 2 ^ k - 1) (min-eq_left (omega (arith, width_is)))
 
-module _ (s t : ℕ) (Q : Problem) (C : List ℕ) {b : List ℕ} {w d : ℕ} {r : Report} {t' : List ℕ}
-    (eb : b ≡ blank) (ew : w ≡ 3604) (ed : d ≡ all_items (s + t)) (M : CoverPost Q (s + t) b d 1000000 w r t') where
-  M0 : CoverPost Q (s + t) blank (all_items (s + t)) 1000000 3604 r t'
-  M0 = rw (eb, ew, ed) at M
+module _ (s t : ℕ) (Q : Problem) (C : List ℕ) {b : List ℕ} {w m d : ℕ} {r : Report} {t' : List ℕ}
+    (eb : b ≡ blank) (ew : w ≡ 3604) (em : m ≡ s + t) (small : s + t ≤ 64) (ed : d ≡ 2 ^ min m width - 1) (M : CoverPost Q m b d 1000000 w r t') where
+  all-asked : d ≡ all_items (s + t)
+  all-asked = all-items (s + t) small (rw em at ed)
 
-  pub cover-said : (x : ℕ) → outcome_reply r.outcome ≡ refused x → refused_line x ≡ solved s t Q C
+  M0 : CoverPost Q (s + t) blank (all_items (s + t)) 1000000 3604 r t'
+  M0 = rw (eb, ew, all-asked, em) at M
+
+  pub cover-said : (x : ℕ) → r.outcome ≡ refused x → refused_line x ≡ solved s t Q C
   unfolding solved
   cover-said x o = let q = cover-refused (cover_refusal Q (s + t) blank (all_items (s + t)) 1000000 3604) x M0 o in said x _ q.0 q.1
 
-  pub cover_gave : (a : ℕ) → s + t ≤ 64 → outcome_reply r.outcome ≡ gives a
-      → ((n : ℕ) → n ≡ 3604 → Askable Q (s + t) t' a n) × (answer_text s t (length Q.packages) C (family_at t' a) r.made r.steps ≡ solved s t Q C)
+  pub cover_gave : (a : ℕ) → r.outcome ≡ gives a
+      → ((n : ℕ) → n ≡ 3604 → Askable Q m t' a n) × (answer_text s t (length Q.packages) C (family_at t' a) r.made r.steps ≡ solved s t Q C)
   unfolding solved blank
-  cover_gave a small o =
+  cover_gave a o =
       let q = cover_answered (cover_refusal Q (s + t) blank (all_items (s + t)) 1000000 3604) a M0 o in
       let g = askable Q (s + t) 1000000 3604 a (length-replicate {A = ℕ} 5401 0) refl small q.0 q.1 o in
-      (λ n e. rw e g.0, rw (g.1, made-missing q.1, q.1.steps) (unsaid _ q.0))
+      (λ n e. rw (e, em) g.0, rw (g.1, made-missing q.1, q.1.steps) (unsaid _ q.0))
+
+-- ---- count's reply about cover's answer
+
+module _ {Q : Problem} {m : ℕ} {t : List ℕ} {a words : ℕ} {r : Reply ℕ} (A : Askable Q m t a words) (P : CountPost Q m t a words r) (s u made st : ℕ) (C : List ℕ) where
+  abbrev lines : List ℕ
+  lines = sheet s u (length Q.packages) C (family_at t a) made st
+
+  pub count-said : (x : ℕ) → r ≡ refused x → refused_line x ≡ answer_text s u (length Q.packages) C (family_at t a) made st
+  unfolding answer_text
+  count-said x e =
+      let q = was_refused x (count_refusal Q m t a words) (length (family_at t a)) (sym e ∙ P.result) in
+      said x lines (sym (count_left A) ∙ q.0) q.1
+
+  pub count_gave : (x : ℕ) → r ≡ gives x → lines ≡ answer_text s u (length Q.packages) C (family_at t a) made st
+  unfolding answer_text
+  count_gave x e =
+      let q = was_given x (count_refusal Q m t a words) (length (family_at t a)) (sym e ∙ P.result) in
+      unsaid lines (sym (count_left A) ∙ q.0)
 
 -- ---- the file
 
@@ -142,17 +159,17 @@ read_problem {b} {s} {t} {n} {o} {p} g m order e h =
 abbrev zeros : ℕ → List ℕ
 zeros k = replicate k 0
 
-module _ {b : List ℕ} {r : Reading} {p c : List ℕ} (R : ReadPost version1 b r (zeros 1536) p (zeros 512) c) where
+module _ {b : List ℕ} {r : Reply (ℕ × (ℕ × (ℕ × ℕ)))} {p c : List ℕ} (R : ReadPost version1 b r (zeros 1536) p (zeros 512) c) where
   number : read_refusal version1 b (length (zeros 1536)) (length (zeros 512)) ≡ refusal version1 b
   number = rw (length-replicate {A = ℕ} 1536 0, length-replicate {A = ℕ} 512 0) (read-refusal b)
 
-  pub read-said : {n : ℕ} → r ≡ Refused n → refused_line n ≡ printed b
+  pub read-said : {n : ℕ} → r ≡ refused n → refused_line n ≡ printed b
   unfolding printed
   read-said {n} e =
-      let q = was_refused n (read_refusal version1 b (length (zeros 1536)) (length (zeros 512))) _ (sym (ap read_reply e) ∙ R.answer) in
+      let q = was_refused n (read_refusal version1 b (length (zeros 1536)) (length (zeros 512))) _ (sym e ∙ R.answer) in
       said n _ (sym number ∙ q.0) q.1
 
-  pub read_gave : {s t n : ℕ} {o : Items} → r ≡ Accepted s t n o → Read b s t n (value o) p c
+  pub read_gave : {s t n o : ℕ} → r ≡ gives (s, (t, (n, o))) → Read b s t n o p c
   unfolding printed
   read_gave e =
       let g = delivered (rw e at R) in

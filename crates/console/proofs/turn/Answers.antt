@@ -1,12 +1,12 @@
-use mathlib.Core.Path.{ap}
+use mathlib.Core.Path.{ap, ◌∙◌, sym}
 use native.Mathlib.Omega.{arith}
-use Rattle.conversion.specs.Contract.{convert_reply}
+use Rattle.statement.specs.Replies.{reply_of, refused}
 use Rattle.printout.proofs.Sheets.{from_start}
 use Rattle.console.proofs.Turning.{turned-said, turned_gave}
 use Rattle.console.proofs.turn.Goals as goal
 
-pub returns-in-Written : goal.returns-in-Written
-returns-in-Written c = turned_gave (omega arith) c.turn-conversion.ensures (ap convert_reply c.in-Written.is) (omega arith)
+pub returns-in-Ok : goal.returns-in-Ok
+returns-in-Ok c = turned_gave (omega arith) c.turn-turned.ensures (ap reply_of c.in-Ok.is) (omega arith)
 
-pub returns-in-Refused : goal.returns-in-Refused
-returns-in-Refused c = turned-said (omega arith) c.turn-conversion.ensures (ap convert_reply c.in-Refused.is) (omega arith) (from_start c.put_refused.ensures)
+pub returns-in-Err : goal.returns-in-Err
+returns-in-Err c = turned-said (omega arith) c.turn-turned.ensures (ap reply_of c.in-Err.is ∙ ap refused (sym c.number.ensures)) (omega arith) (from_start c.put_refused.ensures)

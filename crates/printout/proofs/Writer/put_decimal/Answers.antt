@@ -1,5 +1,5 @@
 use Rattle.printout.proofs.Putting.{decimal-put}
-use Rattle.printout.proofs.put_decimal.Goals as goal
+use Rattle.printout.proofs.Writer.put_decimal.Goals as goal
 
 pub returns : goal.returns
 returns c = decimal-put c.args.x c.ranges.x.fits c.put_digits.ensures
