@@ -5,21 +5,17 @@
 ghost use Rattle.std.specs.Prelude.{◌≡◌, min, length};
 ghost use Rattle.itemset.specs.Words.{width, value_of};
 ghost use Rattle.exact_cover.specs.Problem.{problem_of};
-ghost use Rattle.statement.specs.Replies.{soundness_reply, count_reply, measure_reply, pick_reply, place_reply, cheapest_reply, closest_reply, withdraw_reply};
+ghost use Rattle.statement.specs.Replies.{reply, reply_of, cheapest_reply, closest_reply, report_of};
 ghost use Rattle.statement.specs.Postconditions.{CheckPost, CountPost, MeasurePost, PickPost, PlacePost, CheapestPost, ClosestPost, WithdrawPost};
 ghost use Rattle.statement.specs.Postconditions.{CoverPost, EitherPost, BothPost, OnlyPost, WithPost, WithoutPost, JoinPost};
 ghost use Rattle.statement.specs.Examples.{all_items};
 ghost use Rattle.bids.specs.Format.{version1, version2};
 ghost use Rattle.bids.specs.Contract.{read_reply, ReadPost};
-ghost use Rattle.conversion.specs.Contract.{convert_reply, ConvertPost};
-ghost use Rattle.capi.specs.Structs.{soundness_of, engine_report, report_of, counted_of, measured_of, picked_of, placed_of, priced_of, compared_of, withdrawal_of, reading_of, conversion_of};
-ghost use Rattle.capi.specs.Structs.{BlankReport, BlankNumber, BlankPick, BlankTimetable, BlankComparison, BlankBids, Says, Shows};
+ghost use Rattle.conversion.specs.Contract.{ConvertPost};
+ghost use Rattle.capi.specs.Structs.{shown, numbered, packages_in, priced_in, compared_in, read_in};
+ghost use Rattle.capi.specs.Structs.{BlankReport, BlankNumber, BlankPick, BlankTimetable, BlankComparison, BlankBids};
 
-use bids::Reading;
-use conversion::Conversion;
-use statement::{
-    Compared, Counted, Measured, Outcome, Picked, Placed, Priced, Soundness, Withdrawal,
-};
+use statement::{Compared, Priced, Refusal};
 
 // What the calls that make an answer return. In each struct a refusal of 0 means that the call answered.
 #[repr(C)]
@@ -68,203 +64,143 @@ pub struct Bids {
     pub optional: [u64; 3],
 }
 
-// The border: no enum crosses it.
+// The border: no enum crosses it. Each function makes the struct that says what a call's result says.
 
-fn outcome(o: Outcome, steps: u32, made: u32) -> Report
-    ensures { Shows (engine_report o steps made) result }
+fn refusal(r: Result<(), Refusal>) -> u32
+    ensures { reply result tt ≡ reply_of r }
 {
-    match o {
-        Outcome::Answer(a) => Report {
+    match r {
+        Ok(()) => 0,
+        Err(refusal) => refusal.number() as u32,
+    }
+}
+
+fn reported(r: statement::Report) -> Report
+    ensures says { shown result ≡ report_of r }
+    ensures blank_report { BlankReport result }
+{
+    match r.outcome {
+        Ok(answer) => Report {
             refusal: 0,
-            answer: a,
-            steps,
-            made,
+            answer,
+            steps: r.steps,
+            made: r.made,
         },
-        Outcome::Refused(n) => Report {
-            refusal: n as u32,
+        Err(refusal) => Report {
+            refusal: refusal.number() as u32,
             answer: 0,
-            steps,
-            made,
+            steps: r.steps,
+            made: r.made,
         },
     }
 }
 
-fn shown(r: statement::Report) -> Report
-    ensures { Shows r result }
-{
-    let o = r.outcome;
-    outcome(o, r.steps, r.made)
-}
-
-fn soundness(s: Soundness) -> u32
-    ensures { Says (soundness_reply s) (soundness_reply (soundness_of result)) }
-{
-    match s {
-        Soundness::Sound => 0,
-        Soundness::Refused(n) => n as u32,
-    }
-}
-
-fn counted(c: Counted) -> Number
-    ensures says { Says (count_reply c) (count_reply (counted_of result)) }
+fn counted(r: Result<u64, Refusal>) -> Number
+    ensures says { numbered result ≡ reply_of r }
     ensures blank_number { BlankNumber result }
 {
-    match c {
-        Counted::Count(n) => Number {
-            refusal: 0,
-            value: n,
-        },
-        Counted::Refused(n) => Number {
-            refusal: n as u32,
+    match r {
+        Ok(value) => Number { refusal: 0, value },
+        Err(refusal) => Number {
+            refusal: refusal.number() as u32,
             value: 0,
         },
     }
 }
 
-fn measured(p: Measured) -> Number
-    ensures says { Says (measure_reply p) (measure_reply (measured_of result)) }
+// The same of a length, and of a number of nodes.
+fn measured(r: Result<usize, Refusal>) -> Number
+    ensures says { numbered result ≡ reply_of r }
     ensures blank_number { BlankNumber result }
 {
-    match p {
-        Measured::Packages(n) => Number {
-            refusal: 0,
-            value: n as u64,
-        },
-        Measured::Refused(n) => Number {
-            refusal: n as u32,
-            value: 0,
-        },
+    match r {
+        Ok(n) => counted(Ok(n as u64)),
+        Err(refusal) => counted(Err(refusal)),
     }
 }
 
-fn picked(p: Picked) -> Timetable
-    ensures says { Says (pick_reply p) (pick_reply (picked_of result)) }
+fn withdrawn(r: Result<u32, Refusal>) -> Number
+    ensures says { numbered result ≡ reply_of r }
+    ensures blank_number { BlankNumber result }
+{
+    match r {
+        Ok(n) => counted(Ok(n as u64)),
+        Err(refusal) => counted(Err(refusal)),
+    }
+}
+
+fn picked(r: Result<usize, Refusal>) -> Timetable
+    ensures says { packages_in result ≡ reply_of r }
     ensures blank_pick { BlankPick result }
 {
-    match p {
-        Picked::Packages(n) => Timetable {
+    match r {
+        Ok(n) => Timetable {
             refusal: 0,
             cost: 0,
             packages: n as u64,
         },
-        Picked::Refused(n) => Timetable {
-            refusal: n as u32,
+        Err(refusal) => Timetable {
+            refusal: refusal.number() as u32,
             cost: 0,
             packages: 0,
         },
     }
 }
 
-fn placed(p: Placed) -> Number
-    ensures says { Says (place_reply p) (place_reply (placed_of result)) }
-    ensures blank_number { BlankNumber result }
-{
-    match p {
-        Placed::Place(k) => Number {
-            refusal: 0,
-            value: k,
-        },
-        Placed::Refused(n) => Number {
-            refusal: n as u32,
-            value: 0,
-        },
-    }
-}
-
-fn priced(p: Priced) -> Timetable
-    ensures says { Says (cheapest_reply p) (cheapest_reply (priced_of result)) }
+fn priced(r: Result<Priced, Refusal>) -> Timetable
+    ensures says { priced_in result ≡ cheapest_reply r }
     ensures blank_timetable { BlankTimetable result }
 {
-    match p {
-        Priced::Cheapest { packages, cost } => Timetable {
+    match r {
+        Ok(p) => Timetable {
             refusal: 0,
-            cost,
-            packages: packages as u64,
+            cost: p.cost,
+            packages: p.packages as u64,
         },
-        Priced::Refused(n) => Timetable {
-            refusal: n as u32,
+        Err(refusal) => Timetable {
+            refusal: refusal.number() as u32,
             cost: 0,
             packages: 0,
         },
     }
 }
 
-fn compared(p: Compared) -> Comparison
-    ensures says { Says (closest_reply p) (closest_reply (compared_of result)) }
+fn compared(r: Result<Compared, Refusal>) -> Comparison
+    ensures says { compared_in result ≡ closest_reply r }
     ensures blank_comparison { BlankComparison result }
 {
-    match p {
-        Compared::Closest {
-            packages,
-            difference,
-        } => Comparison {
+    match r {
+        Ok(p) => Comparison {
             refusal: 0,
-            difference,
-            packages: packages as u64,
+            difference: p.difference,
+            packages: p.packages as u64,
         },
-        Compared::Refused(n) => Comparison {
-            refusal: n as u32,
+        Err(refusal) => Comparison {
+            refusal: refusal.number() as u32,
             difference: 0,
             packages: 0,
         },
     }
 }
 
-fn withdrawal(w: Withdrawal) -> Number
-    ensures says { Says (withdraw_reply w) (withdraw_reply (withdrawal_of result)) }
-    ensures blank_number { BlankNumber result }
-{
-    match w {
-        Withdrawal::Nodes(n) => Number {
-            refusal: 0,
-            value: n as u64,
-        },
-        Withdrawal::Refused(n) => Number {
-            refusal: n as u32,
-            value: 0,
-        },
-    }
-}
-
-fn reading(b: Reading) -> Bids
-    ensures says { Says (read_reply b) (read_reply (reading_of result)) }
+fn read(r: Result<bids::Bids, Refusal>) -> Bids
+    ensures says { read_in result ≡ read_reply r }
     ensures blank_bids { BlankBids result }
 {
-    match b {
-        Reading::Accepted {
-            schools,
-            slots,
-            packages,
-            optional,
-        } => Bids {
+    match r {
+        Ok(b) => Bids {
             refusal: 0,
-            schools,
-            slots,
-            packages: packages as u64,
-            optional: [optional.w0, optional.w1, optional.w2],
+            schools: b.schools,
+            slots: b.slots,
+            packages: b.packages as u64,
+            optional: [b.optional.w0, b.optional.w1, b.optional.w2],
         },
-        Reading::Refused(n) => Bids {
-            refusal: n as u32,
+        Err(refusal) => Bids {
+            refusal: refusal.number() as u32,
             schools: 0,
             slots: 0,
             packages: 0,
             optional: [0, 0, 0],
-        },
-    }
-}
-
-fn converted(c: Conversion) -> Number
-    ensures says { Says (convert_reply c) (convert_reply (conversion_of result)) }
-    ensures blank_number { BlankNumber result }
-{
-    match c {
-        Conversion::Written(n) => Number {
-            refusal: 0,
-            value: n as u64,
-        },
-        Conversion::Refused(n) => Number {
-            refusal: n as u32,
-            value: 0,
         },
     }
 }
@@ -279,11 +215,10 @@ pub extern "C" fn mogedorn_check(
     order: &[u8],
     t: &[u32],
 ) -> u32
-    ensures { CheckPost (problem_of packages.now (value_of optional.now) order.now) m t.now (soundness_of result) }
+    ensures { CheckPost (problem_of packages.now (value_of optional.now) order.now) m t.now (reply result tt) }
 {
     let o = itemset::of_words(optional);
-    let s = engine::check(m, packages, o, order, t);
-    soundness(s)
+    refusal(engine::check(m, packages, o, order, t))
 }
 
 #[unsafe(no_mangle)]
@@ -296,12 +231,11 @@ pub extern "C" fn mogedorn_count(
     answer: u32,
     work: &mut [u64],
 ) -> Number
-    ensures count_post { CountPost (problem_of packages.now (value_of optional.now) order.now) m t.now answer (length work.old) (counted_of result) }
+    ensures count_post { CountPost (problem_of packages.now (value_of optional.now) order.now) m t.now answer (length work.old) (numbered result) }
     ensures blank_number { BlankNumber result }
 {
     let o = itemset::of_words(optional);
-    let c = engine::count(m, packages, o, order, t, answer, work);
-    counted(c)
+    counted(engine::count(m, packages, o, order, t, answer, work))
 }
 
 #[unsafe(no_mangle)]
@@ -315,12 +249,11 @@ pub extern "C" fn mogedorn_measure(
     k: u64,
     work: &mut [u64],
 ) -> Number
-    ensures measure_post { MeasurePost (problem_of packages.now (value_of optional.now) order.now) m t.now answer k (length work.old) (measured_of result) }
+    ensures measure_post { MeasurePost (problem_of packages.now (value_of optional.now) order.now) m t.now answer k (length work.old) (numbered result) }
     ensures blank_number { BlankNumber result }
 {
     let o = itemset::of_words(optional);
-    let p = engine::measure(m, packages, o, order, t, answer, k, work);
-    measured(p)
+    measured(engine::measure(m, packages, o, order, t, answer, k, work))
 }
 
 #[unsafe(no_mangle)]
@@ -336,12 +269,11 @@ pub extern "C" fn mogedorn_pick(
     page: &mut [u16],
 ) -> Timetable
     ensures pick_post { PickPost (problem_of packages.now (value_of optional.now) order.now) m t.now answer k (length work.old)
-        page.old (picked_of result) page.new }
+        page.old (packages_in result) page.new }
     ensures blank_pick { BlankPick result }
 {
     let o = itemset::of_words(optional);
-    let p = engine::pick(m, packages, o, order, t, answer, k, work, page);
-    picked(p)
+    picked(engine::pick(m, packages, o, order, t, answer, k, work, page))
 }
 
 #[unsafe(no_mangle)]
@@ -356,12 +288,11 @@ pub extern "C" fn mogedorn_place(
     work: &mut [u64],
 ) -> Number
     ensures place_post { PlacePost (problem_of packages.now (value_of optional.now) order.now) m t.now answer list.now
-        (length work.old) (placed_of result) }
+        (length work.old) (numbered result) }
     ensures blank_number { BlankNumber result }
 {
     let o = itemset::of_words(optional);
-    let p = engine::place(m, packages, o, order, t, answer, list, work);
-    placed(p)
+    counted(engine::place(m, packages, o, order, t, answer, list, work))
 }
 
 #[unsafe(no_mangle)]
@@ -377,12 +308,11 @@ pub extern "C" fn mogedorn_cheapest(
     page: &mut [u16],
 ) -> Timetable
     ensures cheapest_post { CheapestPost (problem_of packages.now (value_of optional.now) order.now) m costs.now
-        t.now answer (length work.old) page.old (priced_of result) page.new }
+        t.now answer (length work.old) page.old (priced_in result) page.new }
     ensures blank_timetable { BlankTimetable result }
 {
     let o = itemset::of_words(optional);
-    let p = engine::cheapest(m, packages, o, order, costs, t, answer, work, page);
-    priced(p)
+    priced(engine::cheapest(m, packages, o, order, costs, t, answer, work, page))
 }
 
 // Of the timetables of the answer that differ from the list in the fewest packages the first listed.
@@ -399,12 +329,11 @@ pub extern "C" fn mogedorn_closest(
     page: &mut [u16],
 ) -> Comparison
     ensures closest_post { ClosestPost (problem_of packages.now (value_of optional.now) order.now) m t.now answer
-        list.now (length work.old) page.old (compared_of result) page.new }
+        list.now (length work.old) page.old (compared_in result) page.new }
     ensures blank_comparison { BlankComparison result }
 {
     let o = itemset::of_words(optional);
-    let p = engine::closest(m, packages, o, order, t, answer, list, work, page);
-    compared(p)
+    compared(engine::closest(m, packages, o, order, t, answer, list, work, page))
 }
 
 #[unsafe(no_mangle)]
@@ -419,13 +348,12 @@ pub extern "C" fn mogedorn_cover(
     work: &mut [u64],
 ) -> Report
     ensures cover_post { CoverPost (problem_of packages.now (value_of optional.now) order.now) m t.old (value_of d.now) limit
-        (length work.old) (report_of result) t.new }
+        (length work.old) (shown result) t.new }
     ensures blank_report { BlankReport result }
 {
     let o = itemset::of_words(optional);
     let items = itemset::of_words(d);
-    let r = engine::cover(m, packages, o, order, t, items, limit, work);
-    shown(r)
+    reported(engine::cover(m, packages, o, order, t, items, limit, work))
 }
 
 #[unsafe(no_mangle)]
@@ -440,12 +368,11 @@ pub extern "C" fn mogedorn_either(
     work: &mut [u64],
 ) -> Report
     ensures either_post { EitherPost (problem_of packages.now (value_of optional.now) order.now) m t.old a b
-        (length work.old) (report_of result) t.new }
+        (length work.old) (shown result) t.new }
     ensures blank_report { BlankReport result }
 {
     let o = itemset::of_words(optional);
-    let r = engine::either(m, packages, o, order, t, a, b, work);
-    shown(r)
+    reported(engine::either(m, packages, o, order, t, a, b, work))
 }
 
 #[unsafe(no_mangle)]
@@ -460,12 +387,11 @@ pub extern "C" fn mogedorn_both(
     work: &mut [u64],
 ) -> Report
     ensures both_post { BothPost (problem_of packages.now (value_of optional.now) order.now) m t.old a b
-        (length work.old) (report_of result) t.new }
+        (length work.old) (shown result) t.new }
     ensures blank_report { BlankReport result }
 {
     let o = itemset::of_words(optional);
-    let r = engine::both(m, packages, o, order, t, a, b, work);
-    shown(r)
+    reported(engine::both(m, packages, o, order, t, a, b, work))
 }
 
 #[unsafe(no_mangle)]
@@ -480,12 +406,11 @@ pub extern "C" fn mogedorn_only(
     work: &mut [u64],
 ) -> Report
     ensures only_post { OnlyPost (problem_of packages.now (value_of optional.now) order.now) m t.old a b
-        (length work.old) (report_of result) t.new }
+        (length work.old) (shown result) t.new }
     ensures blank_report { BlankReport result }
 {
     let o = itemset::of_words(optional);
-    let r = engine::only(m, packages, o, order, t, a, b, work);
-    shown(r)
+    reported(engine::only(m, packages, o, order, t, a, b, work))
 }
 
 #[unsafe(no_mangle)]
@@ -500,12 +425,11 @@ pub extern "C" fn mogedorn_with(
     work: &mut [u64],
 ) -> Report
     ensures with_post { WithPost (problem_of packages.now (value_of optional.now) order.now) m t.old a p
-        (length work.old) (report_of result) t.new }
+        (length work.old) (shown result) t.new }
     ensures blank_report { BlankReport result }
 {
     let o = itemset::of_words(optional);
-    let r = engine::with(m, packages, o, order, t, a, p, work);
-    shown(r)
+    reported(engine::with(m, packages, o, order, t, a, p, work))
 }
 
 #[unsafe(no_mangle)]
@@ -520,12 +444,11 @@ pub extern "C" fn mogedorn_without(
     work: &mut [u64],
 ) -> Report
     ensures without_post { WithoutPost (problem_of packages.now (value_of optional.now) order.now) m t.old a p
-        (length work.old) (report_of result) t.new }
+        (length work.old) (shown result) t.new }
     ensures blank_report { BlankReport result }
 {
     let o = itemset::of_words(optional);
-    let r = engine::without(m, packages, o, order, t, a, p, work);
-    shown(r)
+    reported(engine::without(m, packages, o, order, t, a, p, work))
 }
 
 // Every union of a timetable of a and one of b, which have no item in common.
@@ -541,12 +464,11 @@ pub extern "C" fn mogedorn_join(
     work: &mut [u64],
 ) -> Report
     ensures join_post { JoinPost (problem_of packages.now (value_of optional.now) order.now) m t.old a b
-        (length work.old) (report_of result) t.new }
+        (length work.old) (shown result) t.new }
     ensures blank_report { BlankReport result }
 {
     let o = itemset::of_words(optional);
-    let r = engine::join(m, packages, o, order, t, a, b, work);
-    shown(r)
+    reported(engine::join(m, packages, o, order, t, a, b, work))
 }
 
 // Packages withdrawn: the listed answers are replaced in place by what is left of them, and the nodes left are counted.
@@ -562,12 +484,11 @@ pub extern "C" fn mogedorn_withdraw(
     work: &mut [u64],
 ) -> Number
     ensures withdraw_post { WithdrawPost (problem_of packages.now (value_of optional.now) order.now) m t.old gone.now
-        answers.old (length work.old) (withdrawal_of result) t.new answers.new }
+        answers.old (length work.old) (numbered result) t.new answers.new }
     ensures blank_number { BlankNumber result }
 {
     let o = itemset::of_words(optional);
-    let w = engine::withdraw(m, packages, o, order, t, gone, answers, work);
-    withdrawal(w)
+    withdrawn(engine::withdraw(m, packages, o, order, t, gone, answers, work))
 }
 
 // The set of all items below m, to three words; above 192 it is that of 192.
@@ -582,38 +503,34 @@ pub extern "C" fn mogedorn_all_items(m: u32, d: &mut [u64; 3])
 // Reads a bids file of version 1: the packages' item sets, three words each, and costs to the start of the buffers.
 #[unsafe(no_mangle)]
 pub extern "C" fn mogedorn_read_bids(file: &[u8], packages: &mut [u64], costs: &mut [u16]) -> Bids
-    ensures read_post { ReadPost version1 file.now (reading_of result) packages.old packages.new costs.old costs.new }
+    ensures read_post { ReadPost version1 file.now (read_in result) packages.old packages.new costs.old costs.new }
     ensures blank_bids { BlankBids result }
 {
-    let b = bids::read(file, packages, costs);
-    reading(b)
+    read(bids::read(file, packages, costs))
 }
 
 // The same of version 2.
 #[unsafe(no_mangle)]
 pub extern "C" fn mogedorn_read_bids2(file: &[u8], packages: &mut [u64], costs: &mut [u16]) -> Bids
-    ensures read_post { ReadPost version2 file.now (reading_of result) packages.old packages.new costs.old costs.new }
+    ensures read_post { ReadPost version2 file.now (read_in result) packages.old packages.new costs.old costs.new }
     ensures blank_bids { BlankBids result }
 {
-    let b = bids::read2(file, packages, costs);
-    reading(b)
+    read(bids::read2(file, packages, costs))
 }
 
 // Writes the version 2 file that says what a version 1 file does to the start of a buffer; and the other way.
 #[unsafe(no_mangle)]
 pub extern "C" fn mogedorn_convert_up(file: &[u8], out: &mut [u8]) -> Number
-    ensures convert_post { ConvertPost version1 version2 file.now (conversion_of result) out.old out.new }
+    ensures convert_post { ConvertPost version1 version2 file.now (numbered result) out.old out.new }
     ensures blank_number { BlankNumber result }
 {
-    let c = conversion::up(file, out);
-    converted(c)
+    measured(conversion::up(file, out))
 }
 
 #[unsafe(no_mangle)]
 pub extern "C" fn mogedorn_convert_down(file: &[u8], out: &mut [u8]) -> Number
-    ensures convert_post { ConvertPost version2 version1 file.now (conversion_of result) out.old out.new }
+    ensures convert_post { ConvertPost version2 version1 file.now (numbered result) out.old out.new }
     ensures blank_number { BlankNumber result }
 {
-    let c = conversion::down(file, out);
-    converted(c)
+    measured(conversion::down(file, out))
 }
