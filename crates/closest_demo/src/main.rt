@@ -4,35 +4,23 @@
 #![tactic(auto)]
 
 use itemset::Items;
-use statement::Compared;
+use statement::{Compared, Refusal};
 use std::io;
-use weeks::Week;
+use weeks::{Lent, NO_ITEMS, Week};
 
 // ---- what is printed
 
-fn print_package(rt: &impl Print, p: u16) -> io::Result<()> {
-    weeks::print(rt, b" ", p as u64)
-}
-
 fn print_list(rt: &impl Print, list: &[u16]) -> io::Result<()> {
-    let mut i: usize = 0;
-    while i < list.len() {
-        print_package(rt, list[i])?;
-        i += 1;
+    for p in list {
+        print!(rt; " {p}")?;
     }
     Ok(())
 }
 
-fn print_compared(rt: &impl Print, r: Compared) -> io::Result<()> {
+fn print_compared(rt: &impl Print, r: Result<Compared, Refusal>) -> io::Result<()> {
     match r {
-        Compared::Closest {
-            packages,
-            difference,
-        } => {
-            weeks::print(rt, b" packages ", packages as u64)?;
-            weeks::print(rt, b" difference ", difference as u64)
-        }
-        Compared::Refused(n) => weeks::print_refused(rt, n),
+        Ok(c) => print!(rt; " packages {} difference {}", c.packages, c.difference),
+        Err(refusal) => print!(rt; " {refusal}"),
     }
 }
 
@@ -40,166 +28,99 @@ fn print_compared(rt: &impl Print, r: Compared) -> io::Result<()> {
 
 // The answer, how many working words are lent, and how many places of the page.
 #[derive(Clone, Copy)]
-struct Case {
+struct Sizes {
     answer: u32,
     words: usize,
     places: usize,
 }
 
-fn print_case(rt: &impl Print, c: Case) -> io::Result<()> {
-    weeks::print(rt, b", answer ", c.answer as u64)?;
-    weeks::print(rt, b", words ", c.words as u64)?;
-    weeks::print(rt, b", places ", c.places as u64)?;
-    rt.write_all(b":")
-}
-
-fn ask(
-    rt: &impl Print,
-    packages: &[u64],
-    w: Week,
-    order: &[u8],
-    t: &[u32],
-    list: &[u16],
-    c: Case,
-) -> io::Result<()> {
+fn ask(rt: &impl Print, lent: Lent, t: &[u32], list: &[u16], sizes: Sizes) -> io::Result<()> {
+    let Sizes {
+        answer,
+        words,
+        places,
+    } = sizes;
+    print!(rt; ", answer {answer}, words {words}, places {places}:")?;
     let mut work = [7u64; 514];
     let mut page = [9u16; 64];
-    let words = weeks::least(c.words, 514);
-    let places = weeks::least(c.places, 64);
-    print_case(rt, c)?;
+    let work_end = words.min(514);
+    let page_end = places.min(64);
     let r = engine::closest(
-        w.m,
-        packages,
-        w.optional,
-        order,
+        lent.week.m,
+        lent.packages,
+        lent.week.optional,
+        lent.order,
         t,
-        c.answer,
+        answer,
         list,
-        &mut work[0..words],
-        &mut page[0..places],
+        &mut work[..work_end],
+        &mut page[..page_end],
     );
     print_compared(rt, r)?;
-    rt.write_all(b", page")?;
-    print_list(rt, &[page[0], page[1], page[2], page[3], page[4]])?;
-    rt.write_all(b"\n")
+    print!(rt; ", page")?;
+    print_list(rt, &page[..5])?;
+    println!(rt)
 }
 
-// ---- the lists
+// The answer, the working words and the places of a question, and its list.
+type Question = (u32, usize, usize, &'static [u16]);
 
-// A row: the answer, working words, places of the page, how many packages the list has, and these.
-const CASES: [[u16; 9]; 32] = [
-    // The figure, whose timetables are 0 2 and 1 4 2.
-    [5, 6, 3, 0, 0, 0, 0, 0, 0],
-    [5, 6, 3, 2, 1, 4, 0, 0, 0],
-    [5, 6, 2, 2, 0, 2, 0, 0, 0],
-    [5, 6, 3, 3, 1, 4, 2, 0, 0],
-    [5, 6, 3, 1, 3, 0, 0, 0, 0],
-    [5, 6, 3, 5, 0, 1, 3, 4, 2],
-    // A part of it, and the empty timetable alone.
-    [4, 5, 3, 2, 0, 2, 0, 0, 0],
-    [1, 2, 0, 1, 3, 0, 0, 0, 0],
-    [1, 2, 0, 0, 0, 0, 0, 0, 0],
-    // Refusals, most where those behind them apply too: an unknown answer, lists out of precedence, repeating and with an unknown package, too few words, nothing
-    // to choose from, a short page.
-    [6, 0, 0, 1, 5, 0, 0, 0, 0],
-    [0, 0, 0, 1, 5, 0, 0, 0, 0],
-    [5, 6, 3, 3, 1, 4, 5, 0, 0],
-    [5, 6, 3, 3, 1, 2, 4, 0, 0],
-    [5, 6, 3, 3, 0, 2, 2, 0, 0],
-    [0, 0, 0, 0, 0, 0, 0, 0, 0],
-    [5, 5, 0, 2, 0, 2, 0, 0, 0],
-    [0, 1, 0, 0, 0, 0, 0, 0, 0],
-    [5, 6, 2, 2, 1, 4, 0, 0, 0],
-    [5, 6, 1, 0, 0, 0, 0, 0, 0],
-    // A spoilt table, row 19.
-    [6, 0, 0, 1, 5, 0, 0, 0, 0],
-    // The figure in the reversed order, from row 20 on.
-    [5, 6, 3, 3, 1, 4, 2, 0, 0],
-    [5, 6, 3, 3, 2, 4, 1, 0, 0],
-    [5, 6, 3, 2, 2, 4, 0, 0, 0],
-    // Two equal packages, from row 23 on.
-    [3, 4, 1, 0, 0, 0, 0, 0, 0],
-    [3, 4, 1, 2, 0, 1, 0, 0, 0],
-    [3, 4, 1, 1, 1, 0, 0, 0, 0],
-    // Item 2 is optional, from row 26 on; packages 1 and 2 share it.
-    [5, 6, 2, 2, 1, 2, 0, 0, 0],
-    [5, 6, 2, 1, 1, 0, 0, 0, 0],
-    [5, 6, 2, 4, 0, 1, 2, 3, 0],
-    // 512 packages, from row 29 on; the list is not of the row.
-    [513, 513, 64, 0, 0, 0, 0, 0, 0],
-    [513, 514, 63, 0, 0, 0, 0, 0, 0],
-    [513, 514, 64, 0, 0, 0, 0, 0, 0],
-];
-
-fn sizes(x: [u16; 9]) -> Case {
-    Case {
-        answer: x[0] as u32,
-        words: x[1] as usize,
-        places: x[2] as usize,
-    }
-}
-
-fn listed(x: [u16; 9]) -> usize {
-    x[3] as usize
-}
-
-// The question of a row.
-fn given(
-    rt: &impl Print,
-    packages: &[u64],
-    w: Week,
-    order: &[u8],
-    t: &[u32],
-    row: usize,
-) -> io::Result<()> {
-    let x = CASES[row % 32];
-    let n = weeks::least(listed(x), 5);
-    let list = [x[4], x[5], x[6], x[7], x[8]];
-    rt.write_all(b"list")?;
-    print_list(rt, &list[0..n])?;
-    ask(rt, packages, w, order, t, &list[0..n], sizes(x))
-}
-
-// Some rows one after the other.
-#[derive(Clone, Copy)]
-struct Rows {
-    first: usize,
-    end: usize,
-}
-
-fn questions(
-    rt: &impl Print,
-    packages: &[u64],
-    w: Week,
-    order: &[u8],
-    t: &[u32],
-    rows: Rows,
-) -> io::Result<()> {
-    let mut i: usize = rows.first;
-    while i < rows.end {
-        given(rt, packages, w, order, t, i)?;
-        i += 1;
+fn questions(rt: &impl Print, lent: Lent, t: &[u32], rows: &[Question]) -> io::Result<()> {
+    for (answer, words, places, list) in rows {
+        print!(rt; "list")?;
+        print_list(rt, list)?;
+        let sizes = Sizes {
+            answer: *answer,
+            words: *words,
+            places: *places,
+        };
+        ask(rt, lent, t, list, sizes)?;
     }
     Ok(())
 }
 
-// All items of the week are covered, and then the rows are asked.
-fn show(rt: &impl Print, packages: &[u64], w: Week, order: &[u8], rows: Rows) -> io::Result<()> {
+// All items of the week are covered, and then the questions are asked.
+fn show(rt: &impl Print, lent: Lent, rows: &[Question]) -> io::Result<()> {
     let mut t = [0u32; 61];
-    weeks::cover(rt, packages, w, order, &mut t, w.d)?;
-    questions(rt, packages, w, order, &t, rows)
+    lent.cover(rt, &mut t, lent.week.d)?;
+    questions(rt, lent, &t, rows)
 }
 
-// ---- small weeks
+// ---- the figure
 
-// A set of items below 64.
-fn low(word: u64) -> Items {
-    Items {
-        w0: word,
-        w1: 0,
-        w2: 0,
-    }
-}
+const ON_FIGURE: [Question; 19] = [
+    // The timetables are 0 2 and 1 4 2.
+    (5, 6, 3, &[]),
+    (5, 6, 3, &[1, 4]),
+    (5, 6, 2, &[0, 2]),
+    (5, 6, 3, &[1, 4, 2]),
+    (5, 6, 3, &[3]),
+    (5, 6, 3, &[0, 1, 3, 4, 2]),
+    // A part of it, and the empty timetable alone.
+    (4, 5, 3, &[0, 2]),
+    (1, 2, 0, &[3]),
+    (1, 2, 0, &[]),
+    // Refusals, most where those behind them apply too: an unknown answer, lists out of precedence, repeating and with an unknown package, too few words, nothing
+    // to choose from, a short page.
+    (6, 0, 0, &[5]),
+    (0, 0, 0, &[5]),
+    (5, 6, 3, &[1, 4, 5]),
+    (5, 6, 3, &[1, 2, 4]),
+    (5, 6, 3, &[0, 2, 2]),
+    (0, 0, 0, &[]),
+    (5, 5, 0, &[0, 2]),
+    (0, 1, 0, &[]),
+    (5, 6, 2, &[1, 4]),
+    (5, 6, 1, &[]),
+];
+
+const ON_SPOILT: [Question; 1] = [(6, 0, 0, &[5])];
+
+const ON_REVERSED: [Question; 3] = [
+    (5, 6, 3, &[1, 4, 2]),
+    (5, 6, 3, &[2, 4, 1]),
+    (5, 6, 3, &[2, 4]),
+];
 
 // What the calls on a week are lent; the items below m are covered.
 fn week(m: u32, optional: Items) -> Week {
@@ -220,126 +141,112 @@ const PLAIN: [u8; 6] = [0, 1, 2, 3, 4, 5];
 const REVERSED: [u8; 6] = [5, 4, 3, 2, 1, 0];
 
 fn figure(rt: &impl Print) -> io::Result<()> {
-    rt.write_all(b"figure 1:")?;
-    let packages = FIGURE;
-    show(
-        rt,
-        &packages,
-        week(6, low(0)),
-        &PLAIN,
-        Rows { first: 0, end: 19 },
-    )
+    let plain = Lent {
+        week: week(6, NO_ITEMS),
+        packages: &FIGURE,
+        order: &PLAIN,
+    };
+    print!(rt; "figure 1:")?;
+    show(rt, plain, &ON_FIGURE)?;
+    // The table has no room for the node that it says it has.
+    println!(rt; "figure 1, spoilt table")?;
+    questions(rt, plain, &[1], &ON_SPOILT)?;
+    // In the reversed order package 2 comes first.
+    let reversed = Lent {
+        order: &REVERSED,
+        ..plain
+    };
+    print!(rt; "figure 1, order 5 4 3 2 1 0:")?;
+    show(rt, reversed, &ON_REVERSED)
 }
 
-// The table has no room for the node that it says it has.
-fn spoilt(rt: &impl Print) -> io::Result<()> {
-    rt.write_all(b"figure 1, spoilt table\n")?;
-    let packages = FIGURE;
-    questions(
-        rt,
-        &packages,
-        week(6, low(0)),
-        &PLAIN,
-        &[1u32],
-        Rows { first: 19, end: 20 },
-    )
-}
+// ---- small weeks
 
-// In the reversed order package 2 comes first.
-fn reversed(rt: &impl Print) -> io::Result<()> {
-    rt.write_all(b"figure 1, order 5 4 3 2 1 0:")?;
-    let packages = FIGURE;
-    show(
-        rt,
-        &packages,
-        week(6, low(0)),
-        &REVERSED,
-        Rows { first: 20, end: 23 },
-    )
-}
+const ON_EQUALS: [Question; 3] = [(3, 4, 1, &[]), (3, 4, 1, &[0, 1]), (3, 4, 1, &[1])];
 
 fn equals(rt: &impl Print) -> io::Result<()> {
-    rt.write_all(b"packages {0}, {0}:")?;
-    let packages = [1u64, 0, 0, 1, 0, 0];
-    show(
-        rt,
-        &packages,
-        week(1, low(0)),
-        &PLAIN[0..1],
-        Rows { first: 23, end: 26 },
-    )
+    rt.print("packages {0}, {0}:")?;
+    let lent = Lent {
+        week: week(1, NO_ITEMS),
+        packages: &[1, 0, 0, 1, 0, 0],
+        order: &PLAIN[..1],
+    };
+    show(rt, lent, &ON_EQUALS)
 }
 
+// Packages 1 and 2 share item 2.
+const ON_SLOTS: [Question; 3] = [
+    (5, 6, 2, &[1, 2]),
+    (5, 6, 2, &[1]),
+    (5, 6, 2, &[0, 1, 2, 3]),
+];
+
 fn slots(rt: &impl Print) -> io::Result<()> {
-    rt.write_all(b"packages {0}, {0, 2}, {1, 2}, {1}, item 2 optional:")?;
-    let packages = [1u64, 0, 0, 5, 0, 0, 6, 0, 0, 2, 0, 0];
-    show(
-        rt,
-        &packages,
-        week(3, low(4)),
-        &PLAIN[0..3],
-        Rows { first: 26, end: 29 },
-    )
+    rt.print("packages {0}, {0, 2}, {1, 2}, {1}, item 2 optional:")?;
+    let lent = Lent {
+        week: week(
+            3,
+            Items {
+                w0: 4,
+                w1: 0,
+                w2: 0,
+            },
+        ),
+        packages: &[1, 0, 0, 5, 0, 0, 6, 0, 0, 2, 0, 0],
+        order: &PLAIN[..3],
+    };
+    show(rt, lent, &ON_SLOTS)
 }
 
 // ---- the longest list
 
 // Eight packages for each of 64 items: package p has the item p / 8.
-fn eights() -> [u64; 1536] {
-    let mut packages = [0u64; 1536];
-    let mut p: usize = 0;
-    while p < 512 {
-        packages[3 * p] = 1 << (p / 8);
-        p += 1;
+fn eights() -> [[u64; 3]; 512] {
+    let mut packages = [[0; 3]; 512];
+    for p in 0..512 {
+        packages[p][0] = 1 << (p / 8);
     }
     packages
 }
 
 fn all() -> [u16; 512] {
-    let mut list = [0u16; 512];
-    let mut p: usize = 0;
-    while p < 512 {
+    let mut list = [0; 512];
+    for p in 0..512 {
         list[p] = p as u16;
-        p += 1;
     }
     list
 }
 
-// The question of a row, but of all packages.
-fn ask_all(
-    rt: &impl Print,
-    packages: &[u64],
-    w: Week,
-    order: &[u8],
-    t: &[u32],
-    row: usize,
-) -> io::Result<()> {
-    let list = all();
-    rt.write_all(b"list 0 to 511")?;
-    ask(rt, packages, w, order, t, &list, sizes(CASES[row % 32]))
-}
-
 // A timetable has one package of each item; all are as close, and the first is given, though count cannot tell how many there are.
-fn ask_each(rt: &impl Print, packages: &[u64], order: &[u8]) -> io::Result<()> {
+fn ask_each(rt: &impl Print, packages: &[u64], plain: &[u8; 192]) -> io::Result<()> {
+    let lent = Lent {
+        week: week(64, NO_ITEMS),
+        packages,
+        order: &plain[..64],
+    };
+    let list = all();
     let mut t = [0u32; 1537];
-    let w = week(64, low(0));
-    weeks::cover(rt, packages, w, order, &mut t, w.d)?;
-    ask_all(rt, packages, w, order, &t, 29)?;
-    ask_all(rt, packages, w, order, &t, 30)?;
-    ask_all(rt, packages, w, order, &t, 31)
+    lent.cover(rt, &mut t, lent.week.d)?;
+    for (words, places) in [(513, 64), (514, 63), (514, 64)] {
+        let sizes = Sizes {
+            answer: 513,
+            words,
+            places,
+        };
+        print!(rt; "list 0 to 511")?;
+        ask(rt, lent, &t, &list, sizes)?;
+    }
+    Ok(())
 }
 
 fn longest(rt: &impl Print) -> io::Result<()> {
-    rt.write_all(b"items 0 to 63 in eight packages each:")?;
+    print!(rt; "items 0 to 63 in eight packages each:")?;
     let packages = eights();
-    let order = exact_cover::plain_order();
-    ask_each(rt, &packages, &order[0..64])
+    ask_each(rt, packages.as_flattened(), &exact_cover::plain_order())
 }
 
 fn main(rt: HostRuntime) -> io::Result<()> {
     figure(&rt)?;
-    spoilt(&rt)?;
-    reversed(&rt)?;
     equals(&rt)?;
     slots(&rt)?;
     longest(&rt)

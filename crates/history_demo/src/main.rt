@@ -6,46 +6,153 @@
 ghost use Rattle.std.specs.Prelude.{◌≤◌};
 
 use itemset::Items;
+use statement::Call;
 use std::io;
 
-// Seven words a call: kind (0 cover, 1 either, 2 both, 3 only, 4 with, 5 without, 6 join), M, two arguments, the first of three words, working words.
-const SCRIPT: [u64; 147] = [
-    0, 6, 63, 0, 0, 6, 256, // cover all items, twice
-    0, 6, 63, 0, 0, 6, 256, //
-    4, 6, 5, 0, 0, 0, 2, // with 0 and without 0
-    5, 6, 5, 0, 0, 0, 2, //
-    1, 6, 4, 0, 0, 6, 2, // either, both, only
-    2, 6, 5, 0, 0, 4, 2, //
-    3, 6, 5, 0, 0, 6, 2, //
-    0, 6, 63, 0, 0, 5, 256, // B too small
-    1, 6, 5, 0, 0, 99, 2, // an unknown answer
-    4, 6, 5, 0, 0, 5, 2, // an unknown package
-    0, 6, 64, 0, 0, 6, 256, // an unknown item
-    0, 6, 63, 0, 0, 6, 3, // three working words
-    0, 193, 63, 0, 0, 6, 256, // M above 192
-    0, 5, 31, 0, 0, 6, 256, // packages with an item of M
-    0, 6, 63, 0, 0, 7, 16, // a memo of 4 places
-    0, 6, 40, 0, 0, 9, 16, // other items
-    1, 6, 6, 0, 0, 2, 2, // a new node
-    2, 6, 4, 0, 0, 6, 2, // nothing in both
-    1, 6, 0, 0, 0, 1, 2, // 0 and 1 as operands
-    1, 6, 3, 0, 0, 1, 2, // 3 was not given: where the table knows it, the runner stops
-    0, 6, 63, 0, 0, 6, 256,
-];
+// ---- scripts
 
-// The figure's packages, numbered from 0, three words each.
-fn figure() -> [u64; 15] {
+// A call with its M, and the working words that it asks.
+#[derive(Clone, Copy)]
+struct Request {
+    m: u64,
+    call: Call,
+    words: u64,
+}
+
+fn on(m: u64, call: Call, words: u64) -> Request {
+    Request { m, call, words }
+}
+
+// A set of items below 64.
+fn low(word: u64) -> Items {
+    Items {
+        w0: word,
+        w1: 0,
+        w2: 0,
+    }
+}
+
+fn cover(d: u64, limit: u32) -> Call {
+    Call::Cover { d: low(d), limit }
+}
+
+// The seven words of a call in a script: its kind, M, its first argument in three words, its second, and the working words.
+type Words = [u64; 7];
+
+fn words(q: Request) -> Words {
+    let (kind, x, y) = match q.call {
+        Call::Cover { d, limit } => (0, d, limit),
+        Call::Either { a, b } => (1, low(a as u64), b),
+        Call::Both { a, b } => (2, low(a as u64), b),
+        Call::Only { a, b } => (3, low(a as u64), b),
+        Call::With { a, p } => (4, low(a as u64), p),
+        Call::Without { a, p } => (5, low(a as u64), p),
+        Call::Join { a, b } => (6, low(a as u64), b),
+    };
+    [kind, q.m, x.w0, x.w1, x.w2, y as u64, q.words]
+}
+
+// Calls on the figure, in the plain order.
+fn figure_calls() -> [Request; 21] {
     [
-        0b010111, 0, 0, 0b000011, 0, 0, 0b101000, 0, 0, 0b101100, 0, 0, 0b010100, 0, 0,
+        on(6, cover(63, 6), 256), // cover all items, twice
+        on(6, cover(63, 6), 256),
+        on(6, Call::With { a: 5, p: 0 }, 2), // with 0 and without 0
+        on(6, Call::Without { a: 5, p: 0 }, 2),
+        on(6, Call::Either { a: 4, b: 6 }, 2), // either, both, only
+        on(6, Call::Both { a: 5, b: 4 }, 2),
+        on(6, Call::Only { a: 5, b: 6 }, 2),
+        on(6, cover(63, 5), 256), // B too small
+        on(6, Call::Either { a: 5, b: 99 }, 2), // an unknown answer
+        on(6, Call::With { a: 5, p: 5 }, 2), // an unknown package
+        on(6, cover(64, 6), 256), // an unknown item
+        on(6, cover(63, 6), 3), // three working words
+        on(193, cover(63, 6), 256), // M above 192
+        on(5, cover(31, 6), 256), // packages with an item of M
+        on(6, cover(63, 7), 16), // a memo of 4 places
+        on(6, cover(40, 9), 16), // other items
+        on(6, Call::Either { a: 6, b: 2 }, 2), // a new node
+        on(6, Call::Both { a: 4, b: 6 }, 2), // nothing in both
+        on(6, Call::Either { a: 0, b: 1 }, 2), // 0 and 1 as operands
+        on(6, Call::Either { a: 3, b: 1 }, 2), // 3 was not given: where the table knows it, the runner stops
+        on(6, cover(63, 6), 256),
     ]
 }
 
-// Nothing is optional.
-const NO_ITEMS: Items = Items {
-    w0: 0,
-    w1: 0,
-    w2: 0,
-};
+// The timetables of all items are 0 2, 0 3 and 1 3, of which the second leaves item 2 out.
+fn slot_calls() -> [Request; 9] {
+    [
+        on(3, cover(7, 6), 256), // cover all items
+        on(3, cover(7, 5), 256), // B too small
+        on(3, cover(4, 1), 256), // item 2 alone: nothing has to be covered
+        on(3, cover(0, 1), 256), // no item: the same set, the same number
+        on(3, Call::With { a: 5, p: 0 }, 2), // with package 0
+        on(3, Call::Without { a: 5, p: 0 }, 2), // without it
+        on(3, Call::Either { a: 6, b: 3 }, 2), // either of the two: the number of all three again
+        on(3, cover(3, 3), 256), // items 0 and 1: 0 3 alone
+        on(3, Call::Both { a: 6, b: 7 }, 2), // what both have: 0 3 again
+    ]
+}
+
+// Calls on the figure in the reversed order. The timetables of all items are 2 0 and 2 4 1.
+fn reversed_calls() -> [Request; 9] {
+    [
+        on(6, cover(63, 6), 256), // cover all items
+        on(6, cover(63, 5), 256), // B too small
+        on(6, Call::With { a: 5, p: 0 }, 2), // with package 0
+        on(6, Call::Without { a: 5, p: 0 }, 2), // without it
+        on(6, Call::Either { a: 7, b: 8 }, 2), // either of the two: the number of both again
+        on(6, Call::Only { a: 5, b: 8 }, 2), // only what has package 0
+        on(6, Call::Both { a: 7, b: 8 }, 2), // nothing in both
+        on(6, cover(23, 4), 256), // items 0, 1, 2 and 4: a node that was there already
+        on(6, cover(40, 2), 256), // items 3 and 5: package 2 alone
+    ]
+}
+
+// Each timetable of the first half is joined with the second, and either of the two joins is the join of the halves, and the cover of all items.
+fn join_calls() -> [Request; 9] {
+    [
+        on(2, cover(1, 9), 256), // cover the first half, and the second
+        on(2, cover(2, 9), 256),
+        on(2, Call::With { a: 3, p: 0 }, 2), // of the first half with package 0
+        on(2, Call::Join { a: 6, b: 5 }, 7), // joined with the second
+        on(2, Call::Only { a: 3, b: 6 }, 2), // only the rest of the first half: package 1 alone
+        on(2, Call::Join { a: 5, b: 2 }, 6), // joined, the other way round
+        on(2, Call::Either { a: 7, b: 8 }, 2), // either of the two joins
+        on(2, Call::Join { a: 3, b: 5 }, 6), // the join of the halves: the same set, the same number
+        on(2, cover(3, 9), 256), // cover all items: the same again
+    ]
+}
+
+// Refused joins among others.
+fn refused_joins() -> [Request; 9] {
+    [
+        on(2, cover(1, 9), 256), // cover the first half, and the second
+        on(2, cover(2, 9), 256),
+        on(2, Call::Join { a: 3, b: 3 }, 0), // a half with itself: overlap, told without a working word
+        on(2, Call::Join { a: 3, b: 5 }, 5), // one working word too few
+        on(2, Call::Join { a: 3, b: 6 }, 7), // an unknown answer
+        on(2, Call::Join { a: 5, b: 3 }, 6), // the halves
+        on(2, Call::Join { a: 7, b: 3 }, 8), // their join with the first once more: overlap
+        on(2, Call::Join { a: 1, b: 7 }, 8), // with the empty timetable alone: nothing new
+        on(2, cover(3, 9), 256), // cover all items: the number of the join
+    ]
+}
+
+// ---- weeks
+
+// The packages, three words each, the optional items, and the order in which the items are lent.
+#[derive(Clone, Copy)]
+struct Week<'a> {
+    packages: &'a [u64],
+    optional: Items,
+    order: &'a [u8],
+}
+
+// The figure's packages, numbered from 0.
+const FIGURE: [u64; 15] = [
+    0b010111, 0, 0, 0b000011, 0, 0, 0b101000, 0, 0, 0b101100, 0, 0, 0b010100, 0, 0,
+];
 
 const PLAIN: [u8; 6] = [0, 1, 2, 3, 4, 5];
 
@@ -56,224 +163,137 @@ const REPEATED: [u8; 6] = [0, 1, 2, 3, 4, 4];
 // {0}, {0, 2}, {1, 2}, {1}, numbered from 0.
 const SLOTS: [u64; 12] = [1, 0, 0, 5, 0, 0, 6, 0, 0, 2, 0, 0];
 
-const ITEM_2: Items = Items {
-    w0: 4,
-    w1: 0,
-    w2: 0,
-};
-
-// The calls on them, a row each. The timetables of all items are 0 2, 0 3 and 1 3, of which the second leaves item 2 out.
-const SLOT_CALLS: [[u64; 7]; 9] = [
-    [0, 3, 7, 0, 0, 6, 256], // cover all items
-    [0, 3, 7, 0, 0, 5, 256], // B too small
-    [0, 3, 4, 0, 0, 1, 256], // item 2 alone: nothing has to be covered
-    [0, 3, 0, 0, 0, 1, 256], // no item: the same set, the same number
-    [4, 3, 5, 0, 0, 0, 2], // with package 0
-    [5, 3, 5, 0, 0, 0, 2], // without it
-    [1, 3, 6, 0, 0, 3, 2], // either of the two: the number of all three again
-    [0, 3, 3, 0, 0, 3, 256], // items 0 and 1: 0 3 alone
-    [2, 3, 6, 0, 0, 7, 2], // what both have: 0 3 again
-];
-
-// Calls on the figure in the reversed order. The timetables of all items are 2 0 and 2 4 1.
-const REVERSED_CALLS: [[u64; 7]; 9] = [
-    [0, 6, 63, 0, 0, 6, 256], // cover all items
-    [0, 6, 63, 0, 0, 5, 256], // B too small
-    [4, 6, 5, 0, 0, 0, 2], // with package 0
-    [5, 6, 5, 0, 0, 0, 2], // without it
-    [1, 6, 7, 0, 0, 8, 2], // either of the two: the number of both again
-    [3, 6, 5, 0, 0, 8, 2], // only what has package 0
-    [2, 6, 7, 0, 0, 8, 2], // nothing in both
-    [0, 6, 23, 0, 0, 4, 256], // items 0, 1, 2 and 4: a node that was there already
-    [0, 6, 40, 0, 0, 2, 256], // items 3 and 5: package 2 alone
-];
-
 // {0}, {0}, {1}, {1}, numbered from 0: two halves of a week, with two timetables each.
 const HALVES: [u64; 12] = [1, 0, 0, 1, 0, 0, 2, 0, 0, 2, 0, 0];
 
-// Each timetable of the first half is joined with the second, and either of the two joins is the join of the halves, and the cover of all items.
-const JOIN_CALLS: [[u64; 7]; 9] = [
-    [0, 2, 1, 0, 0, 9, 256], // cover the first half, and the second
-    [0, 2, 2, 0, 0, 9, 256],
-    [4, 2, 3, 0, 0, 0, 2], // of the first half with package 0
-    [6, 2, 6, 0, 0, 5, 7], // joined with the second
-    [3, 2, 3, 0, 0, 6, 2], // only the rest of the first half: package 1 alone
-    [6, 2, 5, 0, 0, 2, 6], // joined, the other way round
-    [1, 2, 7, 0, 0, 8, 2], // either of the two joins
-    [6, 2, 3, 0, 0, 5, 6], // the join of the halves: the same set, the same number
-    [0, 2, 3, 0, 0, 9, 256], // cover all items: the same again
-];
-
-// Refused joins among others.
-const REFUSED_JOINS: [[u64; 7]; 9] = [
-    [0, 2, 1, 0, 0, 9, 256], // cover the first half, and the second
-    [0, 2, 2, 0, 0, 9, 256],
-    [6, 2, 3, 0, 0, 3, 0], // a half with itself: overlap, told without a working word
-    [6, 2, 3, 0, 0, 5, 5], // one working word too few
-    [6, 2, 3, 0, 0, 6, 7], // an unknown answer
-    [6, 2, 5, 0, 0, 3, 6], // the halves
-    [6, 2, 7, 0, 0, 3, 8], // their join with the first once more: overlap
-    [6, 2, 1, 0, 0, 7, 8], // with the empty timetable alone: nothing new
-    [0, 2, 3, 0, 0, 9, 256], // cover all items: the number of the join
-];
-
-// The rows, one after the other.
-fn script(calls: [[u64; 7]; 9]) -> [u64; 63] {
-    let mut script = [0u64; 63];
-    let mut i: usize = 0;
-    while i < 63 {
-        let row = calls[i / 7];
-        script[i] = row[i % 7];
-        i += 1;
-    }
-    script
-}
+// ---- runs
 
 // How a call ended, by the first word of its report.
 fn show_outcome(rt: &impl Print, word: u64) -> io::Result<()> {
     if word < 4294967296 {
-        rt.write_all(b"answer ")?;
-        rt.print(word)
+        print!(rt; "answer {word}")
     } else {
-        rt.write_all(b"refused ")?;
-        rt.print(word - 4294967296)
+        print!(rt; "refused {}", word - 4294967296)
     }
 }
 
-fn show(rt: &impl Print, i: usize, word: u64, steps: u64, made: u64) -> io::Result<()> {
-    rt.print(i)?;
-    rt.write_all(b": ")?;
-    show_outcome(rt, word)?;
-    rt.write_all(b" steps ")?;
-    rt.print(steps)?;
-    rt.write_all(b" made ")?;
-    rt.print(made)?;
-    rt.write_all(b"\n")
-}
-
-// The first n reports.
-fn show_reports(rt: &impl Print, out: &[u64; 63], n: usize) -> io::Result<()> {
-    let mut i: usize = 0;
-    while i < 21 {
-        if i < n {
-            show(rt, i, out[3 * i], out[3 * i + 1], out[3 * i + 2])?;
-        }
-        i += 1;
+// The first n reports: the word of the outcome, the steps and the nodes made.
+fn show_reports(rt: &impl Print, reports: &[[u64; 3]], n: usize) -> io::Result<()> {
+    for (i, [outcome, steps, made]) in reports.iter().take(n).enumerate() {
+        print!(rt; "{i}: ")?;
+        show_outcome(rt, *outcome)?;
+        println!(rt; " steps {steps} made {made}")?;
     }
     Ok(())
 }
 
-// What was run: its reports, and how many there are of so many calls.
-fn show_run(rt: &impl Print, what: &[u8], out: &[u64; 63], n: usize, calls: u64) -> io::Result<()> {
-    rt.write_all(what)?;
-    rt.write_all(b"\n")?;
-    show_reports(rt, out, n)?;
-    rt.write_all(b"ran ")?;
-    rt.print(n)?;
-    rt.write_all(b" of ")?;
-    rt.print(calls)?;
-    rt.write_all(b"\n")
-}
-
-// The script on a table that is not empty yet, with `room` working words and `places` places for reports.
-fn scenario(
-    rt: &impl Print,
-    what: &[u8],
-    t: &mut [u32],
-    room: usize,
+// How many words of a table, working words and places for reports a run is lent.
+#[derive(Clone, Copy)]
+struct Lent {
+    table: usize,
+    work: usize,
     places: usize,
-) -> io::Result<()>
-    requires room_bound { room ≤ 256 }
-    requires places_bound { places ≤ 21 }
-{
-    let mut work = [7u64; 256];
-    let mut out = [0u64; 63];
-    let words = 3 * places;
-    let n = history::run(
-        &figure(),
-        NO_ITEMS,
-        &PLAIN,
-        t,
-        &mut work[0..room],
-        &SCRIPT,
-        &mut out[0..words],
-    );
-    show_run(rt, what, &out, n, 21)
 }
 
-// Nine calls, on a table of 8 nodes.
-fn nine(
-    rt: &impl Print,
-    what: &[u8],
-    packages: &[u64],
-    optional: Items,
-    order: &[u8],
-    calls: [[u64; 7]; 9],
-) -> io::Result<()> {
+// A table of 8 nodes, and room for each call and report.
+const AMPLE: Lent = Lent {
+    table: 25,
+    work: 256,
+    places: 21,
+};
+
+// The script on a table that is not empty yet.
+fn scenario(rt: &impl Print, what: &str, w: Week, script: &[Words], lent: Lent) -> io::Result<()>
+    requires table_bound { lent.table ≤ 25 }
+    requires work_bound { lent.work ≤ 256 }
+    requires places_bound { lent.places ≤ 21 }
+{
     let mut t = [7u32; 25];
     let mut work = [7u64; 256];
-    let mut out = [0u64; 63];
+    let mut reports = [[0u64; 3]; 21];
     let n = history::run(
-        packages,
-        optional,
-        order,
-        &mut t,
-        &mut work,
-        &script(calls),
-        &mut out,
+        w.packages,
+        w.optional,
+        w.order,
+        &mut t[..lent.table],
+        &mut work[..lent.work],
+        script.as_flattened(),
+        reports[..lent.places].as_flattened_mut(),
     );
-    show_run(rt, what, &out, n, 9)
+    let calls = script.len();
+    println!(rt; "{what}")?;
+    show_reports(rt, &reports, n)?;
+    println!(rt; "ran {n} of {calls}")
 }
 
-// The two scripts with joins.
-fn joins(rt: &impl Print) -> io::Result<()> {
-    nine(
-        rt,
-        b"two halves and their joins",
-        &HALVES,
-        NO_ITEMS,
-        &PLAIN[0..2],
-        JOIN_CALLS,
-    )?;
-    nine(
-        rt,
-        b"two halves, and joins refused",
-        &HALVES,
-        NO_ITEMS,
-        &PLAIN[0..2],
-        REFUSED_JOINS,
-    )
+// The figure's calls where something is short.
+fn short(rt: &impl Print, figure: Week) -> io::Result<()> {
+    let calls = figure_calls().map(words);
+    let cases = [
+        ("a table of 8 nodes", AMPLE),
+        ("a table of 3 nodes", Lent { table: 10, ..AMPLE }),
+        ("no word", Lent { table: 0, ..AMPLE }),
+        ("places for 2 reports", Lent { places: 2, ..AMPLE }),
+        ("fewer working words", Lent { work: 200, ..AMPLE }),
+    ];
+    for (what, lent) in cases {
+        scenario(rt, what, figure, &calls, lent)?;
+    }
+    Ok(())
+}
+
+// The figure in two other orders, of which the second is none.
+fn reordered(rt: &impl Print, figure: Week) -> io::Result<()> {
+    let calls = reversed_calls().map(words);
+    let reversed = Week {
+        order: &REVERSED,
+        ..figure
+    };
+    let repeated = Week {
+        order: &REPEATED,
+        ..figure
+    };
+    scenario(rt, "the order 5 4 3 2 1 0", reversed, &calls, AMPLE)?;
+    scenario(rt, "item 4 twice in the order", repeated, &calls, AMPLE)
 }
 
 fn main(rt: HostRuntime) -> io::Result<()> {
-    scenario(&rt, b"a table of 8 nodes", &mut [7u32; 25], 256, 21)?;
-    scenario(&rt, b"a table of 3 nodes", &mut [7u32; 10], 256, 21)?;
-    scenario(&rt, b"no word", &mut [7u32; 0], 256, 21)?;
-    scenario(&rt, b"places for 2 reports", &mut [7u32; 25], 256, 2)?;
-    scenario(&rt, b"fewer working words", &mut [7u32; 25], 200, 21)?;
-    nine(
+    let figure = Week {
+        packages: &FIGURE,
+        optional: low(0),
+        order: &PLAIN,
+    };
+    let slots = Week {
+        packages: &SLOTS,
+        optional: low(0b100),
+        order: &PLAIN[..3],
+    };
+    let halves = Week {
+        packages: &HALVES,
+        optional: low(0),
+        order: &PLAIN[..2],
+    };
+    short(&rt, figure)?;
+    scenario(
         &rt,
-        b"item 2 optional",
-        &SLOTS,
-        ITEM_2,
-        &PLAIN[0..3],
-        SLOT_CALLS,
+        "item 2 optional",
+        slots,
+        &slot_calls().map(words),
+        AMPLE,
     )?;
-    nine(
+    reordered(&rt, figure)?;
+    scenario(
         &rt,
-        b"the order 5 4 3 2 1 0",
-        &figure(),
-        NO_ITEMS,
-        &REVERSED,
-        REVERSED_CALLS,
+        "two halves and their joins",
+        halves,
+        &join_calls().map(words),
+        AMPLE,
     )?;
-    nine(
+    scenario(
         &rt,
-        b"item 4 twice in the order",
-        &figure(),
-        NO_ITEMS,
-        &REPEATED,
-        REVERSED_CALLS,
-    )?;
-    joins(&rt)
+        "two halves, and joins refused",
+        halves,
+        &refused_joins().map(words),
+        AMPLE,
+    )
 }

@@ -6,170 +6,190 @@
 ghost use Rattle.std.specs.Prelude.{◌≤◌, ◌<◌};
 
 use itemset::Items;
+use statement::Call;
 use std::io;
 
-// Seven words a call: kind (0 cover, 1 either, 2 both, 3 only, 4 with, 5 without), M, two arguments, the first of three words, working words.
-const SCRIPT: [u64; 70] = [
-    0, 4, 15, 0, 0, 8, 128, // cover all items, with a limit of 8 steps: 9 are needed
-    0, 4, 15, 0, 0, 9, 128, //
-    4, 4, 7, 0, 0, 1, 2, // with 1, and without 1
-    5, 4, 7, 0, 0, 1, 2, //
-    2, 4, 8, 0, 0, 9, 2, // nothing in both
-    3, 4, 7, 0, 0, 8, 2, // the same as without 1
-    0, 4, 5, 0, 0, 9, 128, // items 0 and 2: package 0 alone
-    1, 4, 9, 0, 0, 10, 2, // two nodes are missing
-    1, 4, 8, 0, 0, 10, 2, // one is missing: of room for 11 nodes none is left
-    4, 4, 7, 0, 0, 4, 2, // with 4: a node that was there already
-];
+// A set of items below 64.
+fn low(word: u64) -> Items {
+    Items {
+        w0: word,
+        w1: 0,
+        w2: 0,
+    }
+}
 
-// The packages of the file: school 0, school 1, slot 0, slot 1 are the items 0 to 3. Three words each.
-fn packages() -> [u64; 18] {
+fn cover(d: u64, limit: u32) -> Call {
+    Call::Cover { d: low(d), limit }
+}
+
+fn calls() -> [Call; 10] {
     [
-        0b0101, 0, 0, 0b1001, 0, 0, 0b1010, 0, 0, 0b0110, 0, 0, 0b1101, 0, 0, 0b0010, 0, 0,
+        // All items, with a limit of 8 steps: 9 are needed.
+        cover(0b1111, 8),
+        cover(0b1111, 9),
+        // With 1, and without 1.
+        Call::With { a: 7, p: 1 },
+        Call::Without { a: 7, p: 1 },
+        // Nothing in both.
+        Call::Both { a: 8, b: 9 },
+        // The same as without 1.
+        Call::Only { a: 7, b: 8 },
+        // Items 0 and 2: package 0 alone.
+        cover(0b0101, 9),
+        // Two nodes are missing.
+        Call::Either { a: 9, b: 10 },
+        // One is missing: of room for 11 nodes none is left.
+        Call::Either { a: 8, b: 10 },
+        // With 4: a node that was there already.
+        Call::With { a: 7, p: 4 },
     ]
 }
 
-// Nothing is optional.
-const NO_ITEMS: Items = Items {
-    w0: 0,
-    w1: 0,
-    w2: 0,
-};
+// The seven words of a call in a script: its kind, M, its first argument in three words, its second, and the working words that it is lent.
+fn request(c: Call) -> [u64; 7] {
+    let (kind, x, y, words) = match c {
+        Call::Cover { d, limit } => (0, d, limit, 128),
+        Call::Either { a, b } => (1, low(a as u64), b, 2),
+        Call::Both { a, b } => (2, low(a as u64), b, 2),
+        Call::Only { a, b } => (3, low(a as u64), b, 2),
+        Call::With { a, p } => (4, low(a as u64), p, 2),
+        Call::Without { a, p } => (5, low(a as u64), p, 2),
+        Call::Join { a, b } => (6, low(a as u64), b, 2),
+    };
+    [kind, 4, x.w0, x.w1, x.w2, y as u64, words]
+}
+
+// The packages of the file: school 0, school 1, slot 0, slot 1 are the items 0 to 3. Three words each.
+const PACKAGES: [u64; 18] = [
+    0b0101, 0, 0, 0b1001, 0, 0, 0b1010, 0, 0, 0b0110, 0, 0, 0b1101, 0, 0, 0b0010, 0, 0,
+];
 
 // The items in the plain order.
 const ORDER: [u8; 4] = [0, 1, 2, 3];
 
-// Whether k is below a in the table: the numbers below a are marked, from a down to the children of the nodes marked.
-fn is_below(t: &[u32; 61], a: usize, k: usize) -> bool
-    requires { k < 22 }
-{
-    let mut below = [0u8; 22];
-    let mut i: usize = 21;
-    while i >= 2 {
-        if i == a {
-            below[i] = 1;
-        }
-        if below[i] == 1 {
-            let lo = base::wide(t[3 * i - 4]);
-            let hi = base::wide(t[3 * i - 3]);
-            if lo < i {
-                below[lo] = 1;
-            }
-            if hi < i {
-                below[hi] = 1;
-            }
-        }
-        i -= 1;
-    }
-    below[k] == 1
+// A branch node of the table.
+#[derive(Clone, Copy)]
+struct Node {
+    label: u32,
+    lo: usize,
+    hi: usize,
 }
 
-// The answers given among the first n reports: 1 at each number.
-fn given(out: &[u64; 30], n: usize) -> [u8; 22] {
-    let mut marks = [0u8; 22];
-    let mut i: usize = 0;
-    while i < 10 {
-        let a = out[3 * i];
-        if i < n {
-            if a < 22 {
-                marks[a as usize] = 1;
+// Node k of the table.
+fn node_at(t: &[u32; 61], k: usize) -> Node
+    requires { (2 ≤ k) × (k < 22) }
+{
+    Node {
+        label: t[3 * k - 5],
+        lo: t[3 * k - 4] as usize,
+        hi: t[3 * k - 3] as usize,
+    }
+}
+
+// The numbers below a in the table: they are marked from a down to the children of the nodes marked.
+fn below(t: &[u32; 61], a: usize) -> [bool; 22] {
+    let mut below = [false; 22];
+    for i in (2..22).rev() {
+        if i == a {
+            below[i] = true;
+        }
+        if below[i] {
+            let n = node_at(t, i);
+            if n.lo < i {
+                below[n.lo] = true;
+            }
+            if n.hi < i {
+                below[n.hi] = true;
             }
         }
-        i += 1;
+    }
+    below
+}
+
+// A report of the runner: the word of the outcome, the steps and the nodes made.
+type Report = [u64; 3];
+
+// The answers given among the first n reports: a mark at each number.
+fn given(reports: &[Report; 10], n: usize) -> [bool; 22] {
+    let mut marks = [false; 22];
+    for [outcome, _, _] in reports.iter().take(n) {
+        if *outcome < 22 {
+            marks[*outcome as usize] = true;
+        }
     }
     marks
-}
-
-fn show_word(rt: &impl Print, what: &[u8], word: u64) -> io::Result<()> {
-    rt.write_all(what)?;
-    rt.print(word)
 }
 
 // How a call ended, by the first word of its report.
 fn show_outcome(rt: &impl Print, word: u64) -> io::Result<()> {
     if word < 4294967296 {
-        show_word(rt, b": answer ", word)
+        print!(rt; ": answer {word}")
     } else {
-        show_word(rt, b": refused ", word - 4294967296)
+        print!(rt; ": refused {}", word - 4294967296)
     }
 }
 
 // The first n reports.
-fn show_reports(rt: &impl Print, out: &[u64; 30], n: usize) -> io::Result<()> {
-    let mut i: usize = 0;
-    while i < 10 {
-        if i < n {
-            show_word(rt, b"call ", i as u64)?;
-            show_outcome(rt, out[3 * i])?;
-            show_word(rt, b" made ", out[3 * i + 2])?;
-            rt.write_all(b"\n")?;
-        }
-        i += 1;
+fn show_reports(rt: &impl Print, reports: &[Report; 10], n: usize) -> io::Result<()> {
+    for (i, [outcome, _, made]) in reports.iter().take(n).enumerate() {
+        print!(rt; "call {i}")?;
+        show_outcome(rt, *outcome)?;
+        println!(rt; " made {made}")?;
     }
     Ok(())
 }
 
 // Node k: its label, lo and hi, and the answers given that it is below.
-fn show_node(rt: &impl Print, t: &[u32; 61], marks: &[u8; 22], k: usize) -> io::Result<()>
+fn show_node(rt: &impl Print, t: &[u32; 61], marks: &[bool; 22], k: usize) -> io::Result<()>
     requires { (2 ≤ k) × (k < 22) }
 {
-    show_word(rt, b"node ", k as u64)?;
-    show_word(rt, b": label ", base::widened(t[3 * k - 5]))?;
-    show_word(rt, b" lo ", base::widened(t[3 * k - 4]))?;
-    show_word(rt, b" hi ", base::widened(t[3 * k - 3]))?;
-    rt.write_all(b", needed by")?;
-    let mut a: usize = 2;
-    while a < 22 {
-        if marks[a] == 1 {
-            if is_below(t, a, k) {
-                show_word(rt, b" ", a as u64)?;
-            }
+    let Node { label, lo, hi } = node_at(t, k);
+    print!(rt; "node {k}: label {label} lo {lo} hi {hi}, needed by")?;
+    for a in 2..22 {
+        if marks[a] && below(t, a)[k] {
+            print!(rt; " {a}")?;
         }
-        a += 1;
     }
-    rt.write_all(b"\n")
+    println!(rt)
 }
 
 // The nodes of the table, each with the answers that need it.
-fn show_nodes(rt: &impl Print, t: &[u32; 61], marks: &[u8; 22]) -> io::Result<()> {
-    show_word(rt, b"nodes ", base::widened(t[0]))?;
-    rt.write_all(b"\n")?;
-    let end = base::wide(t[0]) + 2;
-    let mut k: usize = 2;
-    while k < 22 {
-        if k < end {
+fn show_nodes(rt: &impl Print, t: &[u32; 61], marks: &[bool; 22]) -> io::Result<()> {
+    let nodes = t[0];
+    println!(rt; "nodes {nodes}")?;
+    for k in 2..22 {
+        if k < nodes as usize + 2 {
             show_node(rt, t, marks, k)?;
         }
-        k += 1;
     }
     Ok(())
 }
 
-// The history on a table of so many words.
-fn scenario(rt: &impl Print, what: &[u8], words: usize) -> io::Result<()>
-    requires { words ≤ 61 }
+// The history on a table with room for so many nodes.
+fn scenario(rt: &impl Print, room: usize) -> io::Result<()>
+    requires { room ≤ 20 }
 {
     let mut t = [7u32; 61];
     let mut work = [7u64; 128];
-    let mut out = [0u64; 30];
+    let mut reports = [[0u64; 3]; 10];
+    let script = calls().map(request);
     let n = history::run(
-        &packages(),
-        NO_ITEMS,
+        &PACKAGES,
+        low(0),
         &ORDER,
-        &mut t[0..words],
+        &mut t[..3 * room + 1],
         &mut work,
-        &SCRIPT,
-        &mut out,
+        script.as_flattened(),
+        reports.as_flattened_mut(),
     );
-    rt.write_all(what)?;
-    rt.write_all(b"\n")?;
-    show_reports(rt, &out, n)?;
-    let marks = given(&out, n);
-    show_nodes(rt, &t, &marks)
+    println!(rt; "room for {room} nodes")?;
+    show_reports(rt, &reports, n)?;
+    show_nodes(rt, &t, &given(&reports, n))
 }
 
 fn main(rt: HostRuntime) -> io::Result<()> {
-    scenario(&rt, b"room for 20 nodes", 61)?;
-    scenario(&rt, b"room for 12 nodes", 37)?;
-    scenario(&rt, b"room for 11 nodes", 34)
+    for room in [20, 12, 11] {
+        scenario(&rt, room)?;
+    }
+    Ok(())
 }

@@ -2,17 +2,22 @@
 // The items are lent in the plain order. A line gives the answer of cover, nodes made, steps, timetables and the first three of these in quotes, or the refusal.
 #![tactic(auto)]
 
-ghost use Rattle.std.specs.Prelude.{◌+◌, ◌*◌, ◌≤◌, ◌<◌, length};
+ghost use Rattle.std.specs.Prelude.{◌≤◌, ◌<◌};
 
 use itemset::Items;
 use std::io;
-use weeks::Week;
+use weeks::{LARGEST, Lent, NO_ITEMS, Week};
 
 // Cover in the plain order of all items.
-fn run(rt: &impl Print, packages: &[u64], w: Week) -> io::Result<()> {
-    let order = exact_cover::plain_order();
-    let m = weeks::least(base::wide(w.m), 192);
-    weeks::run(rt, packages, w, &order[0..m])
+fn run(rt: &impl Print, packages: &[u64], week: Week) -> io::Result<()> {
+    let plain = exact_cover::plain_order();
+    let m = (week.m as usize).min(192);
+    Lent {
+        week,
+        packages,
+        order: &plain[0..m],
+    }
+    .run(rt)
 }
 
 // ---- small weeks
@@ -33,58 +38,12 @@ const SLOTS: [u64; 12] = [1, 0, 0, 5, 0, 0, 6, 0, 0, 2, 0, 0];
 const LATE: [u64; 6] = [2, 0, 0, 5, 0, 0];
 
 // Item 63 of a word.
-const LAST: u64 = 9223372036854775808;
+const LAST: u64 = 1 << 63;
 
 // The same packages with the items 0, 65 and 191.
 const WIDE_SLOTS: [u64; 12] = [1, 0, 0, 1, 0, LAST, 0, 2, LAST, 0, 2, 0];
 
 const WIDE_LATE: [u64; 6] = [0, 2, 0, 1, 0, LAST];
-
-// With a memo of 64 places.
-fn small(m: u32, optional: Items, d: Items) -> Week {
-    Week {
-        m,
-        optional,
-        d,
-        words: 256,
-        shown: 3,
-    }
-}
-
-fn slots(rt: &impl Print, name: &[u8], optional: u64, d: u64) -> io::Result<()> {
-    rt.write_all(name)?;
-    let packages = SLOTS;
-    run(rt, &packages, small(3, low(optional), low(d)))
-}
-
-fn late(rt: &impl Print, name: &[u8], optional: u64) -> io::Result<()> {
-    rt.write_all(name)?;
-    let packages = LATE;
-    run(rt, &packages, small(3, low(optional), low(7)))
-}
-
-// D has item 63 of each word, of which only 191 is in a package.
-fn wide_slots(rt: &impl Print, name: &[u8], optional: Items) -> io::Result<()> {
-    rt.write_all(name)?;
-    let packages = WIDE_SLOTS;
-    let d = Items {
-        w0: LAST + 1,
-        w1: LAST + 2,
-        w2: LAST,
-    };
-    run(rt, &packages, small(192, optional, d))
-}
-
-fn wide_late(rt: &impl Print, name: &[u8], optional: Items) -> io::Result<()> {
-    rt.write_all(name)?;
-    let packages = WIDE_LATE;
-    let d = Items {
-        w0: 1,
-        w1: 2,
-        w2: LAST,
-    };
-    run(rt, &packages, small(192, optional, d))
-}
 
 const LASTS: Items = Items {
     w0: LAST,
@@ -92,22 +51,71 @@ const LASTS: Items = Items {
     w2: LAST,
 };
 
-fn weeks(rt: &impl Print) -> io::Result<()> {
-    slots(rt, b"four packages, item 2 optional:", 4, 7)?;
-    slots(rt, b"four packages, nothing optional:", 0, 7)?;
-    slots(rt, b"four packages, item 2 optional, D empty:", 4, 0)?;
-    slots(rt, b"four packages, item 2 optional, D {2}:", 4, 4)?;
-    slots(rt, b"four packages, nothing optional, D {2}:", 0, 4)?;
-    late(rt, b"two packages, item 0 optional:", 1)?;
-    late(rt, b"two packages, nothing optional:", 0)?;
-    wide_slots(
-        rt,
-        b"four wide packages, items 63, 127, 191 optional:",
-        LASTS,
-    )?;
-    wide_slots(rt, b"four wide packages, nothing optional:", low(0))?;
-    wide_late(rt, b"two wide packages, item 0 optional:", low(1))?;
-    wide_late(rt, b"two wide packages, nothing optional:", low(0))
+// The items of the wide packages.
+const WIDE: Items = Items {
+    w0: 1,
+    w1: 2,
+    w2: LAST,
+};
+
+// Item 63 of each word too, of which only 191 is in a package.
+const WIDER: Items = Items {
+    w0: LAST + 1,
+    w1: LAST + 2,
+    w2: LAST,
+};
+
+// With a memo of 64 places.
+fn small(rt: &impl Print, m: u32, packages: &[u64], optional: Items, d: Items) -> io::Result<()> {
+    let week = Week {
+        m,
+        optional,
+        d,
+        words: 256,
+        shown: 3,
+    };
+    run(rt, packages, week)
+}
+
+fn slots(rt: &impl Print) -> io::Result<()> {
+    for (name, optional, d) in [
+        ("item 2 optional", 4, 7),
+        ("nothing optional", 0, 7),
+        ("item 2 optional, D empty", 4, 0),
+        ("item 2 optional, D {2}", 4, 4),
+        ("nothing optional, D {2}", 0, 4),
+    ] {
+        print!(rt; "four packages, {name}:")?;
+        small(rt, 3, &SLOTS, low(optional), low(d))?;
+    }
+    Ok(())
+}
+
+fn late(rt: &impl Print) -> io::Result<()> {
+    for (name, optional) in [("item 0 optional", 1), ("nothing optional", 0)] {
+        print!(rt; "two packages, {name}:")?;
+        small(rt, 3, &LATE, low(optional), low(7))?;
+    }
+    Ok(())
+}
+
+fn wide_slots(rt: &impl Print) -> io::Result<()> {
+    for (name, optional) in [
+        ("items 63, 127, 191 optional", LASTS),
+        ("nothing optional", NO_ITEMS),
+    ] {
+        print!(rt; "four wide packages, {name}:")?;
+        small(rt, 192, &WIDE_SLOTS, optional, WIDER)?;
+    }
+    Ok(())
+}
+
+fn wide_late(rt: &impl Print) -> io::Result<()> {
+    for (name, optional) in [("item 0 optional", low(1)), ("nothing optional", NO_ITEMS)] {
+        print!(rt; "two wide packages, {name}:")?;
+        small(rt, 192, &WIDE_LATE, optional, WIDE)?;
+    }
+    Ok(())
 }
 
 // ---- one set throughout
@@ -116,24 +124,23 @@ fn weeks(rt: &impl Print) -> io::Result<()> {
 const ORDER: [u8; 3] = [0, 1, 2];
 
 // The answer "0 1" of the two packages, counted with these items optional. Where item 0 is compulsory, package 1 comes first, and the table is not sound.
-fn count_with(rt: &impl Print, name: &[u8], optional: Items) -> io::Result<()> {
-    rt.write_all(name)?;
-    let packages = LATE;
+fn count_with(rt: &impl Print, name: &str, optional: Items) -> io::Result<()> {
     let mut t = [0u32; 7];
     let mut work = [0u64; 256];
     engine::cover(
         3,
-        &packages,
+        &LATE,
         low(1),
         &ORDER,
         &mut t,
         low(7),
-        4294967295,
+        u32::MAX,
         &mut work,
     );
-    let c = engine::count(3, &packages, optional, &ORDER, &t, 3, &mut work);
-    weeks::print_count(rt, c)?;
-    rt.write_all(b"\n")
+    let c = engine::count(3, &LATE, optional, &ORDER, &t, 3, &mut work);
+    print!(rt; "answer 3 of two packages, counted with {name}:")?;
+    weeks::print_answer(rt, " timetables", c)?;
+    println!(rt)
 }
 
 // ---- refusals
@@ -142,11 +149,10 @@ fn count_with(rt: &impl Print, name: &[u8], optional: Items) -> io::Result<()> {
 const SPOILT: [u32; 1] = [1];
 
 fn refuse_cover(rt: &impl Print, optional: Items) -> io::Result<()> {
-    let packages = SLOTS;
     let mut t = SPOILT;
     let r = engine::cover(
         3,
-        &packages,
+        &SLOTS,
         optional,
         &ORDER,
         &mut t,
@@ -154,46 +160,41 @@ fn refuse_cover(rt: &impl Print, optional: Items) -> io::Result<()> {
         6,
         &mut [0u64; 256],
     );
-    rt.write_all(b" cover")?;
-    let outcome = r.outcome;
-    weeks::print_outcome(rt, outcome)
+    print!(rt; " cover")?;
+    weeks::print_answer(rt, " answer", r.outcome)
 }
 
 fn refuse_without(rt: &impl Print, optional: Items) -> io::Result<()> {
-    let packages = SLOTS;
     let mut t = SPOILT;
-    let r = engine::without(3, &packages, optional, &ORDER, &mut t, 1, 0, &mut [0u64; 2]);
-    rt.write_all(b" without")?;
-    let outcome = r.outcome;
-    weeks::print_outcome(rt, outcome)
+    let r = engine::without(3, &SLOTS, optional, &ORDER, &mut t, 1, 0, &mut [0u64; 2]);
+    print!(rt; " without")?;
+    weeks::print_answer(rt, " answer", r.outcome)
 }
 
 // Three costs for the four packages.
 fn refuse_cheapest(rt: &impl Print, optional: Items) -> io::Result<()> {
-    let packages = SLOTS;
-    let t = SPOILT;
     let r = engine::cheapest(
         3,
-        &packages,
+        &SLOTS,
         optional,
         &ORDER,
         &[0u16; 3],
-        &t,
+        &SPOILT,
         1,
         &mut [0u64; 2],
         &mut [0u16; 4],
     );
-    rt.write_all(b" cheapest")?;
+    print!(rt; " cheapest")?;
     weeks::print_priced(rt, r)
 }
 
 // 4 for the table and 3 for the costs come behind 29 and 30.
-fn refuse(rt: &impl Print, name: &[u8], optional: Items) -> io::Result<()> {
-    rt.write_all(name)?;
+fn refuse(rt: &impl Print, name: &str, optional: Items) -> io::Result<()> {
+    print!(rt; "spoilt table, {name} optional:")?;
     refuse_cover(rt, optional)?;
     refuse_without(rt, optional)?;
     refuse_cheapest(rt, optional)?;
-    rt.write_all(b"\n")
+    println!(rt)
 }
 
 const ITEM_191: Items = Items {
@@ -203,72 +204,60 @@ const ITEM_191: Items = Items {
 };
 
 fn refusals(rt: &impl Print) -> io::Result<()> {
-    refuse(
-        rt,
-        b"spoilt table, items 0, 2 and 3 of M 3 optional:",
-        low(13),
-    )?;
-    refuse(rt, b"spoilt table, items 0 and 2 optional:", low(5))?;
-    refuse(rt, b"spoilt table, item 3 of M 3 optional:", low(8))?;
-    refuse(rt, b"spoilt table, item 191 of M 3 optional:", ITEM_191)?;
-    refuse(rt, b"spoilt table, item 2 optional:", low(4))
+    refuse(rt, "items 0, 2 and 3 of M 3", low(13))?;
+    refuse(rt, "items 0 and 2", low(5))?;
+    refuse(rt, "item 3 of M 3", low(8))?;
+    refuse(rt, "item 191 of M 3", ITEM_191)?;
+    refuse(rt, "item 2", low(4))
 }
 
 // ---- queens
 
-// Item i, moved to i * apart modulo 192, goes into package p. Items that are 65 apart go round the three words.
-fn put_item(packages: &mut [u64], p: usize, i: u32, apart: u32)
-    requires p_in_bounds { 3 * p + 3 ≤ length packages.old }
+// Item i, moved to i * apart modulo 192, goes into the set of three words. Items that are 65 apart go round the three words.
+fn put_item(set: &mut [u64; 3], i: u32, apart: u32)
     requires i_bound { i < 64 }
     requires apart_bound { apart < 192 }
 {
     let moved = i * apart % 192;
-    let w = 3 * p + base::wide(moved / 64);
-    packages[w] = packages[w] | 1 << (moved % 64);
+    set[(moved / 64) as usize] |= 1 << (moved % 64);
 }
 
 // A queen in row r and column c of n by n: her row, her column, and her two diagonals.
-fn put_queen(packages: &mut [u64], p: usize, n: u32, r: u32, c: u32, apart: u32)
-    requires p_in_bounds { 3 * p + 3 ≤ length packages.old }
+fn queen(n: u32, r: u32, c: u32, apart: u32) -> [u64; 3]
     requires n_bound { n ≤ 10 }
     requires r_lt_n { r < n }
     requires c_lt_n { c < n }
     requires apart_bound { apart < 192 }
 {
-    put_item(packages, p, r, apart);
-    put_item(packages, p, n + c, apart);
-    put_item(packages, p, 2 * n + r + c, apart);
-    put_item(packages, p, 5 * n - 2 + r - c, apart);
+    let mut set = [0u64; 3];
+    put_item(&mut set, r, apart);
+    put_item(&mut set, n + c, apart);
+    put_item(&mut set, 2 * n + r + c, apart);
+    put_item(&mut set, 5 * n - 2 + r - c, apart);
+    set
 }
 
-// Row r, from package p on.
-fn put_row(packages: &mut [u64], p: usize, n: u32, r: u32, apart: u32)
-    requires n_in_bounds { 3 * p + 3 * n ≤ length packages.old }
+// The squares of row r.
+fn put_row(board: &mut [[u64; 3]; 100], n: u32, r: u32, apart: u32)
     requires n_bound { n ≤ 10 }
     requires r_lt_n { r < n }
     requires apart_bound { apart < 192 }
 {
-    let mut c: u32 = 0;
-    while c < n {
-        put_queen(packages, p + base::wide(c), n, r, c, apart);
-        c += 1;
+    for c in 0..n {
+        board[(r * n + c) as usize] = queen(n, r, c, apart);
     }
 }
 
-// All squares, rows in turn. Returns how many there are.
-fn put_queens(packages: &mut [u64; 300], n: u32, apart: u32) -> usize
+// All squares, rows in turn.
+fn squares(n: u32, apart: u32) -> [[u64; 3]; 100]
     requires n_bound { n ≤ 10 }
     requires apart_bound { apart < 192 }
-    ensures { result ≤ 100 }
 {
-    let mut p: usize = 0;
-    let mut r: u32 = 0;
-    while r < n {
-        put_row(packages, p, n, r, apart);
-        p += base::wide(n);
-        r += 1;
+    let mut board = [[0u64; 3]; 100];
+    for r in 0..n {
+        put_row(&mut board, n, r, apart);
     }
-    p
+    board
 }
 
 // The items from `first` up to `end`, moved.
@@ -277,21 +266,10 @@ fn items(first: u32, end: u32, apart: u32) -> Items
     requires apart_bound { apart < 192 }
 {
     let mut set = [0u64; 3];
-    let mut i: u32 = first;
-    while i < end {
-        put_item(&mut set, 0, i, apart);
-        i += 1;
+    for i in first..end {
+        put_item(&mut set, i, apart);
     }
     itemset::read(&set, 0)
-}
-
-// The first n packages of the board are lent.
-fn run_board(rt: &impl Print, board: [u64; 300], n: usize, w: Week) -> io::Result<()>
-    requires { n ≤ 100 }
-{
-    weeks::print(rt, b", packages ", n as u64)?;
-    rt.write_all(b":")?;
-    run(rt, &board[0..3 * n], w)
 }
 
 // n queens on n by n squares: rows and columns are compulsory, and a diagonal has one queen at most.
@@ -300,33 +278,26 @@ fn queens(rt: &impl Print, n: u32, m: u32, apart: u32) -> io::Result<()>
     requires n_nonzero { 0 < n }
     requires apart_bound { apart < 192 }
 {
-    weeks::print(rt, b"queens ", n as u64)?;
-    weeks::print(rt, b", items apart ", apart as u64)?;
-    weeks::print(rt, b", M ", m as u64)?;
-    let mut board = [0u64; 300];
-    let squares = put_queens(&mut board, n, apart);
-    let w = Week {
+    let board = squares(n, apart);
+    let week = Week {
         m,
         optional: items(2 * n, 6 * n - 2, apart),
         d: items(0, 6 * n - 2, apart),
-        words: 262084,
+        words: LARGEST,
         shown: 3,
     };
-    run_board(rt, board, squares, w)
+    let packages = n * n;
+    print!(rt; "queens {n}, items apart {apart}, M {m}, packages {packages}:")?;
+    run(rt, board[0..packages as usize].as_flattened(), week)
 }
 
 fn main(rt: HostRuntime) -> io::Result<()> {
-    weeks(&rt)?;
-    count_with(
-        &rt,
-        b"answer 3 of two packages, counted with item 0 optional:",
-        low(1),
-    )?;
-    count_with(
-        &rt,
-        b"answer 3 of two packages, counted with nothing optional:",
-        low(0),
-    )?;
+    slots(&rt)?;
+    late(&rt)?;
+    wide_slots(&rt)?;
+    wide_late(&rt)?;
+    count_with(&rt, "item 0 optional", low(1))?;
+    count_with(&rt, "nothing optional", NO_ITEMS)?;
     refusals(&rt)?;
     queens(&rt, 8, 46, 1)?;
     queens(&rt, 8, 181, 4)?;

@@ -3,229 +3,196 @@
 // line behind their covers is a call in which one thing is wrong, in the order of the tests. The week `many` has 2^64 timetables, one more than count can tell.
 #![tactic(auto)]
 
-use bids::Reading;
+use bids::Bids;
 use itemset::Items;
-use statement::{Call, Outcome, Picked, Placed, Report, Soundness};
+use statement::{Call, Refusal, Report};
 use std::rt::Files;
 use std::{fs, io};
-use weeks::Week;
+use weeks::{Lent, NO_ITEMS, Week};
 
 // ---- what is printed
 
-fn print_reading(rt: &impl Print, r: Reading) -> io::Result<()> {
+fn print_reading(rt: &impl Print, r: Result<Bids, Refusal>) -> io::Result<()> {
     match r {
-        Reading::Accepted {
-            schools,
-            slots,
-            packages,
-            optional,
-        } => {
-            weeks::print(rt, b": schools ", schools as u64)?;
-            weeks::print(rt, b" slots ", slots as u64)?;
-            weeks::print(rt, b" packages ", packages as u64)?;
-            weeks::print(rt, b" optional ", optional.w0)?;
-        }
-        Reading::Refused(n) => weeks::print_refused(rt, n)?,
-    }
-    rt.write_all(b"\n")
-}
-
-fn print_soundness(rt: &impl Print, r: Soundness) -> io::Result<()> {
-    match r {
-        Soundness::Sound => rt.write_all(b" sound"),
-        Soundness::Refused(n) => weeks::print_refused(rt, n),
-    }
-}
-
-fn print_placed(rt: &impl Print, r: Placed) -> io::Result<()> {
-    match r {
-        Placed::Place(k) => weeks::print(rt, b" place ", k),
-        Placed::Refused(n) => weeks::print_refused(rt, n),
-    }
-}
-
-fn print_picked(rt: &impl Print, r: Picked) -> io::Result<()> {
-    match r {
-        Picked::Packages(n) => weeks::print(rt, b" packages ", n as u64),
-        Picked::Refused(n) => weeks::print_refused(rt, n),
+        Ok(b) => println!(rt;
+            ": schools {} slots {} packages {} optional {}",
+            b.schools, b.slots, b.packages, b.optional.w0
+        ),
+        Err(refusal) => println!(rt; " {refusal}"),
     }
 }
 
 // The answer is given back, 0 after a refusal.
 fn print_report(rt: &impl Print, r: Report) -> io::Result<u32> {
-    let outcome = r.outcome;
-    weeks::print_outcome(rt, outcome)?;
-    let Outcome::Answer(a) = outcome else {
-        return Ok(0);
-    };
-    weeks::print(rt, b" nodes ", r.made as u64)?;
-    weeks::print(rt, b" steps ", r.steps as u64)?;
-    Ok(a)
+    match r.outcome {
+        Ok(a) => {
+            println!(rt; " answer {a} nodes {} steps {}", r.made, r.steps)?;
+            Ok(a)
+        }
+        Err(refusal) => {
+            println!(rt; " {refusal}")?;
+            Ok(0)
+        }
+    }
 }
 
 // ---- one call, with working words for 1009 places of cover's memo, a prime, or for answers up to 4035
 
-fn check(
-    rt: &impl Print,
-    what: &[u8],
-    packages: &[u64],
-    w: Week,
-    order: &[u8],
-    t: &[u32],
-) -> io::Result<()> {
-    rt.write_all(what)?;
-    print_soundness(rt, engine::check(w.m, packages, w.optional, order, t))?;
-    rt.write_all(b"\n")
+const WORDS: usize = 4036;
+
+fn check(rt: &impl Print, what: &str, lent: Lent, t: &[u32]) -> io::Result<()> {
+    print!(rt; "{what}")?;
+    let r = engine::check(
+        lent.week.m,
+        lent.packages,
+        lent.week.optional,
+        lent.order,
+        t,
+    );
+    match r {
+        Ok(_) => println!(rt; " sound"),
+        Err(refusal) => println!(rt; " {refusal}"),
+    }
 }
 
 // A call that makes an answer.
-fn make(
-    rt: &impl Print,
-    what: &[u8],
-    packages: &[u64],
-    w: Week,
-    order: &[u8],
-    t: &mut [u32],
-    c: Call,
-) -> io::Result<u32> {
-    rt.write_all(what)?;
-    let r = engine::answer(w.m, packages, w.optional, order, t, c, &mut [0u64; 4036]);
-    let a = print_report(rt, r)?;
-    rt.write_all(b"\n")?;
-    Ok(a)
+fn make(rt: &impl Print, what: &str, lent: Lent, t: &mut [u32], c: Call) -> io::Result<u32> {
+    print!(rt; "{what}")?;
+    let r = engine::answer(
+        lent.week.m,
+        lent.packages,
+        lent.week.optional,
+        lent.order,
+        t,
+        c,
+        &mut [0u64; WORDS],
+    );
+    print_report(rt, r)
 }
 
 // With so many working words.
 fn count(
     rt: &impl Print,
-    what: &[u8],
-    packages: &[u64],
-    w: Week,
-    order: &[u8],
+    what: &str,
+    lent: Lent,
     t: &[u32],
     a: u32,
     words: usize,
 ) -> io::Result<u64> {
-    let mut work = [0u64; 4036];
-    let lent = weeks::least(words, 4036);
-    rt.write_all(what)?;
-    let c = engine::count(w.m, packages, w.optional, order, t, a, &mut work[0..lent]);
-    let n = weeks::print_count(rt, c)?;
-    rt.write_all(b"\n")?;
-    Ok(n)
+    let mut work = [0u64; WORDS];
+    let end = words.min(WORDS);
+    print!(rt; "{what}")?;
+    let c = engine::count(
+        lent.week.m,
+        lent.packages,
+        lent.week.optional,
+        lent.order,
+        t,
+        a,
+        &mut work[..end],
+    );
+    weeks::print_answer(rt, " timetables", c)?;
+    println!(rt)?;
+    Ok(c.unwrap_or(0))
 }
 
 fn cheapest(
     rt: &impl Print,
-    what: &[u8],
-    packages: &[u64],
-    w: Week,
-    order: &[u8],
+    what: &str,
+    lent: Lent,
     costs: &[u16],
     t: &[u32],
     a: u32,
 ) -> io::Result<()> {
-    rt.write_all(what)?;
+    print!(rt; "{what}")?;
     let r = engine::cheapest(
-        w.m,
-        packages,
-        w.optional,
-        order,
+        lent.week.m,
+        lent.packages,
+        lent.week.optional,
+        lent.order,
         costs,
         t,
         a,
-        &mut [0u64; 4036],
+        &mut [0u64; WORDS],
         &mut [0u16; 64],
     );
     weeks::print_priced(rt, r)?;
-    rt.write_all(b"\n")
+    println!(rt)
 }
 
 fn place(
     rt: &impl Print,
-    what: &[u8],
-    packages: &[u64],
-    w: Week,
-    order: &[u8],
+    what: &str,
+    lent: Lent,
     t: &[u32],
     a: u32,
     list: &[u16],
 ) -> io::Result<()> {
-    rt.write_all(what)?;
+    print!(rt; "{what}")?;
     let r = engine::place(
-        w.m,
-        packages,
-        w.optional,
-        order,
+        lent.week.m,
+        lent.packages,
+        lent.week.optional,
+        lent.order,
         t,
         a,
         list,
-        &mut [0u64; 4036],
+        &mut [0u64; WORDS],
     );
-    print_placed(rt, r)?;
-    rt.write_all(b"\n")
+    weeks::print_answer(rt, " place", r)?;
+    println!(rt)
 }
 
 fn pick(
     rt: &impl Print,
-    what: &[u8],
-    packages: &[u64],
-    w: Week,
-    order: &[u8],
+    what: &str,
+    lent: Lent,
     t: &[u32],
     a: u32,
     k: u64,
     page: &mut [u16],
 ) -> io::Result<()> {
-    rt.write_all(what)?;
+    print!(rt; "{what}")?;
     let r = engine::pick(
-        w.m,
-        packages,
-        w.optional,
-        order,
+        lent.week.m,
+        lent.packages,
+        lent.week.optional,
+        lent.order,
         t,
         a,
         k,
-        &mut [0u64; 4036],
+        &mut [0u64; WORDS],
         page,
     );
-    print_picked(rt, r)?;
-    rt.write_all(b"\n")
+    weeks::print_answer(rt, " packages", r)?;
+    println!(rt)
 }
 
 // ---- a week from its file
 
-// Reads a file of this version.
+#[derive(Clone, Copy)]
+enum Version {
+    One,
+    Two,
+}
+
 fn read<R: Files>(
     rt: &R,
     name: &str,
-    version: u8,
+    version: Version,
     packages: &mut [u64],
     costs: &mut [u16],
-) -> io::Result<Reading> {
+) -> io::Result<Result<Bids, Refusal>> {
     let mut file = [0u8; 6285];
     let n = console::read_full(&mut fs::open(rt, name)?, &mut file)?;
-    if version == 2 {
-        return Ok(bids::read2(&file[..n], packages, costs));
-    }
-    Ok(bids::read(&file[..n], packages, costs))
+    Ok(match version {
+        Version::One => bids::read(&file[..n], packages, costs),
+        Version::Two => bids::read2(&file[..n], packages, costs),
+    })
 }
 
-// S + T items, at most 64, so that the sum does not wrap; all are to be covered.
-fn week(r: Reading) -> Week {
-    let Reading::Accepted {
-        schools,
-        slots,
-        packages: _,
-        optional,
-    } = r
-    else {
-        return of(0, itemset::all_below(0));
-    };
-    of(std::num::wrapping_add_u32(schools, slots), optional)
-}
-
-fn of(m: u32, optional: Items) -> Week {
+// All M items are to be covered.
+fn week(m: u32, optional: Items) -> Week {
     Week {
         m,
         optional,
@@ -235,156 +202,97 @@ fn of(m: u32, optional: Items) -> Week {
     }
 }
 
-// N, at most 512.
-fn number(r: Reading) -> usize {
+// The week of a file, with M = S + T, at most 64, so that the sum does not wrap; and N, at most 512.
+fn given(r: Result<Bids, Refusal>) -> (Week, usize) {
     match r {
-        Reading::Accepted {
-            schools: _,
-            slots: _,
-            packages,
-            optional: _,
-        } => packages,
-        Reading::Refused(_) => 0,
+        Ok(b) => (
+            week(b.schools.wrapping_add(b.slots), b.optional),
+            b.packages,
+        ),
+        Err(_) => (week(0, NO_ITEMS), 0),
     }
 }
 
 // The cover of the week.
 fn all(w: Week, limit: u32) -> Call {
-    let d = w.d;
-    Call::Cover { d, limit }
+    Call::Cover { d: w.d, limit }
 }
+
+// How many steps a cover may take where they are not what it is refused for.
+const STEPS: u32 = 1000000;
 
 // ---- a small week
 
 // The weeks have four items. Of what check is lent besides the table only the order can be wrong.
-fn disordered(rt: &impl Print, packages: &[u64], w: Week, t: &mut [u32]) -> io::Result<()> {
-    let twice = [0u8, 0, 2, 3];
-    make(
-        rt,
-        b"cover in an order with an item twice:",
-        packages,
-        w,
-        &twice,
-        t,
-        all(w, 1000000),
-    )?;
-    check(rt, b"check in that order:", packages, w, &twice, t)
+fn disordered(rt: &impl Print, lent: Lent, t: &mut [u32]) -> io::Result<()> {
+    let order = [0, 0, 2, 3];
+    let twice = Lent {
+        order: &order,
+        ..lent
+    };
+    let c = all(lent.week, STEPS);
+    make(rt, "cover in an order with an item twice:", twice, t, c)?;
+    check(rt, "check in that order:", twice, t)
 }
 
-fn lent(
+fn short_costs_or_table(
     rt: &impl Print,
-    packages: &[u64],
-    w: Week,
-    order: &[u8],
+    lent: Lent,
     costs: &[u16],
     t: &[u32],
     a: u32,
 ) -> io::Result<()> {
-    let few = weeks::least(5, costs.len());
+    let few = costs.len().min(5);
     cheapest(
         rt,
-        b"cheapest with a cost too few:",
-        packages,
-        w,
-        order,
-        &costs[0..few],
+        "cheapest with a cost too few:",
+        lent,
+        &costs[..few],
         t,
         a,
     )?;
-    check(rt, b"check of the table:", packages, w, order, t)?;
+    check(rt, "check of the table:", lent, t)?;
     check(
         rt,
-        b"check of a table whose node has hi 0:",
-        packages,
-        w,
-        order,
-        &[1u32, 0, 0, 0],
+        "check of a table whose node has hi 0:",
+        lent,
+        &[1, 0, 0, 0],
     )
 }
 
-fn next(x: u32) -> u32 {
-    std::num::wrapping_add_u32(x, 1)
-}
-
-// N, the first number that is no package's, of at most 512 packages.
-fn beyond(packages: &[u64]) -> u32 {
-    (weeks::least(packages.len(), 1536) / 3) as u32
-}
-
-fn more(m: u32) -> Call {
-    Call::Cover {
-        d: itemset::all_below(next(m)),
-        limit: 1000000,
-    }
-}
-
 // The answer has the last node of the table, and 0 2 is a timetable of it.
-fn unknown(
-    rt: &impl Print,
-    packages: &[u64],
-    w: Week,
-    order: &[u8],
-    t: &mut [u32],
-    a: u32,
-) -> io::Result<()> {
+fn unknown(rt: &impl Print, lent: Lent, t: &mut [u32], a: u32) -> io::Result<()> {
+    let next = a.wrapping_add(1);
     count(
         rt,
-        b"count of an answer that the table does not have:",
-        packages,
-        w,
-        order,
+        "count of an answer that the table does not have:",
+        lent,
         t,
-        next(a),
-        4036,
+        next,
+        WORDS,
     )?;
-    make(
-        rt,
-        b"with package N:",
-        packages,
-        w,
-        order,
-        t,
-        Call::With {
-            a,
-            p: beyond(packages),
-        },
-    )?;
+    // N is the first number that is no package's; there are at most 512.
+    let p = (lent.packages.len().min(1536) / 3) as u32;
+    make(rt, "with package N:", lent, t, Call::With { a, p })?;
     place(
         rt,
-        b"place of a list out of precedence:",
-        packages,
-        w,
-        order,
+        "place of a list out of precedence:",
+        lent,
         t,
         a,
-        &[2u16, 0],
+        &[2, 0],
     )
 }
 
 // An item that there is not, and answers that have items in common.
-fn items(
-    rt: &impl Print,
-    packages: &[u64],
-    w: Week,
-    order: &[u8],
-    t: &mut [u32],
-    a: u32,
-) -> io::Result<()> {
+fn items(rt: &impl Print, lent: Lent, t: &mut [u32], a: u32) -> io::Result<()> {
+    let d = itemset::all_below(lent.week.m.wrapping_add(1));
+    let more = Call::Cover { d, limit: STEPS };
+    make(rt, "cover of a set with item M:", lent, t, more)?;
     make(
         rt,
-        b"cover of a set with item M:",
-        packages,
-        w,
-        order,
-        t,
-        more(w.m),
-    )?;
-    make(
-        rt,
-        b"join of the answer with itself:",
-        packages,
-        w,
-        order,
+        "join of the answer with itself:",
+        lent,
         t,
         Call::Join { a, b: a },
     )?;
@@ -392,169 +300,111 @@ fn items(
 }
 
 // The answer has six nodes, and the table of the last cover room for five.
-fn short(
-    rt: &impl Print,
-    packages: &[u64],
-    w: Week,
-    order: &[u8],
-    t: &[u32],
-    a: u32,
-) -> io::Result<()> {
-    count(
-        rt,
-        b"count with a word too few:",
-        packages,
-        w,
-        order,
-        t,
-        a,
-        a as usize,
-    )?;
+fn short(rt: &impl Print, lent: Lent, t: &[u32], a: u32) -> io::Result<()> {
+    let w = lent.week;
+    count(rt, "count with a word too few:", lent, t, a, a as usize)?;
+    make(rt, "cover in one step:", lent, &mut [0; 31], all(w, 1))?;
     make(
         rt,
-        b"cover in one step:",
-        packages,
-        w,
-        order,
-        &mut [0u32; 31],
-        all(w, 1),
-    )?;
-    make(
-        rt,
-        b"cover on a table without room:",
-        packages,
-        w,
-        order,
-        &mut [0u32; 16],
-        all(w, 1000000),
+        "cover on a table without room:",
+        lent,
+        &mut [0; 16],
+        all(w, STEPS),
     )?;
     Ok(())
 }
 
-fn absent(
-    rt: &impl Print,
-    packages: &[u64],
-    w: Week,
-    order: &[u8],
-    costs: &[u16],
-    t: &[u32],
-    a: u32,
-) -> io::Result<()> {
-    let k = count(rt, b"count:", packages, w, order, t, a, 4036)?;
+fn absent(rt: &impl Print, lent: Lent, costs: &[u16], t: &[u32], a: u32) -> io::Result<()> {
+    let k = count(rt, "count:", lent, t, a, WORDS)?;
     pick(
         rt,
-        b"pick of that k, past the end:",
-        packages,
-        w,
-        order,
+        "pick of that k, past the end:",
+        lent,
         t,
         a,
         k,
-        &mut [0u16; 8],
+        &mut [0; 8],
     )?;
-    cheapest(rt, b"cheapest of 0:", packages, w, order, costs, t, 0)?;
-    place(
-        rt,
-        b"place of the empty list:",
-        packages,
-        w,
-        order,
-        t,
-        a,
-        &[0u16; 0],
-    )?;
-    pick(
-        rt,
-        b"pick on a page of no places:",
-        packages,
-        w,
-        order,
-        t,
-        a,
-        0,
-        &mut [0u16; 0],
-    )
+    cheapest(rt, "cheapest of 0:", lent, costs, t, 0)?;
+    place(rt, "place of the empty list:", lent, t, a, &[])?;
+    pick(rt, "pick on a page of no places:", lent, t, a, 0, &mut [])
 }
 
-fn refusals(
-    rt: &impl Print,
-    packages: &[u64],
-    w: Week,
-    order: &[u8],
-    costs: &[u16],
-) -> io::Result<()> {
+fn refusals(rt: &impl Print, lent: Lent, costs: &[u16]) -> io::Result<()> {
     let mut t = [0u32; 31];
-    let a = make(rt, b"cover:", packages, w, order, &mut t, all(w, 1000000))?;
-    rt.write_all(b"its answer:")?;
-    weeks::print_timetables(rt, packages, w, order, &t, a)?;
-    rt.write_all(b"\n")?;
-    disordered(rt, packages, w, &mut t)?;
-    lent(rt, packages, w, order, costs, &t, a)?;
-    unknown(rt, packages, w, order, &mut t, a)?;
-    items(rt, packages, w, order, &mut t, a)?;
-    short(rt, packages, w, order, &t, a)?;
-    absent(rt, packages, w, order, costs, &t, a)
+    let a = make(rt, "cover:", lent, &mut t, all(lent.week, STEPS))?;
+    print!(rt; "its answer:")?;
+    lent.print_timetables(rt, &t, a)?;
+    println!(rt)?;
+    disordered(rt, lent, &mut t)?;
+    short_costs_or_table(rt, lent, costs, &t, a)?;
+    unknown(rt, lent, &mut t, a)?;
+    items(rt, lent, &mut t, a)?;
+    short(rt, lent, &t, a)?;
+    absent(rt, lent, costs, &t, a)
 }
 
-fn small<R: Files + Print>(rt: &R, name: &str, version: u8) -> io::Result<()> {
+fn small<R: Files + Print>(rt: &R, name: &str, version: Version) -> io::Result<()> {
     let mut packages = [0u64; 24];
     let mut costs = [0u16; 8];
     rt.print(name)?;
     let r = read(rt, name, version, &mut packages, &mut costs)?;
     print_reading(rt, r)?;
     let order = exact_cover::plain_order();
-    let w = week(r);
-    let m = weeks::least(w.m as usize, 64);
-    let n = weeks::least(number(r), 8);
-    refusals(rt, &packages[0..3 * n], w, &order[0..m], &costs[0..n])
+    let (w, number) = given(r);
+    let m = (w.m as usize).min(64);
+    let n = number.min(8);
+    let lent = Lent {
+        week: w,
+        packages: &packages[..3 * n],
+        order: &order[..m],
+    };
+    refusals(rt, lent, &costs[..n])
 }
 
 // ---- the week of 2^64 timetables
 
 // Eight groups of four schools and four slots, school and slot i of group g being the items 4 g + i and 32 + 4 g + i: one group behind the other.
 fn groups() -> [u8; 64] {
-    let mut order = [0u8; 64];
-    let mut i: usize = 0;
-    while i < 64 {
+    let mut order = [0; 64];
+    for i in 0..64 {
         order[i] = (4 * (i / 8) + i % 4 + 32 * (i % 8 / 4)) as u8;
-        i += 1;
     }
     order
 }
 
 // In the plain order this cover takes too many steps.
-fn uncountable(
-    rt: &impl Print,
-    packages: &[u64],
-    w: Week,
-    order: &[u8],
-    costs: &[u16],
-) -> io::Result<()> {
+fn uncountable(rt: &impl Print, lent: Lent, costs: &[u16]) -> io::Result<()> {
     let mut t = [0u32; 4801];
     let a = make(
         rt,
-        b"cover group by group:",
-        packages,
-        w,
-        order,
+        "cover group by group:",
+        lent,
         &mut t,
-        all(w, 1000000),
+        all(lent.week, STEPS),
     )?;
-    count(rt, b"count:", packages, w, order, &t, a, 4036)?;
-    cheapest(rt, b"cheapest:", packages, w, order, costs, &t, a)
+    count(rt, "count:", lent, &t, a, WORDS)?;
+    cheapest(rt, "cheapest:", lent, costs, &t, a)
 }
 
 fn many<R: Files + Print>(rt: &R) -> io::Result<()> {
     let mut packages = [0u64; 1536];
     let mut costs = [0u16; 512];
-    rt.write_all(b"many")?;
-    let r = read(rt, "many", 1, &mut packages, &mut costs)?;
+    print!(rt; "many")?;
+    let r = read(rt, "many", Version::One, &mut packages, &mut costs)?;
     print_reading(rt, r)?;
-    uncountable(rt, &packages, week(r), &groups(), &costs)
+    let order = groups();
+    let (w, _) = given(r);
+    let lent = Lent {
+        week: w,
+        packages: &packages,
+        order: &order,
+    };
+    uncountable(rt, lent, &costs)
 }
 
 fn main(rt: HostRuntime) -> io::Result<()> {
-    small(&rt, "week1", 1)?;
-    small(&rt, "week2", 2)?;
+    small(&rt, "week1", Version::One)?;
+    small(&rt, "week2", Version::Two)?;
     many(&rt)
 }

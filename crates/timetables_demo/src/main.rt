@@ -4,38 +4,29 @@
 use std::rt::Files;
 use std::{fs, io};
 
+const REFUSED_BY_HEADER: [&str; 8] = [
+    "short", "mark", "version", "version2", "items", "packages", "cut", "long",
+];
+
+const REFUSED_BY_RECORDS: [&str; 5] = ["check", "school", "site", "slot", "twice"];
+
+const READ: [&str; 6] = ["spent", "full", "empty", "none", "number", "twentyfour"];
+
 fn case<R: Files + Print>(rt: &R, name: &str) -> io::Result<()> {
     rt.println(name)?;
     let mut file = fs::open(rt, name)?;
     console::answer(&mut file, &mut io::writer(rt))
 }
 
-fn refused_by_header<R: Files + Print>(rt: &R) -> io::Result<()> {
-    case(rt, "short")?;
-    case(rt, "mark")?;
-    case(rt, "version")?;
-    case(rt, "version2")?;
-    case(rt, "items")?;
-    case(rt, "packages")?;
-    case(rt, "cut")?;
-    case(rt, "long")
-}
-
-fn refused_by_records<R: Files + Print>(rt: &R) -> io::Result<()> {
-    case(rt, "check")?;
-    case(rt, "school")?;
-    case(rt, "site")?;
-    case(rt, "slot")?;
-    case(rt, "twice")
+fn cases<R: Files + Print>(rt: &R, names: &[&str]) -> io::Result<()> {
+    for name in names {
+        case(rt, name)?;
+    }
+    Ok(())
 }
 
 fn main(rt: HostRuntime) -> io::Result<()> {
-    refused_by_header(&rt)?;
-    refused_by_records(&rt)?;
-    case(&rt, "spent")?;
-    case(&rt, "full")?;
-    case(&rt, "empty")?;
-    case(&rt, "none")?;
-    case(&rt, "number")?;
-    case(&rt, "twentyfour")
+    cases(&rt, &REFUSED_BY_HEADER)?;
+    cases(&rt, &REFUSED_BY_RECORDS)?;
+    cases(&rt, &READ)
 }

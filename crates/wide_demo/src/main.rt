@@ -2,108 +2,36 @@
 // dominoes on more cells than one word has. A line gives nodes made, steps and timetables, or the refusal of cover.
 #![tactic(auto)]
 
-ghost use Rattle.std.specs.Prelude.{◌+◌, ◌*◌, ◌≤◌, ◌<◌, length};
+ghost use Rattle.std.specs.Prelude.{◌≤◌, ◌<◌};
 
 use itemset::Items;
-use statement::{Counted, Outcome, Report};
 use std::io;
+use weeks::{LARGEST, Lent, NO_ITEMS, Week};
 
-// The lesser of the two.
-fn least(x: usize, y: usize) -> usize
-    ensures { result ≤ y }
-{
-    if x < y {
-        return x;
-    }
-    y
-}
-
-// Nothing is optional.
-const NO_ITEMS: Items = Items {
-    w0: 0,
-    w1: 0,
-    w2: 0,
-};
-
-// ---- what is printed
-
-fn print(rt: &impl Print, word: &[u8], n: u64) -> io::Result<()> {
-    rt.write_all(word)?;
-    rt.print(n)
-}
-
-fn print_refused(rt: &impl Print, n: u8) -> io::Result<()> {
-    print(rt, b" refused ", n as u64)
-}
-
-fn print_count(rt: &impl Print, c: Counted) -> io::Result<()> {
-    match c {
-        Counted::Count(n) => print(rt, b" timetables ", n),
-        Counted::Refused(n) => print_refused(rt, n),
-    }
-}
-
-// What cover gave, and how many timetables the answer has.
-fn print_report(
-    rt: &impl Print,
-    m: u32,
-    packages: &[u64],
-    order: &[u8],
-    t: &[u32],
-    r: Report,
-) -> io::Result<()> {
-    let outcome = r.outcome;
-    match outcome {
-        Outcome::Answer(a) => {
-            print(rt, b" nodes ", r.made as u64)?;
-            print(rt, b" steps ", r.steps as u64)?;
-            let c = engine::count(m, packages, NO_ITEMS, order, t, a, &mut [0u64; 65536]);
-            print_count(rt, c)
-        }
-        Outcome::Refused(n) => print_refused(rt, n),
-    }
-}
-
-// Cover of d on a table of 65,534 nodes and in so many working words, at most those of a memo of 65,521 places (a prime, as in table1_demo).
-fn cover(
-    rt: &impl Print,
-    m: u32,
-    packages: &[u64],
-    order: &[u8],
-    d: Items,
-    words: usize,
-) -> io::Result<()> {
-    let mut t = [0u32; 196603];
-    let mut work = [0u64; 262084];
-    let lent = least(words, 262084);
-    let report = engine::cover(
-        m,
-        packages,
-        NO_ITEMS,
-        order,
-        &mut t,
-        d,
-        4294967295,
-        &mut work[0..lent],
-    );
-    print_report(rt, m, packages, order, &t, report)?;
-    rt.write_all(b"\n")
-}
-
-// The same, in the plain order of all m items; of more than 192 there is none.
+// Cover of d, in the plain order of all m items; of more than 192 there is none.
 fn run(rt: &impl Print, m: u32, packages: &[u64], d: Items, words: usize) -> io::Result<()> {
-    let order = exact_cover::plain_order();
-    let lent = least(base::wide(m), 192);
-    cover(rt, m, packages, &order[0..lent], d, words)
+    let plain = exact_cover::plain_order();
+    let lent = (m as usize).min(192);
+    let week = Week {
+        m,
+        optional: NO_ITEMS,
+        d,
+        words,
+        shown: 0,
+    };
+    Lent {
+        week,
+        packages,
+        order: &plain[0..lent],
+    }
+    .run_unnumbered(rt)
 }
 
 // All items of the packages.
 fn items(packages: &[u64]) -> Items {
     let mut d = [0u64; 3];
-    let mut i: usize = 0;
-    while i < packages.len() {
-        d[i % 3] = d[i % 3] | packages[i];
-        i += 1;
+    for (i, word) in packages.iter().enumerate() {
+        d[i % 3] |= word;
     }
     itemset::read(&d, 0)
 }
@@ -120,133 +48,113 @@ const WHOLE: Items = Items {
 };
 
 // The figure with so many working words: P is a quarter of them, rounded down.
-fn figure(rt: &impl Print, words: usize) -> io::Result<()> {
-    let packages = FIGURE;
-    print(rt, b"figure 1 in working words ", words as u64)?;
-    print(rt, b", places ", (words / 4) as u64)?;
-    rt.write_all(b":")?;
-    run(rt, 130, &packages[0..15], WHOLE, words)
+fn in_working_words(rt: &impl Print) -> io::Result<()> {
+    for words in [12, 16, 20, 28, 256, 3, 4, 5, 6, 7] {
+        print!(rt; "figure 1 in working words {words}, places {}:", words / 4)?;
+        run(rt, 130, &FIGURE[0..15], WHOLE, words)?;
+    }
+    Ok(())
 }
 
 // The figure with so many words of its packages: N is a third of them, rounded down.
-fn figure_lent(rt: &impl Print, words: usize) -> io::Result<()> {
-    let packages = FIGURE;
-    let lent = least(words, 17);
-    print(rt, b"figure 1 in package words ", words as u64)?;
-    print(rt, b", packages ", (words / 3) as u64)?;
-    rt.write_all(b":")?;
-    run(rt, 130, &packages[0..lent], WHOLE, 256)
-}
-
-fn figures(rt: &impl Print) -> io::Result<()> {
-    figure(rt, 12)?;
-    figure(rt, 16)?;
-    figure(rt, 20)?;
-    figure(rt, 28)?;
-    figure(rt, 256)?;
-    figure(rt, 3)?;
-    figure(rt, 4)?;
-    figure(rt, 5)?;
-    figure(rt, 6)?;
-    figure(rt, 7)?;
-    figure_lent(rt, 14)?;
-    figure_lent(rt, 15)?;
-    figure_lent(rt, 16)?;
-    figure_lent(rt, 17)
+fn in_package_words(rt: &impl Print) -> io::Result<()> {
+    for words in 14..18 {
+        print!(rt;
+            "figure 1 in package words {words}, packages {}:",
+            words / 3
+        )?;
+        run(rt, 130, &FIGURE[0..words], WHOLE, 256)?;
+    }
+    Ok(())
 }
 
 // ---- the limits of M
 
 // Item 63 of a word, all others, and all but item 0.
-const LAST: u64 = 9223372036854775808;
+const LAST: u64 = 1 << 63;
 
-const LOWER: u64 = 9223372036854775807;
+const LOWER: u64 = LAST - 1;
 
-const UPPER: u64 = 18446744073709551614;
+const UPPER: u64 = u64::MAX - 1;
 
 // {63, 64}, {191}, the items that these have not, and {63, 64, 191}.
 const WEEK: [u64; 12] = [LAST, 1, 0, 0, 0, LAST, LOWER, UPPER, LOWER, LAST, 1, LAST];
 
-// All 192 items with the first so many packages of the week, where M is m.
-fn week(rt: &impl Print, m: u32, packages: usize) -> io::Result<()> {
-    let words = WEEK;
-    let n = least(packages, 4);
-    print(rt, b"192 items with M ", m as u64)?;
-    print(rt, b", packages ", packages as u64)?;
-    rt.write_all(b":")?;
-    run(rt, m, &words[0..3 * n], itemset::all_below(192), 256)
-}
-
-fn weeks(rt: &impl Print) -> io::Result<()> {
-    week(rt, 192, 4)?;
-    week(rt, 193, 4)?;
+// M, and how many packages of the week.
+const LIMITS: [(u32, usize); 6] = [
+    (192, 4),
+    (193, 4),
     // The second package has item 191, which is M, and then above it.
-    week(rt, 191, 4)?;
-    week(rt, 128, 4)?;
+    (191, 4),
+    (128, 4),
     // Of the first package and D only D has it.
-    week(rt, 191, 1)?;
-    week(rt, 128, 1)
+    (191, 1),
+    (128, 1),
+];
+
+// All 192 items with the first packages of the week.
+fn limits(rt: &impl Print) -> io::Result<()> {
+    for (m, packages) in LIMITS {
+        print!(rt; "192 items with M {m}, packages {packages}:")?;
+        let n = packages.min(4);
+        run(rt, m, &WEEK[0..3 * n], itemset::all_below(192), 256)?;
+    }
+    Ok(())
 }
 
 // ---- dominoes
 
-// Item i, below 192, goes into package n.
-fn put_item(packages: &mut [u64], n: usize, i: u32)
-    requires { 3 * n + 3 ≤ length packages.old }
-{
-    let w = 3 * n + base::wide(i / 64 % 3);
-    packages[w] = packages[w] | 1 << (i % 64);
+// Item i, below 192, goes into the package.
+fn put_item(package: &mut [u64; 3], i: u32) {
+    package[(i / 64 % 3) as usize] |= 1 << (i % 64);
 }
 
-// A domino on the items i and j goes behind the first n packages if it is wanted and there is room; returns how many there are then.
-fn put(packages: &mut [u64], n: usize, i: u32, j: u32, wanted: bool) -> usize {
-    if !wanted {
+// A domino on the items i and j goes behind the first n packages if there is room; returns how many there are then.
+fn put(packages: &mut [[u64; 3]], n: usize, i: u32, j: u32) -> usize {
+    if packages.len() <= n {
         return n;
     }
-    if packages.len() / 3 <= n {
-        return n;
-    }
-    put_item(packages, n, i);
-    put_item(packages, n, j);
+    let mut domino = [0u64; 3];
+    put_item(&mut domino, i);
+    put_item(&mut domino, j);
+    packages[n] = domino;
     n + 1
 }
 
 // All domino placings, rows in turn; of two that begin at the same cell the one along the row is first. One cell is `next` items behind the other, one row `row`
 // items, and the items of all cells are below `end`.
-fn dominoes(packages: &mut [u64], next: u32, row: u32, end: u32)
+fn dominoes(packages: &mut [[u64; 3]], next: u32, row: u32, end: u32)
     requires next_nonzero { 0 < next }
     requires next_le_row { next ≤ row }
     requires row_bound { row ≤ 192 }
     requires end_bound { end ≤ 192 }
 {
-    let mut n: usize = 0;
-    let mut i: u32 = 0;
-    while i < end {
-        n = put(packages, n, i, i + next, i % row < row - next);
-        n = put(packages, n, i, i + row, i + row < end);
-        i += next;
+    let mut n = 0;
+    for i in (0..end).step_by(next as usize) {
+        if i % row < row - next {
+            n = put(packages, n, i, i + next);
+        }
+        if i + row < end {
+            n = put(packages, n, i, i + row);
+        }
     }
 }
 
-fn domino8(rt: &impl Print) -> io::Result<()> {
-    let mut placings = [0u64; 336];
-    dominoes(&mut placings, 3, 24, 192);
-    let d = items(&placings);
-    rt.write_all(b"domino.8.8 at every third item of 190:")?;
-    run(rt, 190, &placings, d, 262084)
-}
-
-fn domino10(rt: &impl Print) -> io::Result<()> {
-    let mut placings = [0u64; 540];
-    dominoes(&mut placings, 1, 10, 100);
-    let d = items(&placings);
-    rt.write_all(b"domino.10.10:")?;
-    run(rt, 100, &placings, d, 262084)
+// All items of the placings are covered, with the largest memo.
+fn run_dominoes(rt: &impl Print, name: &str, m: u32, placings: &[[u64; 3]]) -> io::Result<()> {
+    let packages = placings.as_flattened();
+    print!(rt; "{name}:")?;
+    run(rt, m, packages, items(packages), LARGEST)
 }
 
 fn main(rt: HostRuntime) -> io::Result<()> {
-    figures(&rt)?;
-    weeks(&rt)?;
-    domino8(&rt)?;
-    domino10(&rt)
+    in_working_words(&rt)?;
+    in_package_words(&rt)?;
+    limits(&rt)?;
+    let mut placings = [[0u64; 3]; 112];
+    dominoes(&mut placings, 3, 24, 192);
+    run_dominoes(&rt, "domino.8.8 at every third item of 190", 190, &placings)?;
+    let mut placings = [[0u64; 3]; 180];
+    dominoes(&mut placings, 1, 10, 100);
+    run_dominoes(&rt, "domino.10.10", 100, &placings)
 }

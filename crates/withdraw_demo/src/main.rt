@@ -3,233 +3,123 @@
 // each listed answer, what stands in its place, and the timetables of that by the packages that remain.
 #![tactic(auto)]
 
-use itemset::Items;
-use statement::Withdrawal;
+use statement::Call;
+use std::fmt::Display;
 use std::io;
-use weeks::Week;
+use weeks::{Lent, NO_ITEMS, Week};
+
+// A table for six nodes.
+type Table = [u32; 19];
 
 // ---- what is printed
 
-fn print_package(rt: &impl Print, p: u16) -> io::Result<()> {
-    weeks::print(rt, b" ", p as u64)
-}
-
-fn print_packages(rt: &impl Print, list: &[u16]) -> io::Result<()> {
-    let mut i: usize = 0;
-    while i < list.len() {
-        print_package(rt, list[i])?;
-        i += 1;
+fn print_list<T: Display>(rt: &impl Print, list: &[T]) -> io::Result<()> {
+    for x in list {
+        print!(rt; " {x}")?;
     }
     Ok(())
 }
 
-fn print_word(rt: &impl Print, n: u32) -> io::Result<()> {
-    weeks::print(rt, b" ", n as u64)
-}
-
-fn print_words(rt: &impl Print, list: &[u32]) -> io::Result<()> {
-    let mut i: usize = 0;
-    while i < list.len() {
-        print_word(rt, list[i])?;
-        i += 1;
+fn print_table(rt: &impl Print, before: &Table, after: &Table) -> io::Result<()> {
+    if before == after {
+        return println!(rt; ", table unchanged");
     }
-    Ok(())
+    print!(rt; ", table")?;
+    print_list(rt, after)?;
+    println!(rt)
 }
 
-fn same(x: [u32; 19], y: [u32; 19]) -> bool {
-    let mut i: usize = 0;
-    while i < 19 {
-        if x[i] != y[i] {
-            return false;
-        }
-        i += 1;
-    }
-    true
-}
-
-fn print_table(rt: &impl Print, before: [u32; 19], after: [u32; 19]) -> io::Result<()> {
-    if same(before, after) {
-        rt.write_all(b", table unchanged\n")?;
-        return Ok(());
-    }
-    rt.write_all(b", table")?;
-    print_words(rt, &after)?;
-    rt.write_all(b"\n")
-}
-
-// Whether it was not refused.
-fn print_left(rt: &impl Print, r: Withdrawal) -> io::Result<bool> {
-    match r {
-        Withdrawal::Nodes(n) => {
-            weeks::print(rt, b" nodes ", n as u64)?;
-            Ok(true)
-        }
-        Withdrawal::Refused(n) => {
-            weeks::print_refused(rt, n)?;
-            Ok(false)
-        }
-    }
-}
-
-fn print_entry(
-    rt: &impl Print,
-    packages: &[u64],
-    w: Week,
-    t: &[u32],
-    listed: u32,
-    entry: u32,
-) -> io::Result<()> {
-    weeks::print(rt, b"  ", listed as u64)?;
-    weeks::print(rt, b": answer ", entry as u64)?;
-    weeks::print_timetables(rt, packages, w, &[0u8], t, entry)?;
-    rt.write_all(b"\n")
-}
-
-// The first n of the listed answers and what stands in their places.
+// The listed answers and what stands in their places.
 fn print_entries(
     rt: &impl Print,
-    packages: &[u64],
-    w: Week,
-    t: &[u32],
-    listed: [u32; 6],
-    entries: [u32; 6],
-    n: usize,
+    lent: Lent,
+    t: &Table,
+    listed: &[u32],
+    entries: &[u32],
 ) -> io::Result<()> {
-    let end = weeks::least(n, 6);
-    let mut i: usize = 0;
-    while i < end {
-        print_entry(rt, packages, w, t, listed[i], entries[i])?;
-        i += 1;
+    for (answer, entry) in listed.iter().zip(entries) {
+        print!(rt; "  {answer}: answer {entry}")?;
+        lent.print_timetables(rt, t, *entry)?;
+        println!(rt)?;
     }
     Ok(())
 }
 
 // ---- one withdrawal
 
-// A row: the working words, how many packages are withdrawn, and these; how many answers are listed, and these.
-const CASES: [[u16; 12]; 13] = [
-    // The three answers become one, which a cover finds again.
-    [8, 2, 1, 2, 0, 6, 6, 7, 4, 6, 0, 1],
+// The working words, the packages that are withdrawn, and at most six answers that are listed.
+type Row = (usize, &'static [u16], &'static [u32]);
+
+// The three answers become one, which a cover finds again.
+const TO_ONE: Row = (8, &[1, 2], &[6, 7, 4, 6, 0, 1]);
+
+const ROWS: [Row; 11] = [
     // Package 0: those that remain have new numbers.
-    [8, 1, 0, 0, 0, 3, 4, 6, 7, 0, 0, 0],
+    (8, &[0], &[4, 6, 7]),
     // All packages.
-    [8, 3, 0, 1, 2, 4, 4, 6, 0, 1, 0, 0],
+    (8, &[0, 1, 2], &[4, 6, 0, 1]),
     // No answer listed, and none that has a node: an empty table.
-    [8, 0, 0, 0, 0, 0, 0, 0, 0, 0, 0, 0],
-    [8, 1, 1, 0, 0, 2, 1, 0, 0, 0, 0, 0],
+    (8, &[], &[]),
+    (8, &[1], &[1, 0]),
     // Nothing withdrawn and all listed.
-    [8, 0, 0, 0, 0, 3, 7, 6, 4, 0, 0, 0],
+    (8, &[], &[7, 6, 4]),
     // An unknown answer before a list that does not rise, and that before too few words: what is wrong is put right one after the other.
-    [7, 2, 2, 1, 0, 2, 4, 8, 0, 0, 0, 0],
-    [7, 2, 2, 1, 0, 2, 4, 7, 0, 0, 0, 0],
-    [7, 2, 1, 2, 0, 2, 4, 7, 0, 0, 0, 0],
-    [8, 2, 1, 2, 0, 2, 4, 7, 0, 0, 0, 0],
+    (7, &[2, 1], &[4, 8]),
+    (7, &[2, 1], &[4, 7]),
+    (7, &[1, 2], &[4, 7]),
+    (8, &[1, 2], &[4, 7]),
     // An unknown package, and one twice.
-    [8, 2, 2, 3, 0, 1, 4, 0, 0, 0, 0, 0],
-    [8, 2, 1, 1, 0, 1, 4, 0, 0, 0, 0, 0],
-    // Room made, row 12.
-    [8, 0, 0, 0, 0, 1, 4, 0, 0, 0, 0, 0],
+    (8, &[2, 3], &[4]),
+    (8, &[1, 1], &[4]),
 ];
 
-// How many working words, packages and answers a row has.
-#[derive(Clone, Copy)]
-struct Case {
-    words: usize,
-    gone: usize,
-    listed: usize,
-}
-
-fn sizes(x: [u16; 12]) -> Case {
-    Case {
-        words: x[0] as usize,
-        gone: x[1] as usize,
-        listed: x[5] as usize,
-    }
-}
-
-fn answers_of(x: [u16; 12]) -> [u32; 6] {
-    [
-        x[6] as u32,
-        x[7] as u32,
-        x[8] as u32,
-        x[9] as u32,
-        x[10] as u32,
-        x[11] as u32,
-    ]
-}
-
-fn print_case(rt: &impl Print, gone: &[u16], answers: &[u32], words: usize) -> io::Result<()> {
-    rt.write_all(b"withdraw")?;
-    print_packages(rt, gone)?;
-    rt.write_all(b", answers")?;
-    print_words(rt, answers)?;
-    weeks::print(rt, b", words ", words as u64)?;
-    rt.write_all(b":")
-}
+const ROOM_MADE: Row = (8, &[], &[4]);
 
 // The withdrawal, and whether it was not refused.
 fn ask(
     rt: &impl Print,
-    packages: &[u64],
-    w: Week,
-    t: &mut [u32],
+    lent: Lent,
+    t: &mut Table,
     gone: &[u16],
     answers: &mut [u32],
     words: usize,
 ) -> io::Result<bool> {
+    print!(rt; "withdraw")?;
+    print_list(rt, gone)?;
+    print!(rt; ", answers")?;
+    print_list(rt, answers)?;
+    print!(rt; ", words {words}:")?;
     let mut work = [7u64; 8];
-    let lent = weeks::least(words, 8);
-    print_case(rt, gone, answers, words)?;
+    let end = words.min(8);
     let r = engine::withdraw(
-        w.m,
-        packages,
-        w.optional,
-        &[0u8],
+        lent.week.m,
+        lent.packages,
+        lent.week.optional,
+        lent.order,
         t,
         gone,
         answers,
-        &mut work[0..lent],
+        &mut work[..end],
     );
-    print_left(rt, r)
+    weeks::print_answer(rt, " nodes", r)?;
+    Ok(r.is_ok())
 }
 
-// How many words the packages that remain have, of three packages, where so many are withdrawn. (They are equal, so the first of them will do.)
-fn rest(answered: bool, gone: usize) -> usize {
-    if answered {
-        return 9 - 3 * weeks::least(gone, 3);
-    }
-    9
-}
-
-// The row's withdrawal from the table, which is given back.
-fn withdraw(
-    rt: &impl Print,
-    packages: [u64; 9],
-    w: Week,
-    t: [u32; 19],
-    row: usize,
-) -> io::Result<[u32; 19]> {
-    let x = CASES[row % 13];
-    let gone = [x[2], x[3], x[4]];
-    let listed = answers_of(x);
-    let mut entries = listed;
-    let mut table = t;
-    let size = sizes(x);
-    let g = weeks::least(size.gone, 3);
-    let n = weeks::least(size.listed, 6);
-    let answered = ask(
-        rt,
-        &packages,
-        w,
-        &mut table,
-        &gone[0..g],
-        &mut entries[0..n],
-        size.words,
-    )?;
-    let end = weeks::least(rest(answered, g), 9);
-    print_table(rt, t, table)?;
-    print_entries(rt, &packages[0..end], w, &table, listed, entries, n)?;
-    Ok(table)
+// The packages are equal, so the first of them will do for those that remain.
+fn withdraw(rt: &impl Print, lent: Lent, t: &mut Table, row: Row) -> io::Result<()> {
+    let (words, gone, listed) = row;
+    let before = *t;
+    let mut entries = [0; 6];
+    let n = listed.len().min(6);
+    entries[..n].copy_from_slice(&listed[..n]);
+    let answered = ask(rt, lent, t, gone, &mut entries[..n], words)?;
+    print_table(rt, &before, t)?;
+    let withdrawn = if answered { gone.len().min(3) } else { 0 };
+    let rest = Lent {
+        packages: &PACKAGES[3 * withdrawn..],
+        ..lent
+    };
+    print_entries(rt, rest, t, listed, &entries)
 }
 
 // ---- the week
@@ -240,81 +130,75 @@ const PACKAGES: [u64; 9] = [1, 0, 0, 1, 0, 0, 1, 0, 0];
 fn week() -> Week {
     Week {
         m: 1,
-        optional: Items {
-            w0: 0,
-            w1: 0,
-            w2: 0,
-        },
+        optional: NO_ITEMS,
         d: itemset::all_below(1),
         words: 256,
         shown: 3,
     }
 }
 
-fn without(rt: &impl Print, w: Week, t: &mut [u32], a: u32, p: u32) -> io::Result<()> {
-    let packages = PACKAGES;
-    let mut work = [0u64; 2];
-    let r = engine::without(w.m, &packages, w.optional, &[0u8], t, a, p, &mut work);
-    weeks::print(rt, b"without ", p as u64)?;
-    rt.write_all(b":")?;
-    weeks::print_report(rt, &packages, w, &[0u8], t, r)?;
-    rt.write_all(b"\n")
+// With or without a package.
+fn part(rt: &impl Print, lent: Lent, t: &mut Table, name: &str, c: Call) -> io::Result<()> {
+    let Week { m, optional, .. } = lent.week;
+    let mut work = [0; 2];
+    let r = engine::answer(m, lent.packages, optional, lent.order, t, c, &mut work);
+    print!(rt; "{name}:")?;
+    lent.print_report(rt, t, r)?;
+    println!(rt)
 }
 
-fn with(rt: &impl Print, w: Week, t: &mut [u32], a: u32, p: u32) -> io::Result<()> {
-    let packages = PACKAGES;
-    let mut work = [0u64; 2];
-    let r = engine::with(w.m, &packages, w.optional, &[0u8], t, a, p, &mut work);
-    weeks::print(rt, b"with ", p as u64)?;
-    rt.write_all(b":")?;
-    weeks::print_report(rt, &packages, w, &[0u8], t, r)?;
-    rt.write_all(b"\n")
+fn cover(rt: &impl Print, lent: Lent, t: &mut Table) -> io::Result<()> {
+    print!(rt; "cover:")?;
+    lent.cover(rt, t, lent.week.d)
 }
 
 // All timetables, those without package 2 and those without package 1.
-fn plan(rt: &impl Print, w: Week) -> io::Result<[u32; 19]> {
-    let mut t = [0u32; 19];
-    let packages = PACKAGES;
-    rt.write_all(b"cover:")?;
-    weeks::cover(rt, &packages, w, &[0u8], &mut t, w.d)?;
-    without(rt, w, &mut t, 4, 2)?;
-    without(rt, w, &mut t, 4, 1)?;
-    Ok(t)
+fn plan(rt: &impl Print, lent: Lent, t: &mut Table) -> io::Result<()> {
+    cover(rt, lent, t)?;
+    part(rt, lent, t, "without 2", Call::Without { a: 4, p: 2 })?;
+    part(rt, lent, t, "without 1", Call::Without { a: 4, p: 1 })
 }
 
-// The rows from the second on, each on the same table.
-fn cases(rt: &impl Print, w: Week, t: [u32; 19]) -> io::Result<()> {
-    let mut i: usize = 1;
-    while i < 12 {
-        withdraw(rt, PACKAGES, w, t, i)?;
-        i += 1;
+// The cover of what remains is by one package.
+fn to_one(rt: &impl Print, lent: Lent, plan: &Table) -> io::Result<()> {
+    let mut t = *plan;
+    withdraw(rt, lent, &mut t, TO_ONE)?;
+    let rest = Lent {
+        packages: &PACKAGES[..3],
+        ..lent
+    };
+    cover(rt, rest, &mut t)
+}
+
+// The rows, each on the same table.
+fn rows(rt: &impl Print, lent: Lent, plan: &Table) -> io::Result<()> {
+    for row in ROWS {
+        let mut t = *plan;
+        withdraw(rt, lent, &mut t, row)?;
     }
     Ok(())
 }
 
-// By the package that remains.
-fn cover_again(rt: &impl Print, w: Week, t: [u32; 19]) -> io::Result<()> {
-    let mut table = t;
-    let packages = PACKAGES;
-    rt.write_all(b"cover:")?;
-    weeks::cover(rt, &packages[0..3], w, &[0u8], &mut table, w.d)
-}
-
 // The table is full, and the timetable of package 0 alone finds no place. With the cover listed, and no other answer, there is room.
-fn room(rt: &impl Print, w: Week, t: [u32; 19]) -> io::Result<()> {
-    let mut table = t;
-    rt.write_all(b"with six nodes the table is full\n")?;
-    with(rt, w, &mut table, 4, 0)?;
-    let mut after = withdraw(rt, PACKAGES, w, table, 12)?;
-    with(rt, w, &mut after, 4, 0)
+fn room(rt: &impl Print, lent: Lent, plan: &Table) -> io::Result<()> {
+    let mut t = *plan;
+    let only_0 = Call::With { a: 4, p: 0 };
+    println!(rt; "with six nodes the table is full")?;
+    part(rt, lent, &mut t, "with 0", only_0)?;
+    withdraw(rt, lent, &mut t, ROOM_MADE)?;
+    part(rt, lent, &mut t, "with 0", only_0)
 }
 
 fn main(rt: HostRuntime) -> io::Result<()> {
-    let w = week();
-    rt.write_all(b"packages {0}, {0}, {0}, a table for six nodes\n")?;
-    let t = plan(&rt, w)?;
-    let one = withdraw(&rt, PACKAGES, w, t, 0)?;
-    cover_again(&rt, w, one)?;
-    cases(&rt, w, t)?;
-    room(&rt, w, t)
+    let lent = Lent {
+        week: week(),
+        packages: &PACKAGES,
+        order: &[0],
+    };
+    let mut t = [0; 19];
+    rt.println("packages {0}, {0}, {0}, a table for six nodes")?;
+    plan(&rt, lent, &mut t)?;
+    to_one(&rt, lent, &t)?;
+    rows(&rt, lent, &t)?;
+    room(&rt, lent, &t)
 }

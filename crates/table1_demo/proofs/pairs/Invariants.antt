@@ -1,8 +1,0 @@
-use Rattle.std.proofs.Common.{◌-◌, length, ◌≡◌}
-use Rattle.table1_demo.proofs.pairs.Given as goal
-
-abbrev pub invariant-loop-x : goal.invariant-loop-x
-invariant-loop-x l = length l.packages ≡ length l.initial.packages
-
-abbrev pub decreases-loop-x : goal.decreases-loop-x
-decreases-loop-x l = 262144 - l.x
