@@ -12,7 +12,7 @@ ghost use Rattle.zdd.specs.Table.{count as nodes};
 ghost use Rattle.exact_cover.specs.Problem.{problem_of};
 ghost use Rattle.statement.specs.Replies.{number_of, refusal_of, reply_of, cheapest_reply, closest_reply, report_of};
 ghost use Rattle.statement.specs.Refusals.{first_of, open_tests, unknown_answer, not_rising};
-ghost use Rattle.statement.specs.Postconditions.{CheckPost, CountPost, MeasurePost, PickPost, PlacePost, CheapestPost, ClosestPost, WithdrawPost};
+ghost use Rattle.statement.specs.Postconditions.{Declined, CheckPost, CountPost, MeasurePost, PickPost, PlacePost, CheapestPost, ClosestPost, WithdrawPost};
 ghost use Rattle.statement.specs.Postconditions.{AnswerPost, CoverPost, EitherPost, BothPost, OnlyPost, WithPost, WithoutPost, JoinPost};
 ghost use Rattle.support.specs.Support.{Labelled};
 ghost use Rattle.table.specs.State.{Room};
@@ -268,6 +268,17 @@ pub fn closest(
     })
 }
 
+// The report of a refusal: with the table left alone it is what `Declined` asks.
+fn declined(refusal: Refusal) -> Report
+    ensures { (t : List ℕ) → Declined (number_of refusal) t (report_of result) t }
+{
+    Report {
+        outcome: Err(refusal),
+        steps: 0,
+        made: 0,
+    }
+}
+
 // The report of a call whose answer has the number k; None is that there was no room for it. The table had `before` nodes before the call.
 fn report(t: &[u32], before: u32, k: Option<u32>) -> Report
     requires t_nonzero { 0 < length t.now }
@@ -280,7 +291,7 @@ fn report(t: &[u32], before: u32, k: Option<u32>) -> Report
             steps: 0,
             made: t[0] - before,
         },
-        None => statement::declined(Refusal::Full),
+        None => declined(Refusal::Full),
     }
 }
 
@@ -310,13 +321,13 @@ pub fn cover(
     let mut keys = [0u32; 512];
     let mut index = [0u16; 131072];
     if let Err(refusal) = guard::admit(m, packages, optional, order, t, &mut keys, &mut index) {
-        return statement::declined(refusal);
+        return declined(refusal);
     }
     if !itemset::below(d, m) {
-        return statement::declined(Refusal::UnknownItem);
+        return declined(Refusal::UnknownItem);
     }
     if work.len() < 4 {
-        return statement::declined(Refusal::ShortWork);
+        return declined(Refusal::ShortWork);
     }
     let found = compile::cover(
         packages,
@@ -334,7 +345,7 @@ pub fn cover(
             steps: found.steps as u32,
             made: found.made,
         },
-        Err(failure) => statement::declined(unanswered(failure)),
+        Err(failure) => declined(unanswered(failure)),
     }
 }
 
@@ -397,10 +408,10 @@ fn answer_pair(
     let mut keys = [0u32; 512];
     let mut index = [0u16; 131072];
     if let Err(refusal) = guard::admit(m, packages, optional, order, t, &mut keys, &mut index) {
-        return statement::declined(refusal);
+        return declined(refusal);
     }
     if let Err(refusal) = admit_pair(packages, t, op, a, b, work.len()) {
-        return statement::declined(refusal);
+        return declined(refusal);
     }
     let n = t[0];
     let last = exact_cover::number(packages);
@@ -425,17 +436,17 @@ fn answer_part(
     let mut keys = [0u32; 512];
     let mut index = [0u16; 131072];
     if let Err(refusal) = guard::admit(m, packages, optional, order, t, &mut keys, &mut index) {
-        return statement::declined(refusal);
+        return declined(refusal);
     }
     let n = t[0];
     if n + 2 <= a {
-        return statement::declined(Refusal::UnknownAnswer);
+        return declined(Refusal::UnknownAnswer);
     }
     if exact_cover::number(packages) <= p as usize {
-        return statement::declined(Refusal::UnknownPackage);
+        return declined(Refusal::UnknownPackage);
     }
     if work.len() < 2 {
-        return statement::declined(Refusal::ShortWork);
+        return declined(Refusal::ShortWork);
     }
     let last = exact_cover::number(packages);
     let k = family::restriction(t, &keys[..last], &mut index, p, holding, a);

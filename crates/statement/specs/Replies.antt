@@ -9,7 +9,7 @@ use Rattle.statement.specs.declared.Refusal.TheVariants.{Oversize, Stray, CostLi
 use Rattle.statement.specs.declared.Refusal.TheVariants.{Uncountable, PastTheEnd, Nothing, Absent, ShortPage, StrayOptional, AllOptional, Disordered, Overlap, NotRising}
 use Rattle.statement.specs.declared.Refusal.TheVariants.{Cut, Mark, Version, Check, Size, SchoolTwice, StrayPackage, PackageTwice, StraySlot, WideSite, OptionalSlots}
 
--- the number of a refusal: document 01's table, and document 02's lines of it
+-- the number of a refusal, by which docs/REFUSALS.md lists them
 abbrev pub number_of : Refusal → ℕ
 number_of Oversize = 1
 number_of Stray = 2

@@ -3,9 +3,8 @@
 // on a list of calls is in the crate `history`.
 #![tactic(auto)]
 
-ghost use Rattle.std.specs.Prelude.{◌≡◌, List, ℕ};
-ghost use Rattle.statement.specs.Replies.{number_of, report_of};
-ghost use Rattle.statement.specs.Postconditions.{Declined};
+ghost use Rattle.std.specs.Prelude.{◌≡◌};
+ghost use Rattle.statement.specs.Replies.{number_of};
 
 use itemset::Items;
 use std::error::Error;
@@ -23,7 +22,7 @@ pub enum Call {
     Join { a: u32, b: u32 },
 }
 
-// Why a call is refused [document 01: refusals], each with its number. 20 to 27 and 31 to 33 are said of bids files alone.
+// Why a call is refused, each with its number (docs/REFUSALS.md says what to do). 20 to 27 and 31 to 33 are said of bids files alone.
 #[derive(Clone, Copy, Debug, PartialEq, Eq)]
 pub enum Refusal {
     Oversize = 1,
@@ -96,15 +95,4 @@ pub struct Priced {
 pub struct Compared {
     pub packages: usize,
     pub difference: u32,
-}
-
-// The report of a refusal: with the table left alone it is what `Declined` asks.
-pub fn declined(refusal: Refusal) -> Report
-    ensures { (t : List ℕ) → Declined (number_of refusal) t (report_of result) t }
-{
-    Report {
-        outcome: Err(refusal),
-        steps: 0,
-        made: 0,
-    }
 }
