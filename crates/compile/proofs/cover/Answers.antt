@@ -1,10 +1,7 @@
-use Rattle.compile.proofs.TopLaws.{covered-over, covered-full, covered-answer}
+use Rattle.compile.proofs.TopLaws.{covered-full, covered-answer}
 use Rattle.table.proofs.GrownLaws.{grown_more}
 use mathlib.Core.Path.{refl}
 use Rattle.compile.proofs.cover.Goals as goal
-
-pub returns-in_default : goal.returns-in_default
-returns-in_default c = covered-over c.in_default.ensures _ _ refl (c.rollback.ensures _ _ c.requires.sound c.in_default.ensures.grown refl)
 
 pub returns-then-r : goal.returns-then-r
 returns-then-r c = covered-full c.in-Some.ensures _ _ _ refl c.if-r.true (c.rollback-then-r.ensures _ _ c.requires.sound c.in-Some.ensures.grown refl)
