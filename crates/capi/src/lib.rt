@@ -1,5 +1,5 @@
 // The public calls for C, as exported functions on numbers, slices and structs by value: include/mogedorn.h describes them. Each has the contract of the
-// engine's call, of the answer that its struct stands for (specs/Structs), and none has a `requires`, since nothing checks a C caller.
+// engine's call, of the reply that its struct says (specs/Structs), and none has a `requires`, since nothing checks a C caller.
 #![tactic(auto)]
 
 ghost use Rattle.std.specs.Prelude.{◌≡◌, min, length};

@@ -56,13 +56,13 @@ gives_one o a b p q = cc
 -- a call that answers is not refused
 pub no_refusal : {K : List ℕ} {n s a : ℕ} {F : Family} {t t' : List ℕ} {r : Report} → Makes K n F s t r t' → r.outcome ≡ gives a → n ≡ 0
 no_refusal {K} {n} {s} {a} {F} {t} {t'} {r} p e =
-    ⊎_elim (λ (z : n ≡ 0). z) (λ (l : 0 < n). absurd (not-both (r.outcome) n a (p.declined l).outcome e)) (eq-zero-or-pos n)
+    ⊎_elim (λ (z : n ≡ 0). z) (λ (l : 0 < n). absurd (not-both r.outcome n a (p.declined l).outcome e)) (eq-zero-or-pos n)
 
 -- a refused call is
 pub refusal : {K : List ℕ} {n s e : ℕ} {F : Family} {t t' : List ℕ} {r : Report} → Makes K n F s t r t' → r.outcome ≡ refused e → t' ≡ t
 refusal {K} {n} {s} {e} {F} {t} {t'} {r} p q =
     ⊎_elim
-    (λ (z : n ≡ 0). absurd (not-both (r.outcome) e (p.answered z).number q (p.answered z).outcome))
+    (λ (z : n ≡ 0). absurd (not-both r.outcome e (p.answered z).number q (p.answered z).outcome))
     (λ (l : 0 < n). (p.declined l).table)
     (eq-zero-or-pos n)
 
@@ -105,7 +105,7 @@ module _ (Q : Problem) (t : List ℕ) (c : Entry) (r : Report) (t' : List ℕ) (
   pub answer-below : (a : ℕ) → r.outcome ≡ gives a → a < 65536
   answer-below a e =
       let A = contract.answered (no_refusal contract e) in
-      let q : A.number ≡ a = gives_one (r.outcome) A.number a A.outcome e in
+      let q : A.number ≡ a = gives_one r.outcome A.number a A.outcome e in
       omega (arith, A.known, (sound_of (keys_of Q) t' A.sound).few)
 
   -- the table is as long as before

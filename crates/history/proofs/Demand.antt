@@ -101,7 +101,7 @@ given-found Q [] x m =
     find-next _ _ x (⊎_elim (λ e. inl e)
     (λ n. inr (find-next _ _ x (⊎_elim (λ e. inl e) (λ k. absurd (Memᴰ.not-nil k)) (Memᴰ.cases_cons n))))
     (Memᴰ.cases_cons m))
-given-found Q (e ∷ h) x m = posted Q e.0 (e.1.outcome) (given h) (ledger Q h) (given-found Q h) x m
+given-found Q (e ∷ h) x m = posted Q e.0 e.1.outcome (given h) (ledger Q h) (given-found Q h) x m
 
 -- ---- the invariant: the nodes are sound, and each posting's number holds its set
 
@@ -153,7 +153,7 @@ agree_answer Q h t c r t' a G o e M = ((λ p m. go p (Memᴰ.cases_cons m)), (so
     A = M.answered zero-refusal
 
     number : A.number ≡ a
-    number = gives_one (r.outcome) A.number a A.outcome e
+    number = gives_one r.outcome A.number a A.outcome e
 
     latest-holds : (x : ℕ) → x ∈ operands c.call → family_at t x ≡ listing Q (latest (ledger Q h) x)
     latest-holds x m =
@@ -193,7 +193,7 @@ agree_next Q h t c r t' (gives a) e G o M = let x = agree_answer Q h t c r t' a 
 agree : (Q : Problem) {h : Calls} {t : List ℕ} → History Q h t → Agree Q h t
 agree Q (start n) = agree_start Q n
 agree Q (next {h} {t} H c r t' o p) =
-    let x = agree_next Q h t c r t' (r.outcome) refl (agree Q H) o p in
+    let x = agree_next Q h t c r t' r.outcome refl (agree Q H) o p in
     record { nodes = x.0; each = x.1; fit = x.2 }
 
 pub nodes_sound : (Q : Problem) {h : Calls} {t : List ℕ} → History Q h t → Nodes (keys_of Q) (nodes_of t)

@@ -191,7 +191,7 @@ unfolding holds insideb without belowb count_from earliest times each_once lead 
     unknown_answer short_work uncountable past_end measure_refusal width value_of
 measured = record { result = refl }
 
-three_packages : (gives 3) ≡ gives (length {A = ℕ} (1 ∷ 4 ∷ 2 ∷ []))
+three_packages : gives 3 ≡ gives (length {A = ℕ} (1 ∷ 4 ∷ 2 ∷ []))
 unfolding holds insideb without belowb size count_from earliest times each_once lead done order all_sets sets filter keys_from keys_of holders all_inside takes once covers width value_of
 three_packages =
     (demanded.measures (posting 0) (posted 0 (omega arith)) (omega arith) 6 (Memᴰ.head refl) 6 (omega arith) 1

@@ -83,16 +83,16 @@ module _ {Q : Problem} {script : List ℕ} {room : ℕ} {t₀ out₀ : List ℕ}
   same_test u = runs_same script (length out₀ / 3) room i _ _ (marked-passes g u (calls script out i) R.numbers R.marks)
 
   pub running_next : {r : Report} {t' out' g' : List ℕ} → runs script (length out₀ / 3) room i (marked g (count t)) ≡ true
-      → Step Q t (call_at script i) r t' → Stored out i r out' → g' ≡ noted (r.outcome) g
+      → Step Q t (call_at script i) r t' → Stored out i r out' → g' ≡ noted r.outcome g
       → Running Q script room t₀ out₀ (i + 1) g' t' out'
   running_next {r} {t'} {out'} {g'} test step put wrote = record {
     history = subst⁻¹ (λ (h : Calls). History Q h t') after (next R.history (call_at script i) r t'
-        (allowed (calls script out i) t (call_at script i) (r.outcome)
+        (allowed (calls script out i) t (call_at script i) r.outcome
         (sym (every-same (marked g (count t)) (passes (calls script out i) t) (operands (call_at script i).call) (marked-passes g t (calls script out i) R.numbers R.marks)) ∙ ok.pass)
         (operand_known Q t (call_at script i) r t' step)) step);
     marks = subst⁻¹ (λ (h : Calls). Marks g' (given h)) after (subst⁻¹ (λ (u : List ℕ). Marks u (given ((call_at script i, r) ∷ calls script out i))) wrote
-        (marks_give g (given (calls script out i)) (r.outcome) (λ a e. omega (arith, R.numbers, answer-below Q t (call_at script i) r t' step a e)) R.marks));
-    numbers = ap length wrote ∙ mark-long (r.outcome) ∙ R.numbers;
+        (marks_give g (given (calls script out i)) r.outcome (λ a e. omega (arith, R.numbers, answer-below Q t (call_at script i) r t' step a e)) R.marks));
+    numbers = ap length wrote ∙ mark-long r.outcome ∙ R.numbers;
     long = as_long Q t (call_at script i) r t' step ∙ R.long;
     wide = put.as_long ∙ R.wide;
     rest = rw (three) (put.behind ∙ sym (drop-drop 3 (3 * i) out) ∙ ap (drop 3) R.rest ∙ drop-drop 3 (3 * i) out₀);

@@ -44,12 +44,12 @@ serves_next Q l t c r t' (gives a) e M ih k b h = go (dec_lt k (count t + 2))
 
     go : Dec (k < count t + 2) → Serves (give (gives a) l) t' k
     go (yes o) = let s = ih k b o in (s.0, Memᴰ.tail s.1, old_below A s.2)
-    go (no o) = (A.number, Memᴰ.head (gives_one (r.outcome) A.number a A.outcome e), (new_exactly A k (omega arith)).0 h)
+    go (no o) = (A.number, Memᴰ.head (gives_one r.outcome A.number a A.outcome e), (new_exactly A k (omega arith)).0 h)
 
 serves : (Q : Problem) {h : Calls} {t : List ℕ} → History Q h t → (k : ℕ) → 2 ≤ k → k < count t + 2 → Serves (given h) t k
 serves Q (start zero) = λ k b h. absurd (omega arith)
 serves Q (start (suc n)) = λ k b h. absurd (omega arith)
-serves Q (next {h} {t} H c r t' o p) = serves_next Q (given h) t c r t' (r.outcome) refl p (serves Q H)
+serves Q (next {h} {t} H c r t' o p) = serves_next Q (given h) t c r t' r.outcome refl p (serves Q H)
 
 pub no_spare_node : NoSpareNode
 no_spare_node Q h t H k b = (

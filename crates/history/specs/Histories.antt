@@ -106,7 +106,7 @@ post Q c (gives a) ps = record { number = a; set = makes Q (latest ps) c.call } 
 -- the latest posting stands first; the first postings are 0 with none and 1 with only the empty one
 abbrev pub ledger : Problem → Calls → List Posting
 ledger Q [] = record { number = 0; set = no_timetable } ∷ record { number = 1; set = empty_timetable } ∷ []
-ledger Q (e ∷ h) = post Q e.0 (e.1.outcome) (ledger Q h)
+ledger Q (e ∷ h) = post Q e.0 e.1.outcome (ledger Q h)
 
 -- ---- the demand
 
@@ -117,7 +117,7 @@ count_in m (gives a) l = m ∷ l
 
 abbrev pub answered_with : Calls → List ℕ
 answered_with [] = []
-answered_with (e ∷ h) = count_in e.0.m (e.1.outcome) (answered_with h)
+answered_with (e ∷ h) = count_in e.0.m e.1.outcome (answered_with h)
 
 -- pick returns the timetable s: its packages are at the start of the page, and the rest of the page is unchanged
 abbrev pub Returns : List ℕ → List ℕ → Reply ℕ → List ℕ → Type 0

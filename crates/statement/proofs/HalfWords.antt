@@ -35,8 +35,7 @@ old_cheapest_refusal Q m C t a words page =
 -- the contract that went by it: `CheapestPost`, but for the list
 pub record OldCheapestPost (Q : Problem) (m : ℕ) (C t : List ℕ) (a words : ℕ) (page : List ℕ) (r : Reply (ℕ × ℕ)) (page' : List ℕ) : Type 0 where
   pub result :
-      r
-      ≡ reply (old_cheapest_refusal Q m C t a words page) (length (cheapest C (family_at t a)), cost C (cheapest C (family_at t a)))
+      r ≡ reply (old_cheapest_refusal Q m C t a words page) (length (cheapest C (family_at t a)), cost C (cheapest C (family_at t a)))
   pub pages : page' ≡ written (old_cheapest_refusal Q m C t a words page) (cheapest C (family_at t a)) page
 
 -- ---- the two lists

@@ -38,26 +38,26 @@ call_numbers (Join a b) = 4 ∷ 5 ∷ 35 ∷ 8 ∷ 10 ∷ []
 -- what the calls on the problem Q with m items can say: the numbers `front` of what is lent besides the table, and each call its own
 pub record Sayable (Q : Problem) (m : ℕ) (front : List ℕ) : Type 0 where
   -- the soundness check, also the kiosk's, whose contract is `CheckPost` of the words of its nodes
-  pub check : (t : List ℕ) (r : Reply (Unit {0})) → CheckPost Q m t r → says_only (front ++ (4 ∷ [])) (r) ≡ true
+  pub check : (t : List ℕ) (r : Reply (Unit {0})) → CheckPost Q m t r → says_only (front ++ (4 ∷ [])) r ≡ true
   -- cover; and all seven calls that make an answer, cover among them
   pub cover : (t : List ℕ) (d limit words : ℕ) (r : Report) (t' : List ℕ) → CoverPost Q m t d limit words r t'
-      → says_only (front ++ (4 ∷ 7 ∷ 8 ∷ 9 ∷ 10 ∷ [])) (r.outcome) ≡ true
+      → says_only (front ++ (4 ∷ 7 ∷ 8 ∷ 9 ∷ 10 ∷ [])) r.outcome ≡ true
   pub answer : (t : List ℕ) (c : Call) (words : ℕ) (r : Report) (t' : List ℕ) → AnswerPost Q m t c words r t'
-      → says_only (front ++ call_numbers c) (r.outcome) ≡ true
+      → says_only (front ++ call_numbers c) r.outcome ≡ true
   -- count, also the kiosk's
-  pub count : (t : List ℕ) (a words : ℕ) (r : Reply ℕ) → CountPost Q m t a words r → says_only (front ++ (4 ∷ 5 ∷ 8 ∷ 11 ∷ [])) (r) ≡ true
+  pub count : (t : List ℕ) (a words : ℕ) (r : Reply ℕ) → CountPost Q m t a words r → says_only (front ++ (4 ∷ 5 ∷ 8 ∷ 11 ∷ [])) r ≡ true
   pub measure : (t : List ℕ) (a k words : ℕ) (r : Reply ℕ) → MeasurePost Q m t a k words r
-      → says_only (front ++ (4 ∷ 5 ∷ 8 ∷ 11 ∷ 12 ∷ [])) (r) ≡ true
+      → says_only (front ++ (4 ∷ 5 ∷ 8 ∷ 11 ∷ 12 ∷ [])) r ≡ true
   pub pick : (t : List ℕ) (a k words : ℕ) (page : List ℕ) (r : Reply ℕ) (page' : List ℕ) → PickPost Q m t a k words page r page'
-      → says_only (front ++ (4 ∷ 5 ∷ 8 ∷ 11 ∷ 12 ∷ 15 ∷ [])) (r) ≡ true
+      → says_only (front ++ (4 ∷ 5 ∷ 8 ∷ 11 ∷ 12 ∷ 15 ∷ [])) r ≡ true
   pub place : (t : List ℕ) (a : ℕ) (s : List ℕ) (words : ℕ) (r : Reply ℕ) → PlacePost Q m t a s words r
-      → says_only (front ++ (4 ∷ 5 ∷ 6 ∷ 8 ∷ 11 ∷ 14 ∷ [])) (r) ≡ true
+      → says_only (front ++ (4 ∷ 5 ∷ 6 ∷ 8 ∷ 11 ∷ 14 ∷ [])) r ≡ true
   pub cheapest : (C t : List ℕ) (a words : ℕ) (page : List ℕ) (r : Reply (ℕ × ℕ)) (page' : List ℕ) → CheapestPost Q m C t a words page r page'
-      → says_only (front ++ (3 ∷ 4 ∷ 5 ∷ 8 ∷ 13 ∷ 15 ∷ [])) (r) ≡ true
+      → says_only (front ++ (3 ∷ 4 ∷ 5 ∷ 8 ∷ 13 ∷ 15 ∷ [])) r ≡ true
   pub closest : (t : List ℕ) (a : ℕ) (s : List ℕ) (words : ℕ) (page : List ℕ) (r : Reply (ℕ × ℕ)) (page' : List ℕ) → ClosestPost Q m t a s words page r page'
-      → says_only (front ++ (4 ∷ 5 ∷ 6 ∷ 8 ∷ 13 ∷ 15 ∷ [])) (r) ≡ true
+      → says_only (front ++ (4 ∷ 5 ∷ 6 ∷ 8 ∷ 13 ∷ 15 ∷ [])) r ≡ true
   pub withdraw : (t gone answers : List ℕ) (words : ℕ) (r : Reply ℕ) (t' answers' : List ℕ) → WithdrawPost Q m t gone answers words r t' answers'
-      → says_only (front ++ (4 ∷ 5 ∷ 36 ∷ 8 ∷ [])) (r) ≡ true
+      → says_only (front ++ (4 ∷ 5 ∷ 36 ∷ 8 ∷ [])) r ≡ true
 
 -- ---- from tests to replies
 
@@ -106,7 +106,7 @@ refusal-said (suc n) ns e f g = ap (says_only ns) (f (omega arith)) ∙ e
 
 -- of one that makes an answer
 made-said : {K : List ℕ} {n : ℕ} {F : Family} {s : ℕ} {t t' : List ℕ} {r : Report} (ns : List ℕ) → says_only {A = ℕ} ns (reply n 0) ≡ true → Makes K n F s t r t'
-    → says_only ns (r.outcome) ≡ true
+    → says_only ns r.outcome ≡ true
 made-said {n = n} ns e p = refusal-said n ns e (λ l. (p.declined l).outcome) (λ z. (_, (p.answered z).outcome))
 
 -- a number that is not the refusal's need not be among them
@@ -167,9 +167,9 @@ all_sayable Q m = sayable Q m _ (λ A ns ts v e.
 
 -- a withdrawal is never refused with 10, 'full' [document 02, No. 8]
 pub never_full : (Q : Problem) (m : ℕ) (t gone answers : List ℕ) (words : ℕ) (r : Reply ℕ) (t' answers' : List ℕ) → WithdrawPost Q m t gone answers words r t' answers'
-    → says (10 ∷ []) (r) ≡ false
+    → says (10 ∷ []) r ≡ false
 unfolding any
-never_full Q m t gone answers words r t' answers' p = never_said (10 ∷ []) _ (r) refl ((all_sayable Q m).withdraw t gone answers words r t' answers' p)
+never_full Q m t gone answers words r t' answers' p = never_said (10 ∷ []) _ r refl ((all_sayable Q m).withdraw t gone answers words r t' answers' p)
 
 module _ {Q : Problem} {m : ℕ} (f : Fit Q m) where
   -- where packages, optional set and order pass

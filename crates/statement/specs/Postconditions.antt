@@ -110,16 +110,14 @@ pub record PlacePost (Q : Problem) (m : ℕ) (t : List ℕ) (a : ℕ) (s : List 
 -- cheapest: of the timetables of the answer a with the least cost the first listed, written to the page; how many packages it has, and its cost
 pub record CheapestPost (Q : Problem) (m : ℕ) (C t : List ℕ) (a words : ℕ) (page : List ℕ) (r : Reply (ℕ × ℕ)) (page' : List ℕ) : Type 0 where
   pub result :
-      r
-      ≡ reply (cheapest_refusal Q m C t a words page) (length (cheapest C (family_at t a)), cost C (cheapest C (family_at t a)))
+      r ≡ reply (cheapest_refusal Q m C t a words page) (length (cheapest C (family_at t a)), cost C (cheapest C (family_at t a)))
   pub pages : page' ≡ written (cheapest_refusal Q m C t a words page) (cheapest C (family_at t a)) page
 
 -- closest: of the timetables of the answer a that differ from s in the fewest packages the first listed, written to the page; how many packages it has, and
 -- the difference
 pub record ClosestPost (Q : Problem) (m : ℕ) (t : List ℕ) (a : ℕ) (s : List ℕ) (words : ℕ) (page : List ℕ) (r : Reply (ℕ × ℕ)) (page' : List ℕ) : Type 0 where
   pub result :
-      r
-      ≡ reply (closest_refusal Q m t a s words page) (length (closest s (family_at t a)), difference s (closest s (family_at t a)))
+      r ≡ reply (closest_refusal Q m t a s words page) (length (closest s (family_at t a)), difference s (closest s (family_at t a)))
   pub pages : page' ≡ written (closest_refusal Q m t a s words page) (closest s (family_at t a)) page
 
 -- ---- the withdrawal. gone lists the withdrawn packages; answers and answers' are the lent list of answers before and after [document 02, No. 8]
