@@ -415,7 +415,7 @@ fn answer_pair(
     }
     let n = t[0];
     let last = exact_cover::number(packages);
-    let k = family::combination(t, &keys[..last], &mut index, work, op, a, b);
+    let k = family::apply(t, &keys[..last], &mut index, work, op, a, b);
     report(t, n, k)
 }
 

@@ -31,6 +31,13 @@ Soon b K p ns f None = (2 ≤ f) × ((get_or ns (f - 2) blank).label ≡ p → b
 
 -- ---- union, intersection, difference, join
 
+-- the operation of a number
+abbrev pub operation_of : ℕ → Operation
+operation_of zero = Union
+operation_of (suc zero) = Intersection
+operation_of (suc (suc zero)) = Difference
+operation_of (suc (suc (suc n))) = Join
+
 abbrev pub combined : Operation → List ℕ → Family → Family → Family
 combined Union K F G = union K F G
 combined Intersection K F G = inter K F G

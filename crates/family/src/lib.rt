@@ -5,7 +5,7 @@ ghost use Rattle.std.specs.Prelude.{IfSome, ◌≡◌, ℕ, suc, ◌+◌, ◌-�
 ghost use Rattle.zdd.specs.Table.{node, blank, count, nodes_of, family, Sound, Keys};
 ghost use Rattle.table.specs.State.{Indexed};
 ghost use Rattle.family.specs.Gives.{Operable, Yields, Returned, Noded};
-ghost use Rattle.family.specs.Memo.{odd, restricted, Kept, Soon, lesser_first, combined, Combinable, beside_of, Ends, Two, Top, Cut};
+ghost use Rattle.family.specs.Memo.{odd, restricted, Kept, Soon, lesser_first, operation_of, combined, Combinable, beside_of, Ends, Two, Top, Cut};
 ghost use Rattle.family.specs.Memo.{mixed, Packed, place_of, chosen, entry_at, replaced, Recalled, Remembered, Noted};
 
 // What two numbers are combined by.
@@ -439,7 +439,7 @@ fn remembering(
 }
 
 // The number of f's and g's combination. Where there is no room it is None, and the table is as before.
-pub fn combination(
+pub fn apply(
     t: &mut [u32],
     keys: &[u32],
     index: &mut [u16; 131072],
@@ -460,4 +460,35 @@ pub fn combination(
         return None;
     };
     Some(r)
+}
+
+// The operation of a number: 0, 1 and 2 are union, intersection and difference, all others join.
+fn operation_of(op: u8) -> Operation
+    ensures { result ≡ operation_of op }
+{
+    match op {
+        0 => Operation::Union,
+        1 => Operation::Intersection,
+        2 => Operation::Difference,
+        _ => Operation::Join,
+    }
+}
+
+// The same as `apply`, for callers that have the operation's number.
+pub fn combination(
+    t: &mut [u32],
+    keys: &[u32],
+    index: &mut [u16; 131072],
+    work: &mut [u64],
+    op: u8,
+    f: u32,
+    g: u32,
+) -> Option<u32>
+    requires operable { Operable keys.now t.old index.old }
+    requires f_bound { (f < count t.old + 2) × (g < count t.old + 2) }
+    requires combinable { Combinable (operation_of op) (nodes_of t.old) f g }
+    ensures { Returned keys.now t.old t.new index.new result
+        (combined (operation_of op) keys.now (family (nodes_of t.old) f) (family (nodes_of t.old) g)) }
+{
+    apply(t, keys, index, work, operation_of(op), f, g)
 }

@@ -17,14 +17,14 @@ returns-in-Err-admit_pair c = pair-makes (c.admit.ensures.fit (none_said c.in_de
     (refused-makes _ (pair-refused _ _ _ _ _ _ (c.admit_pair.ensures _ _) _ (some_said c.in-Err-admit_pair.is)) (some_said c.in-Err-admit_pair.is)
     (rw (said c.in-Err-admit_pair.is) (c.declined-in-Err-admit_pair.ensures _)))
 
-pub combination-k-requires-clause-f_bound : goal.combination-k-requires-clause-f_bound
-combination-k-requires-clause-f_bound c = (c.admit_pair.ensures 0 []).known (none_said c.in_default-admit_pair.is)
+pub apply-k-requires-clause-f_bound : goal.apply-k-requires-clause-f_bound
+apply-k-requires-clause-f_bound c = (c.admit_pair.ensures 0 []).known (none_said c.in_default-admit_pair.is)
 
-pub combination-k-requires-clause-combinable : goal.combination-k-requires-clause-combinable
-combination-k-requires-clause-combinable c = let u = c.admit.ensures.usable (none_said c.in_default.is) in let p = c.admit_pair.ensures _ _ in (combinable u p (none_said c.in_default-admit_pair.is))
+pub apply-k-requires-clause-combinable : goal.apply-k-requires-clause-combinable
+apply-k-requires-clause-combinable c = let u = c.admit.ensures.usable (none_said c.in_default.is) in let p = c.admit_pair.ensures _ _ in (combinable u p (none_said c.in_default-admit_pair.is))
 
 pub returns : goal.returns
 returns c = let u = c.admit.ensures.usable (none_said c.in_default.is) in
     pair-makes (c.admit.ensures.fit (none_said c.in_default.is)) u _ _ _ c.args.op
-    (reported_makes _ _ _ _ _ _ _ (rw u.keyed.are at (rw c.number-last.ensures at c.combination-k.ensures)) c.report.ensures
+    (reported_makes _ _ _ _ _ _ _ (rw u.keyed.are at (rw c.number-last.ensures at c.apply-k.ensures)) c.report.ensures
     (pair_passed _ _ _ _ _ _ (c.admit_pair.ensures _ _) _ (none_said c.in_default-admit_pair.is)))

@@ -1,6 +1,6 @@
 use mathlib.Core.Path.{refl}
 use Rattle.family.proofs.GivesLaws.{produced_done, produced_full}
-use Rattle.family.proofs.combination.Goals as goal
+use Rattle.family.proofs.apply.Goals as goal
 
 pub returns-in_default : goal.returns-in_default
 returns-in_default c = produced_full c.in_default.ensures c.requires.operable.sound refl c.rollback.ensures
