@@ -123,11 +123,11 @@ module _ (us : List School) {s : ℕ} (t : ℕ) (p : Package) {j : ℕ} (count :
   among_all : j ≡ school_in us (length us) p.school
   among_all = rw count at sought
 
-  unlisted : s ≤ j → strayb us t p ≡ true
+  pub unlisted : s ≤ j → strayb us t p ≡ true
   unfolding strayb
   unlisted h = rw (le-ltb (school_in us (length us) p.school) (length us) (omega (arith, among_all)))
 
-  outside : {r : Bool} → j < s → r ≡ belowb p.slots t → strayb us t p ≡ not r
+  pub outside : {r : Bool} → j < s → r ≡ belowb p.slots t → strayb us t p ≡ not r
   unfolding strayb
   outside h e = rw (lt-ltb (school_in us (length us) p.school) (length us) (omega (arith, among_all)), ← e)
 

@@ -129,7 +129,7 @@ module _ {b : List ℕ} {h : Header} (p : HeaderPost b h) where
 module _ (L : Layout) (b : List ℕ) where
   -- the stored check is y, that of the bytes x
   module _ {x y n : ℕ} (e : n ≡ length b - 4) (f : x ≡ fnv (take n b)) (g : y ≡ number_at b n 4) where
-    check-of : wrong_check b ≡ not (eqb x y)
+    pub check-of : wrong_check b ≡ not (eqb x y)
     unfolding wrong_check
     check-of = rw (f, g, e)
 

@@ -140,7 +140,7 @@ module _ {Q : Problem} (good : Rows Q) (A : ℕ) (small : A < 2 ^ span Q) {inver
     enters : (search (permuted Q) h (positions Q.order A) (first_walk c)).entered ≡ steps Q P A
     enters = steps-permuted Q good P pos h (home_is Q good inverse v P) A small
 
-    sought : Sought Q P A limit t t' index' a n full over
+    pub sought : Sought Q P A limit t t' index' a n full over
     sought = record {
       grown = subst (λ (K : List ℕ). Grown K t t') (keys-permuted Q good) d.grown;
       indexed = d.indexed;

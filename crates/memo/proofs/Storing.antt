@@ -19,27 +19,27 @@ use Rattle.memo.specs.Memo.{high_at, key_at, number_at, Stored, Cleared}
 
 -- ---- reading
 
-high_none : (P : ℕ) (memo : List ℕ) (j : ℕ) → get_or memo (2 * j + 1) 0 < 4294967296 → high_at P memo j ≡ 0
+pub high_none : (P : ℕ) (memo : List ℕ) (j : ℕ) → get_or memo (2 * j + 1) 0 < 4294967296 → high_at P memo j ≡ 0
 unfolding high_at
 high_none P memo j h =
     ap (λ (b : Bool). elim b [ true ↦ 0 | false ↦ value_of (take 2 (drop (2 * P + 2 * j) memo)) ]) (lt-ltb (get_or memo (2 * j + 1) 0) 4294967296 h)
 
-high_some : (P : ℕ) (memo : List ℕ) (j : ℕ) → 4294967296 ≤ get_or memo (2 * j + 1) 0
+pub high_some : (P : ℕ) (memo : List ℕ) (j : ℕ) → 4294967296 ≤ get_or memo (2 * j + 1) 0
     → high_at P memo j ≡ value_of (take 2 (drop (2 * P + 2 * j) memo))
 unfolding high_at
 high_some P memo j h =
     ap (λ (b : Bool). elim b [ true ↦ 0 | false ↦ value_of (take 2 (drop (2 * P + 2 * j) memo)) ]) (le-ltb (get_or memo (2 * j + 1) 0) 4294967296 h)
 
 -- the key of a place whose words are known
-key_is : (P : ℕ) (memo : List ℕ) (j w : ℕ) (ws : List ℕ) → get_or memo (2 * j) 0 ≡ w → high_at P memo j ≡ value_of ws → key_at P memo j ≡ value_of (w ∷ ws)
+pub key_is : (P : ℕ) (memo : List ℕ) (j w : ℕ) (ws : List ℕ) → get_or memo (2 * j) 0 ≡ w → high_at P memo j ≡ value_of ws → key_at P memo j ≡ value_of (w ∷ ws)
 unfolding key_at
 key_is P memo j w ws e h = ap₂ (λ (m n : ℕ). m * 2 ^ 64 + n) h e ∙ sym (value-cons w ws)
 
-two_words : (ws : List ℕ) (a : ℕ) → words_from 2 a ws ≡ get_or ws a 0 ∷ get_or ws (a + 1) 0 ∷ []
+pub two_words : (ws : List ℕ) (a : ℕ) → words_from 2 a ws ≡ get_or ws a 0 ∷ get_or ws (a + 1) 0 ∷ []
 unfolding words_from
 two_words ws a = ap (λ (i : ℕ). get_or ws a 0 ∷ get_or ws i 0 ∷ []) (sym (add-one a))
 
-zero_two : value_of (0 ∷ 0 ∷ []) ≡ 0
+pub zero_two : value_of (0 ∷ 0 ∷ []) ≡ 0
 unfolding value_of
 zero_two = refl
 

@@ -256,7 +256,7 @@ module _ {t : List ℕ} (R : Readable t) {a node n : ℕ} (W : Way t a node n) (
   inside : 1 < node
   inside = omega (arith, W.holds, on)
 
-  mark : Parts t node
+  pub mark : Parts t node
   mark = parts R node inside (omega (arith, W.short, W.known))
 
   pub way_hi_falls : (h : ℕ) → h ≡ hi_of t node → h < node

@@ -75,7 +75,7 @@ pub appended_by : {t t' index' : List ℕ} {x : Node} {r : ℕ} → Appends t t'
 appended_by {t} {t'} {index'} {x} {r} d room = subst⁻¹ (λ (ws : List ℕ). Appended t x ws) d.words (appended_stores x room)
 
 -- the index of the longer table
-indexed_more : {t t' index : List ℕ} {x : Node} (h m : ℕ) → Appended t x t' → Indexed t index
+pub indexed_more : {t t' index : List ℕ} {x : Node} (h m : ℕ) → Appended t x t' → Indexed t index
     → count t < 65534 → 3 * count t + 3 < length t → h < 65536 → h ≡ hash_of x → m ≡ count t + 2
     → Indexed t' (inserted 65536 h m index)
 indexed_more {t} {t'} {index} {x} h m p d few fit lt q e =
