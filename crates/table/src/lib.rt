@@ -113,6 +113,8 @@ fn zeros(words: &[u32]) -> bool
 }
 
 // Whether the words are a sound table over the keys; if so, the index has its nodes. It comes with zeros only.
+// (Every call begins with it. In a function of its own the loop has its registers, which it lacks inside a caller's.)
+#[inline(never)]
 pub fn check(t: &[u32], keys: &[u32], index: &mut [u16; 131072]) -> bool
     requires { Fresh index.old }
     ensures { Checked keys.now t.now index.new result }
