@@ -118,6 +118,21 @@ unfolding disordered
 not_as_long m order f = ap (λ (b : Bool). not (b && each_once m order)) (ne_eqb (length order) m f)
 
 module _ {m : ℕ} {order : List ℕ} {j : ℕ} {marks : List ℕ} (a : Marked m order j marks) where
+  -- the first m items are all
+  all_taken : take m order ≡ order
+  all_taken = take_all m order (omega (arith, a.same))
+
+  -- as long as those that are gone through
+  pub is-inside : j < length (take m order) → j < m
+  is-inside h = omega (arith, a.same, ap length all_taken, h)
+
+  pub is-past : length (take m order) ≤ j → m ≤ j
+  is-past h = omega (arith, a.same, ap length all_taken, h)
+
+  -- and the same
+  pub item_here : get_or (take m order) j 0 ≡ get_or order j 0
+  item_here = ap (λ (l : List ℕ). get_or l j 0) all_taken
+
   not-once : (each_once (length order) order ≡ true → ⊥) → disordered m order ≡ true
   unfolding disordered
   not-once f =

@@ -80,7 +80,7 @@ fn orderly(m: u32, order: &[u8]) -> bool
         return false;
     }
     let mut marks = [0u8; 192];
-    for &item in order {
+    for &item in &order[..n] {
         let i = item as usize;
         if i >= n {
             return false;
