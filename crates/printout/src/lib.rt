@@ -13,7 +13,7 @@ ghost use Rattle.printout.specs.Program.{timetable_lines, last_line, sheet, answ
 use itemset::Items;
 use statement::{Priced, Refusal};
 
-// Text at the start of a lent buffer, in its first `len` bytes. A part that no longer fits is left out.
+// Text at the start of a lent buffer, in its first `len` bytes. What no longer fits is left out.
 #[derive(Drop)]
 struct Writer<'a> {
     buffer: &'a mut [u8],
@@ -24,11 +24,13 @@ impl<'a> Writer<'a> {
     fn put(&mut self, part: &[u8])
         ensures { Adds self.old self.new part.now }
     {
-        let end = self.len.saturating_add(part.len());
-        if end > self.buffer.len() {
+        let room = self.buffer.len().saturating_sub(self.len);
+        if room == 0 {
             return;
         }
-        self.buffer[self.len..end].copy_from_slice(part);
+        let n = part.len().min(room);
+        let end = self.len + n;
+        self.buffer[self.len..end].copy_from_slice(&part[..n]);
         self.len = end;
     }
 
