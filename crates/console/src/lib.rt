@@ -1,11 +1,11 @@
 // The programs' input and output: from a reader to a writer. A read or a write that fails ends the program with its error.
 #![tactic(auto)]
 
-ghost use Rattle.std.specs.Prelude.{◌≡◌, ◌≤◌, ℕ, List, length, take, IfOk, IfSome, OnOk};
+ghost use Rattle.std.specs.Prelude.{◌≡◌, ◌⊎◌, ◌≤◌, length, take, IfOk, IfSome, OnOk};
 ghost use Rattle.std.specs.Io.KnownBytes.{Appends};
-ghost use Rattle.printout.specs.Program.{printed, WrittenFor};
+ghost use Rattle.printout.specs.Program.{printed, PrintedFor};
 ghost use Rattle.printout.specs.Written.{Whole};
-ghost use Rattle.console.specs.Turned.{turned};
+ghost use Rattle.console.specs.Turned.{turned, TurnedFor};
 
 use std::io;
 
@@ -25,7 +25,8 @@ pub fn read_full<R: io::Read>(file: &mut R, buffer: &mut [u8]) -> io::Result<usi
     Ok(done)
 }
 
-// Writes the first k bytes of the text: all that `made` gives for any file of which the buffer holds the first n bytes. (The buffer is for the contract alone.)
+// Writes the first k bytes of the text: all that is printed for any file of which the buffer holds the first n bytes, or what any such file turns into. (The buffer
+// is for the contract alone.)
 fn write<W: io::Write>(
     out: &mut W,
     buffer: &[u8],
@@ -33,9 +34,8 @@ fn write<W: io::Write>(
     text: &[u8],
     k: usize,
 ) -> io::Result<()>
-    ghost made: { List ℕ → List ℕ }
     requires k_in_bounds { k ≤ length text.now }
-    requires written_for { WrittenFor made buffer.now n (take k text.now) }
+    requires written_for { PrintedFor buffer.now n (take k text.now) ⊎ TurnedFor buffer.now n (take k text.now) }
     ensures { OnOk result (Appends (W.contents out.old) (W.contents out.new) (take k text.now)) }
 {
     out.write_all(&text[..k])
