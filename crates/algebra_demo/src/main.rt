@@ -113,12 +113,30 @@ struct Tried {
     sum: u64,
 }
 
+// The call by its own name.
+fn call(w: Week, t: &mut [u32], c: Call, work: &mut [u64]) -> Report {
+    let Week {
+        m,
+        packages,
+        order,
+        ..
+    } = w;
+    match c {
+        Call::Either { a, b } => engine::either(m, packages, NO_ITEMS, order, t, a, b, work),
+        Call::Both { a, b } => engine::both(m, packages, NO_ITEMS, order, t, a, b, work),
+        Call::Only { a, b } => engine::only(m, packages, NO_ITEMS, order, t, a, b, work),
+        Call::With { a, p } => engine::with(m, packages, NO_ITEMS, order, t, a, p, work),
+        Call::Without { a, p } => engine::without(m, packages, NO_ITEMS, order, t, a, p, work),
+        _ => engine::answer(m, packages, NO_ITEMS, order, t, c, work),
+    }
+}
+
 // The call with so many working words. Each says beforehand that 401 and 602 make 1, which is not to be believed. A call that made nothing has changed nothing.
 fn attempt(rt: &impl Print, w: Week, t: &mut [u32], c: Call, words: usize) -> io::Result<Tried> {
     let mut work = [1722321338369u64; 70000];
     let before = checksum(t);
     let lent = words.min(70000);
-    let r = engine::answer(w.m, w.packages, NO_ITEMS, w.order, t, c, &mut work[..lent]);
+    let r = call(w, t, c, &mut work[..lent]);
     let answer = ended(rt, r)?;
     let made = r.made;
     let sum = checksum(t);

@@ -141,7 +141,15 @@ fn week() -> Week {
 fn part(rt: &impl Print, lent: Lent, t: &mut Table, name: &str, c: Call) -> io::Result<()> {
     let Week { m, optional, .. } = lent.week;
     let mut work = [0; 2];
-    let r = engine::answer(m, lent.packages, optional, lent.order, t, c, &mut work);
+    let r = match c {
+        Call::With { a, p } => {
+            engine::with(m, lent.packages, optional, lent.order, t, a, p, &mut work)
+        }
+        Call::Without { a, p } => {
+            engine::without(m, lent.packages, optional, lent.order, t, a, p, &mut work)
+        }
+        _ => engine::answer(m, lent.packages, optional, lent.order, t, c, &mut work),
+    };
     print!(rt; "{name}:")?;
     lent.print_report(rt, t, r)?;
     println!(rt)
