@@ -23,7 +23,7 @@ use Rattle.family.proofs.RestrictLaws.{two_more, word-node, word-label}
 
 -- ---- the number beside a label that it lacks
 
-beside-join : (op : Operation) (k : ℕ) → op ≡ Join → beside_of op k ≡ k
+pub beside-join : (op : Operation) (k : ℕ) → op ≡ Join → beside_of op k ≡ k
 beside-join op k h = ap (λ (o : Operation). beside_of o k) h
 
 beside_most : (op : Operation) (k : ℕ) → beside_of op k ≤ k
