@@ -1,7 +1,7 @@
 // The programs' input and output: from a reader to a writer. A read or a write that fails ends the program with its error.
 #![tactic(auto)]
 
-ghost use Rattle.std.specs.Prelude.{◌≡◌, ◌⊎◌, ◌≤◌, length, take, IfOk, IfSome, OnOk};
+ghost use Rattle.std.specs.Prelude.{◌≡◌, true, false, ◌≤◌, length, take, IfOk, IfSome, OnOk};
 ghost use Rattle.std.specs.Io.KnownBytes.{Appends};
 ghost use Rattle.printout.specs.Program.{printed, PrintedFor};
 ghost use Rattle.printout.specs.Written.{Whole};
@@ -25,17 +25,19 @@ pub fn read_full<R: io::Read>(file: &mut R, buffer: &mut [u8]) -> io::Result<usi
     Ok(done)
 }
 
-// Writes the first k bytes of the text: all that is printed for any file of which the buffer holds the first n bytes, or what any such file turns into. (The buffer
-// is for the contract alone.)
+// Writes the first k bytes of the text: all that is printed for any file of which the buffer holds the first n bytes, or, where it turns, what any such file turns
+// into. (The buffer, n and `turns` are for the contract alone.)
 fn write<W: io::Write>(
     out: &mut W,
     buffer: &[u8],
     n: usize,
     text: &[u8],
     k: usize,
+    turns: bool,
 ) -> io::Result<()>
     requires k_in_bounds { k ≤ length text.now }
-    requires written_for { PrintedFor buffer.now n (take k text.now) ⊎ TurnedFor buffer.now n (take k text.now) }
+    requires printed_for { turns ≡ false → PrintedFor buffer.now n (take k text.now) }
+    requires turned_for { turns ≡ true → TurnedFor buffer.now n (take k text.now) }
     ensures { OnOk result (Appends (W.contents out.old) (W.contents out.new) (take k text.now)) }
 {
     out.write_all(&text[..k])
@@ -50,7 +52,7 @@ pub fn answer<R: io::Read, W: io::Write>(input: &mut R, out: &mut W) -> io::Resu
     let n = read_full(input, &mut file)?;
     let mut text = [0u8; 16384];
     let k = printout::lines(&file[..n], &mut text);
-    write(out, &file, n, &text, k)
+    write(out, &file, n, &text, k, false)
 }
 
 // The file in the other version, or the line of the refusal, at the start of the buffer; its length.
@@ -73,5 +75,5 @@ pub fn convert<R: io::Read, W: io::Write>(input: &mut R, out: &mut W) -> io::Res
     let n = read_full(input, &mut file)?;
     let mut text = [0u8; 16384];
     let k = turn(&file[..n], &mut text);
-    write(out, &file, n, &text, k)
+    write(out, &file, n, &text, k, true)
 }

@@ -1,11 +1,10 @@
 use Rattle.std.proofs.Common.{arith}
-use mathlib.Core.Logic.{inr}
 use Rattle.console.proofs.Through.{through}
 use Rattle.console.proofs.Turning.{turned_for}
 use Rattle.console.proofs.convert.Goals as goal
 
-pub write-requires-clause-written_for : goal.write-requires-clause-written_for
-write-requires-clause-written_for g c = inr (turned_for c.read_full.new.buffer c.in_ok-n.n (omega arith) c.turn-k.ensures)
+pub write-requires-clause-turned_for : goal.write-requires-clause-turned_for
+write-requires-clause-turned_for g c = λ e. turned_for c.read_full.new.buffer c.in_ok-n.n (omega arith) c.turn-k.ensures
 
 pub returns : goal.returns
 returns g c =
