@@ -80,6 +80,7 @@ fn orderly(m: u32, order: &[u8]) -> bool
         return false;
     }
     let mut marks = [0u8; 192];
+    // The first n are all. (Over a longer list the loop would refuse too, and the test of the length above would stand for nothing.)
     for &item in &order[..n] {
         let i = item as usize;
         if i >= n {
